@@ -1,0 +1,9 @@
+pub mod TestLaws
+pub mod Walks
+pub mod Runs
+pub mod LongRests
+pub mod WordLaws
+pub mod DayLaws
+pub mod RestWeeks
+pub mod ByWord
+pub mod Worked

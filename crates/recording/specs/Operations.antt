@@ -1,0 +1,48 @@
+-- Document 01, "Operations": weighing, and listing long rests.
+-- Assumes nothing.
+use mathlib.Core.Bool.{Bool}
+use mathlib.Core.List.{List, [], _∷_}
+use Prim.Native.Nat.{ℕ, zero, suc, _+_}
+use lib.Dec.{ltb, eqb}
+use lib.ListN.{length}
+use Rattle.recording.specs.Tests.{pick}
+use Rattle.recording.specs.Answers.{Answer, refused, answered, andThen, refuseIf}
+use Rattle.recording.specs.Words.{minutesIn, minutesOf}
+use Rattle.recording.specs.Rests.{judgedEnd, longRests}
+use Rattle.recording.specs.declared.Span.{Span}
+
+-- "The total N is 0 to 120,960."
+abbrev pub totalAtMost : ℕ
+totalAtMost = 120960
+
+-- "1, its minutes are 0; else 2, the total passes 120,960": the fault of a word after so many minutes, or 0
+unfoldable pub faultOf : ℕ → ℕ → ℕ
+faultOf total w = pick (eqb (minutesIn w) 0) 1 (pick (ltb totalAtMost (total + minutesIn w)) 2 0)
+
+abbrev pub unlessFault : {A : Type 0} → ℕ → Answer A → Answer A
+unlessFault zero later = later
+unlessFault (suc n) later = refused (suc n)
+
+-- "Words are taken in order and the first word at fault decides"
+unfoldable pub totalFrom : ℕ → List ℕ → Answer ℕ
+totalFrom total [] = answered total
+totalFrom total (w ∷ ws) = unlessFault (faultOf total w) (totalFrom (total + minutesIn w) ws)
+
+-- "Weighing gives N, S and k."
+pub record Measure : Type 0 where
+  pub total : ℕ
+  pub judged : ℕ
+  pub count : ℕ
+
+abbrev pub measureOf : List ℕ → Measure
+measureOf ms = record { total = length ms; judged = judgedEnd ms; count = length (longRests ms) }
+
+unfoldable pub measured : List ℕ → Answer Measure
+measured words = andThen (totalFrom 0 words) (λ _. answered (measureOf (minutesOf words)))
+
+-- "Listing long rests: 1 and 2 as above; then 3, the list has fewer than k records. A lent list takes one record a long rest, its start and its
+-- end; later records stay. The answer is k." `counted` and `filled` of it are the result and the list of `room` records.
+unfoldable pub listed : List ℕ → ℕ → Answer (List Span)
+listed words room =
+    andThen (measured words) (λ m.
+    refuseIf (ltb room (m .count)) 3 (answered (longRests (minutesOf words))))

@@ -1,0 +1,141 @@
+-- Lawful readings and the breach minute: no stretch has a lawful reading once a shorter one has none, so a minute without, after one with, is
+-- the only such and the least. Assumes nothing.
+use mathlib.Core.Path.{_≡_, refl, sym, ap, _∙_}
+use mathlib.Core.Logic.{_⊎_, inl, inr}
+use mathlib.Core.Bool.{Bool, true, false}
+use mathlib.Core.List.{List, [], _∷_}
+use mathlib.Core.Option.{Option, none, some}
+use Prim.Native.Nat.{ℕ, zero, suc, _+_, _≤_, _<_, zero-le}
+use native.Mathlib.Nat.{le-refl, eq-or-lt-of-le}
+use native.Mathlib.Omega.{arith}
+use lib.ListN.{length, take}
+use lib.Seq.{take-take, take-length}
+use Rattle.recording.specs.Tests.{pick}
+use Rattle.recording.specs.Rests.{longRests}
+use Rattle.rules.specs.Reading.{readingSize, restricted}
+use Rattle.rules.specs.Order.{Bytes, NotAfter, first}
+use Rattle.rules.specs.Verdict.{lawful, firstLawful, isNone, prefix, leastFrom, breachMinute, article, Verdict, pass, breach, verdict}
+use Rattle.rules.proofs.FirstLaws.{IsFirst, law-at, first-is, bytes-length}
+use Rattle.rules.proofs.Prefix.{lawful-prefix, restricted-bytes}
+use Rattle.recording.proofs.TestLaws.{clash, less-or-not}
+
+-- a lawful reading of a recording, of its size
+pub record Lawful (ms reading : List ℕ) : Type 0 where
+  pub bytes : Bytes (readingSize ms) reading
+  pub keeps : lawful ms reading ≡ true
+
+abbrev pub HasLawful : List ℕ → Type 0
+HasLawful ms = (reading : List ℕ) × Lawful ms reading
+
+-- ---- the first lawful reading is sound, complete and least, and whatever is so is it
+pub first-sound : (ms : List ℕ) {r : List ℕ} → firstLawful ms ≡ some r → Lawful ms r
+unfolding firstLawful
+first-sound ms e = let f = law-at _ (lawful ms) e in record { bytes = f .0; keeps = f .1 }
+
+pub first-least : (ms : List ℕ) {r : List ℕ} → firstLawful ms ≡ some r → {s : List ℕ} → Lawful ms s → NotAfter r s
+unfolding firstLawful
+first-least ms e {s} l = let f = law-at _ (lawful ms) e in f .2 s (l .bytes) (l .keeps)
+
+pub first-none : (ms : List ℕ) → firstLawful ms ≡ none → HasLawful ms → ⊥
+unfolding firstLawful
+first-none ms e (s, l) = law-at _ (lawful ms) e s (l .bytes) (l .keeps)
+
+pub is-first : (ms : List ℕ) {r : List ℕ} → Lawful ms r → ((s : List ℕ) → Lawful ms s → NotAfter r s) → firstLawful ms ≡ some r
+unfolding firstLawful
+is-first ms {r} l h = first-is _ (lawful ms) (some r) (l .bytes, l .keeps, λ s b t. h s (record { bytes = b; keeps = t }))
+
+pub is-none : (ms : List ℕ) → (HasLawful ms → ⊥) → firstLawful ms ≡ none
+unfolding firstLawful
+is-none ms h = first-is _ (lawful ms) none (λ s b t. h (s, record { bytes = b; keeps = t }))
+
+pub some-first : (ms : List ℕ) → HasLawful ms → isNone (firstLawful ms) ≡ false
+some-first ms h = at (firstLawful ms) refl
+  where
+    at : (o : Option (List ℕ)) → firstLawful ms ≡ o → isNone o ≡ false
+    at none e = absurd (first-none ms e h)
+    at (some r) e = refl
+
+has-first : (ms : List ℕ) → isNone (firstLawful ms) ≡ false → HasLawful ms
+has-first ms f = at (firstLawful ms) refl f
+  where
+    at : (o : Option (List ℕ)) → firstLawful ms ≡ o → isNone o ≡ false → HasLawful ms
+    at none e g = clash true refl g
+    at (some r) e g = (r, first-sound ms e)
+
+-- ---- stretches
+pub prefix-lawful : (m : ℕ) (ms : List ℕ) → HasLawful ms → HasLawful (prefix m ms)
+prefix-lawful m ms (r, l) =
+    (restricted (length (longRests (prefix m ms))) r, record { bytes = restricted-bytes (prefix m ms) r (readingSize ms) (l .bytes); keeps = lawful-prefix m ms r (l .keeps) })
+
+pub shorter-lawful : (ms : List ℕ) (m n : ℕ) → m ≤ n → HasLawful (prefix n ms) → HasLawful (prefix m ms)
+shorter-lawful ms m n h l = rw (take-take m n ms h) at (prefix-lawful m (prefix n ms) l)
+
+-- ---- the breach minute. m + 1 is one without a lawful reading, after one with
+module _ (ms : List ℕ) (m : ℕ) (before : HasLawful (prefix m ms)) (now : firstLawful (prefix (suc m) ms) ≡ none) where
+  here-or-after : (c b : ℕ) → (b ≡ suc m) ⊎ (b < suc m) → (b < suc m → leastFrom ms c (suc b) ≡ suc m)
+      → pick (isNone (firstLawful (prefix b ms))) b (leastFrom ms c (suc b)) ≡ suc m
+  here-or-after c b (inl e) i = rw (e, now)
+  here-or-after c b (inr l) i = rw (some-first (prefix b ms) (shorter-lawful ms b m (omega arith) before)) (i l)
+
+  least-at : (c b : ℕ) → b ≤ suc m → suc m ≤ b + c → leastFrom ms c b ≡ suc m
+  unfolding leastFrom
+  least-at zero b h l = omega arith
+  least-at (suc c) b h l = here-or-after c b (eq-or-lt-of-le h) (λ u. least-at c (suc b) u (omega arith))
+
+  pub breach-at : suc m ≤ length ms → breachMinute ms ≡ suc m
+  unfolding breachMinute
+  breach-at h = least-at (length ms) 0 zero-le (omega arith)
+
+  whole-none : HasLawful ms → ⊥
+  whole-none l = first-none (prefix (suc m) ms) now (prefix-lawful (suc m) ms l)
+
+  pub verdict-breach : suc m ≤ length ms → verdict ms ≡ breach (suc m) (article (prefix (suc m) ms))
+  unfolding verdict
+  verdict-breach h = rw (is-none ms whole-none, breach-at h)
+
+pub verdict-pass : (ms r : List ℕ) → firstLawful ms ≡ some r → verdict ms ≡ pass r
+unfolding verdict
+verdict-pass ms r e = rw e
+
+-- ---- the other way: of a recording with no lawful reading, the breach minute has none and every shorter stretch has one
+pub record Breach (ms : List ℕ) (m : ℕ) : Type 0 where
+  pub within : m ≤ length ms
+  pub none-there : HasLawful (prefix m ms) → ⊥
+  pub shorter : (n : ℕ) → n < m → HasLawful (prefix n ms)
+
+module _ (ms : List ℕ) where
+  found : (c b : ℕ) → b + c ≡ length ms → (HasLawful ms → ⊥) → ((n : ℕ) → n < b → HasLawful (prefix n ms)) → Breach ms (leastFrom ms c b)
+  unfolding leastFrom
+  found zero b e h f =
+      let z : b ≡ length ms = omega arith in
+      record { within = omega arith; none-there = λ l. h (rw (z, take-length ms) at l); shorter = f }
+  found (suc c) b e h f = at (isNone (firstLawful (prefix b ms))) refl (λ g. found c (suc b) (omega arith) h g)
+    where
+      earlier : HasLawful (prefix b ms) → (n : ℕ) → (n ≡ b) ⊎ (n < b) → HasLawful (prefix n ms)
+      earlier l n (inl p) = rw p l
+      earlier l n (inr p) = f n p
+
+      nowhere : (o : Option (List ℕ)) → firstLawful (prefix b ms) ≡ o → isNone o ≡ true → HasLawful (prefix b ms) → ⊥
+      nowhere none q t l = first-none (prefix b ms) q l
+      nowhere (some r) q t l = clash (isNone (some r)) t refl
+
+      at : (t : Bool) → isNone (firstLawful (prefix b ms)) ≡ t → (((n : ℕ) → n < suc b → HasLawful (prefix n ms)) → Breach ms (leastFrom ms c (suc b)))
+          → Breach ms (pick t b (leastFrom ms c (suc b)))
+      at true t i = record { within = omega arith; none-there = nowhere _ refl t; shorter = f }
+      at false t i = i (λ n l. earlier (has-first (prefix b ms) t) n (eq-or-lt-of-le (omega arith)))
+
+  pub breach-is : (HasLawful ms → ⊥) → Breach ms (breachMinute ms)
+  unfolding breachMinute
+  breach-is h = found (length ms) 0 (omega arith) h (λ n l. absurd (omega arith))
+
+  -- it is the only m that has no lawful reading while m − 1 has one
+  pub only-breach : (m : ℕ) → suc m ≤ length ms → HasLawful (prefix m ms) → (HasLawful (prefix (suc m) ms) → ⊥) → breachMinute ms ≡ suc m
+  only-breach m h l n = breach-at ms m l (is-none (prefix (suc m) ms) n) h
+
+  -- and the empty stretch has one, so a breach comes after it
+  pub breach-after : (HasLawful ms → ⊥) → HasLawful [] → (m : ℕ) × (breachMinute ms ≡ suc m)
+  breach-after h l = at (breachMinute ms) (breach-is h)
+    where
+      at : (b : ℕ) → Breach ms b → (m : ℕ) × (b ≡ suc m)
+      at zero k = absurd (k .none-there l)
+      at (suc m) k = (m, refl)

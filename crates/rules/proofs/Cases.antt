@@ -1,0 +1,257 @@
+-- The starred cases of document 01, "On the edge", and a worked case at each edge of a number, under one law and one test that is computed.
+-- Assumes nothing.
+use mathlib.Core.Path.{_≡_, refl, ap, _∙_}
+use mathlib.Core.Logic.{_⊎_, inl, inr}
+use mathlib.Core.Bool.{Bool, true, false, not, false≢true}
+use mathlib.Core.List.{List, [], _∷_, _++_}
+use mathlib.Core.Option.{none}
+use Prim.Native.Nat.{ℕ, zero, suc, _*_}
+use lib.Dec.{eqb, leb, ltb}
+use lib.ListN.{length, replicate}
+use borrow.Author.Tests.{eqb-true, eqb-false, leb-true, ltb-true, not-true}
+use Rattle.recording.specs.Tests.{_and_, _or_, allOf}
+use Rattle.recording.specs.Words.{wordOf, rest, availability, otherWork, driving, minutesOf}
+use Rattle.recording.specs.Rests.{longRests}
+use Rattle.recording.proofs.TestLaws.{and-left, and-right, or-cases}
+use Rattle.recording.specs.declared.Span.{Span}
+use Rattle.recording.proofs.ByWord.{longRestsBy, rests-by, totalBy, total-by, cutAt, cut-at, endBy, closedBy, drivingUpTo}
+use Rattle.rules.specs.Fixed.{fixedTest}
+use Rattle.rules.specs.Reading.{dailyKind, weeklyKind, entryBytes, readingSize}
+use Rattle.rules.specs.ReadingRules.{readingTest}
+use Rattle.rules.specs.Order.{byteValues, Bytes}
+use Rattle.rules.specs.Verdict.{lawful, firstLawful, prefix, article, articleBy, Verdict, pass, breach, verdict}
+use Rattle.rules.specs.Opened.{opened}
+use Rattle.rules.proofs.RuleLaws.{lawful-rules}
+use Rattle.rules.proofs.Breach.{Lawful, is-none, verdict-breach, verdict-pass}
+use Rattle.rules.proofs.ByWord.{fixedBy, fixed-by, readingBy, reading-by, spellBy}
+use Rattle.rules.proofs.OnlyDaily.{neverWeekly, allDaily, daily-first, daily-none}
+
+-- ---- what a case says
+pub data Case : Type 0 where
+  -- the verdict is a pass, and the first lawful reading is that of daily rests alone
+  passes : List ℕ → Case
+  -- the verdict is a breach at a minute, with its article; a lawful reading of the stretch that is a minute shorter goes with it
+  breaks : List ℕ → List ℕ → ℕ → ℕ → Case
+  -- a reading's test has an answer
+  tests : List ℕ → List ℕ → ℕ → Case
+
+abbrev pub Says : Case → Type 0
+Says (passes ws) = verdict (minutesOf ws) ≡ pass (allDaily (minutesOf ws))
+Says (breaks ws reading m n) = verdict (minutesOf ws) ≡ breach m n
+Says (tests ws reading n) = readingTest (minutesOf ws) reading ≡ n
+
+abbrev pub AllSay : List Case → Type 0
+AllSay [] = Unit {0}
+AllSay (c ∷ cs) = Says c × AllSay cs
+
+-- ---- a test for it
+bytesTest : ℕ → List ℕ → Bool
+bytesTest zero [] = true
+bytesTest zero (b ∷ r) = false
+bytesTest (suc n) [] = false
+bytesTest (suc n) (b ∷ r) = ltb b byteValues and bytesTest n r
+
+bytes-test : (n : ℕ) (r : List ℕ) → bytesTest n r ≡ true → Bytes n r
+unfolding bytesTest
+bytes-test zero [] t = tt
+bytes-test zero (b ∷ r) t = false≢true t
+bytes-test (suc n) [] t = false≢true t
+bytes-test (suc n) (b ∷ r) t = (ltb-true b byteValues (and-left _ _ t), bytes-test n r (and-right _ _ t))
+
+-- a fixed rule is broken, or no long rest can be weekly and the daily reading is not lawful
+noneLawful : List ℕ → Bool
+noneLawful ms = not (eqb (fixedTest ms) 0) or (allOf neverWeekly (longRests ms) and not (lawful ms (allDaily ms)))
+
+none-lawful : (ms : List ℕ) → noneLawful ms ≡ true → firstLawful ms ≡ none
+unfolding noneLawful
+none-lawful ms t = at (or-cases _ _ t)
+  where
+    at : (not (eqb (fixedTest ms) 0) ≡ true) ⊎ (allOf neverWeekly (longRests ms) and not (lawful ms (allDaily ms)) ≡ true) → firstLawful ms ≡ none
+    at (inl f) = is-none ms (λ h. eqb-false (fixedTest ms) 0 (not-true (eqb (fixedTest ms) 0) f) (lawful-rules ms (h .0) (h .1 .keeps) .fixed))
+    at (inr d) = daily-none ms (and-left _ _ d) (not-true (lawful ms (allDaily ms)) (and-right _ _ d))
+
+-- the same word by word, so that a run of minutes costs a step
+abbrev dailyBy : List ℕ → List ℕ
+dailyBy ws = replicate (entryBytes * length (longRestsBy ws)) 0
+
+abbrev lawfulBy : List ℕ → List ℕ → Bool
+lawfulBy ws reading = eqb (readingBy ws reading) 0
+
+abbrev noneBy : List ℕ → Bool
+noneBy ws = not (eqb (fixedBy ws) 0) or (allOf neverWeekly (longRestsBy ws) and not (lawfulBy ws (dailyBy ws)))
+
+module _ (ws : List ℕ) where
+  lawful-by : (reading : List ℕ) → lawful (minutesOf ws) reading ≡ lawfulBy ws reading
+  unfolding lawful
+  lawful-by reading = ap (λ (n : ℕ). eqb n 0) (reading-by ws reading)
+
+  daily-by : allDaily (minutesOf ws) ≡ dailyBy ws
+  unfolding readingSize
+  daily-by = ap (λ (rs : List Span). replicate (entryBytes * length rs) 0) (rests-by ws)
+
+  lawful-daily-by : lawful (minutesOf ws) (allDaily (minutesOf ws)) ≡ lawfulBy ws (dailyBy ws)
+  lawful-daily-by = lawful-by (allDaily (minutesOf ws)) ∙ ap (lawfulBy ws) daily-by
+
+  none-by : noneLawful (minutesOf ws) ≡ noneBy ws
+  unfolding noneLawful
+  none-by = rw (fixed-by ws, rests-by ws, lawful-daily-by)
+
+  size-by : readingSize (minutesOf ws) ≡ entryBytes * length (longRestsBy ws)
+  unfolding readingSize
+  size-by = ap (λ (rs : List Span). entryBytes * length rs) (rests-by ws)
+
+  article-by : article (minutesOf ws) ≡ articleBy (fixedBy ws)
+  unfolding article
+  article-by = ap articleBy (fixed-by ws)
+
+holds : Case → Bool
+holds (passes ws) = lawfulBy ws (dailyBy ws)
+holds (breaks ws reading zero n) = false
+holds (breaks ws reading (suc m) n) =
+    leb (suc m) (totalBy ws) and
+    bytesTest (entryBytes * length (longRestsBy (cutAt m ws))) reading and
+    lawfulBy (cutAt m ws) reading and
+    noneBy (cutAt (suc m) ws) and
+    eqb (articleBy (fixedBy (cutAt (suc m) ws))) n
+holds (tests ws reading n) = eqb (readingBy ws reading) n
+
+-- THE LAW
+module _ (ws : List ℕ) (m : ℕ) where
+  lawful-there : {reading : List ℕ} → bytesTest (entryBytes * length (longRestsBy (cutAt m ws))) reading ≡ true → lawfulBy (cutAt m ws) reading ≡ true
+      → Lawful (prefix m (minutesOf ws)) reading
+  lawful-there {reading} b t = rw (← cut-at m ws) (record {
+    bytes = bytes-test (readingSize (minutesOf (cutAt m ws))) reading (rw (size-by (cutAt m ws)) b);
+    keeps = rw (lawful-by (cutAt m ws) reading) t;
+  })
+
+  none-there : noneBy (cutAt m ws) ≡ true → firstLawful (prefix m (minutesOf ws)) ≡ none
+  none-there t = rw (← cut-at m ws) (none-lawful _ (rw (none-by (cutAt m ws)) t))
+
+  article-there : article (prefix m (minutesOf ws)) ≡ articleBy (fixedBy (cutAt m ws))
+  article-there = rw (← cut-at m ws) (article-by (cutAt m ws))
+
+says : (c : Case) → holds c ≡ true → Says c
+unfolding holds
+says (passes ws) t = verdict-pass _ _ (daily-first (minutesOf ws) (rw (lawful-daily-by ws) t))
+says (breaks ws reading zero n) t = absurd (false≢true t)
+says (breaks ws reading (suc m) n) t =
+    let t1 = and-left _ _ t in
+    let t2 = and-left _ _ t1 in
+    let t3 = and-left _ _ t2 in
+    let within = leb-true (suc m) (totalBy ws) (and-left _ _ t3) in
+    verdict-breach (minutesOf ws) m (reading, lawful-there ws m (and-right _ _ t3) (and-right _ _ t2)) (none-there ws (suc m) (and-right _ _ t1))
+    (rw (total-by ws) within)
+    ∙ ap (breach (suc m)) (article-there ws (suc m) ∙ eqb-true _ n (and-right _ _ t))
+says (tests ws reading n) t = reading-by ws reading ∙ eqb-true _ n t
+
+all-say : (cs : List Case) → allOf holds cs ≡ true → AllSay cs
+unfolding allOf
+all-say [] t = tt
+all-say (c ∷ cs) t = (says c (and-left _ _ t), all-say cs (and-right _ _ t))
+
+-- ---- how the cases are written: words of n minutes, a part that is repeated, and readings
+abbrev pub d : ℕ → ℕ
+d n = wordOf n driving
+
+abbrev pub w : ℕ → ℕ
+w n = wordOf n otherWork
+
+abbrev pub a : ℕ → ℕ
+a n = wordOf n availability
+
+abbrev pub r : ℕ → ℕ
+r n = wordOf n rest
+
+abbrev pub times : ℕ → List ℕ → List ℕ → List ℕ
+times zero part after = after
+times (suc n) part after = part ++ times n part after
+
+abbrev pub daily : ℕ → List ℕ → List ℕ
+daily k after = times k (dailyKind ∷ 0 ∷ 0 ∷ []) after
+
+abbrev pub weekly : ℕ → ℕ → List ℕ → List ℕ
+weekly week carrier after = weeklyKind ∷ week ∷ carrier ∷ after
+
+-- "Starred: proved."
+abbrev pub starred : List Case
+starred =
+    passes [] ∷
+    passes (d 270 ∷ []) ∷
+    breaks (d 271 ∷ []) [] 271 1 ∷
+    passes (d 135 ∷ r 15 ∷ d 135 ∷ r 30 ∷ d 270 ∷ []) ∷
+    breaks (d 135 ∷ r 14 ∷ d 135 ∷ r 30 ∷ d 270 ∷ []) [] 315 1 ∷
+    breaks (d 135 ∷ r 30 ∷ d 135 ∷ r 15 ∷ d 1 ∷ []) [] 316 1 ∷
+    breaks (d 270 ∷ a 45 ∷ d 1 ∷ []) [] 316 1 ∷
+    passes (w 900 ∷ []) ∷
+    breaks (w 901 ∷ []) [] 901 5 ∷
+    breaks (w 900 ∷ r 539 ∷ w 1 ∷ []) [] 1440 5 ∷
+    passes (w 900 ∷ r 540 ∷ w 1 ∷ []) ∷
+    passes (times 3 (w 840 ∷ r 600 ∷ []) (w 1 ∷ [])) ∷
+    breaks (times 4 (w 840 ∷ r 600 ∷ []) (w 1 ∷ [])) (daily 3 []) 5761 6 ∷
+    passes (times 6 (w 780 ∷ r 660 ∷ []) []) ∷
+    breaks (times 6 (w 780 ∷ r 660 ∷ []) (w 1 ∷ [])) (daily 5 []) 8641 6 ∷ []
+
+-- a day of 540 minutes of driving; and one of 541
+abbrev ordinary : List ℕ
+ordinary = d 270 ∷ r 45 ∷ d 270 ∷ []
+
+abbrev longer : List ℕ
+longer = d 270 ∷ r 45 ∷ d 270 ∷ r 45 ∷ d 1 ∷ []
+
+-- the other edges
+abbrev pub worked : List Case
+worked =
+    -- rule 1: 45, 30
+    passes (d 270 ∷ r 45 ∷ d 1 ∷ []) ∷
+    breaks (d 270 ∷ r 44 ∷ d 1 ∷ []) [] 315 1 ∷
+    breaks (d 135 ∷ r 15 ∷ d 135 ∷ r 29 ∷ d 1 ∷ []) [] 315 1 ∷
+    -- and a first part before any driving
+    passes (r 15 ∷ d 270 ∷ r 30 ∷ d 1 ∷ []) ∷
+    -- rule 2: 600, 540, two days
+    passes (d 270 ∷ r 45 ∷ d 270 ∷ r 45 ∷ d 60 ∷ []) ∷
+    breaks (d 270 ∷ r 45 ∷ d 270 ∷ r 45 ∷ d 61 ∷ []) [] 691 2 ∷
+    passes (times 2 (longer ++ r 660 ∷ []) (ordinary ++ w 1 ∷ [])) ∷
+    breaks (times 2 (longer ++ r 660 ∷ []) longer) (daily 2 []) 3213 2 ∷
+    -- rule 3: 3,360
+    passes (times 3 (ordinary ++ r 540 ∷ []) (times 3 (ordinary ++ r 660 ∷ []) (d 120 ∷ []))) ∷
+    breaks (times 3 (ordinary ++ r 540 ∷ []) (times 3 (ordinary ++ r 660 ∷ []) (d 121 ∷ []))) (daily 6 []) 7231 3 ∷
+    -- rule 4: 5,400
+    breaks (times 3 (ordinary ++ r 540 ∷ []) (times 2 (ordinary ++ r 660 ∷ []) (ordinary ++ r 3630 ∷ times 3 (ordinary ++ r 540 ∷ []) longer)))
+    (daily 5 (weekly 0 0 (daily 3 []))) 14086 4 ∷
+    -- rule 6: 1,440, and a week's end
+    tests (w 60 ∷ r 1440 ∷ w 1 ∷ []) (weekly 0 0 []) 0 ∷
+    tests (w 60 ∷ r 1439 ∷ w 1 ∷ []) (weekly 0 0 []) 6 ∷
+    tests (r 10081 ∷ w 1 ∷ []) (weekly 1 0 []) 0 ∷
+    tests (r 10080 ∷ w 1 ∷ []) (weekly 1 0 []) 6 ∷
+    -- rule 7: 540 and 1,440, net of a reduction of 1,260
+    tests (w 60 ∷ r 1440 ∷ w 60 ∷ r 1800 ∷ w 1 ∷ []) (weekly 0 2 (daily 1 [])) 0 ∷
+    tests (w 60 ∷ r 1440 ∷ w 60 ∷ r 1799 ∷ w 1 ∷ []) (weekly 0 2 (daily 1 [])) 7 ∷
+    tests (w 60 ∷ r 1440 ∷ w 60 ∷ r 2700 ∷ w 1 ∷ []) (weekly 0 2 (weekly 0 0 [])) 0 ∷
+    tests (w 60 ∷ r 1440 ∷ w 60 ∷ r 2699 ∷ w 1 ∷ []) (weekly 0 2 (weekly 0 0 [])) 7 ∷
+    -- rule 8: 2,700, and four weeks to the minute
+    tests (w 60 ∷ r 2699 ∷ w 60 ∷ r 541 ∷ w 1 ∷ []) (weekly 0 2 (daily 1 [])) 0 ∷
+    tests (w 60 ∷ r 2700 ∷ w 60 ∷ r 541 ∷ w 1 ∷ []) (weekly 0 2 (daily 1 [])) 8 ∷
+    tests (w 60 ∷ r 1440 ∷ w 60 ∷ r 38758 ∷ w 1 ∷ []) (weekly 0 0 (weekly 0 0 [])) 0 ∷
+    tests (w 60 ∷ r 1440 ∷ w 60 ∷ r 38759 ∷ w 1 ∷ []) (weekly 0 0 (weekly 0 0 [])) 8 ∷
+    tests (w 60 ∷ r 1440 ∷ w 60 ∷ r 38760 ∷ w 1 ∷ []) (weekly 0 2 (weekly 0 0 [])) 0 ∷
+    tests (w 60 ∷ r 1440 ∷ w 60 ∷ r 38761 ∷ w 1 ∷ []) (weekly 0 2 (weekly 0 0 [])) 8 ∷
+    -- rule 9: 660, and the 1,440 after P
+    passes (times 4 (w 780 ∷ r 660 ∷ []) (w 1 ∷ [])) ∷
+    breaks (times 4 (w 780 ∷ r 659 ∷ []) (w 1 ∷ [])) (daily 3 []) 5757 6 ∷
+    breaks (times 4 (w 781 ∷ r 660 ∷ []) (w 1 ∷ [])) (daily 3 []) 5765 6 ∷
+    -- rule 11: two weekly rests, one of them regular, in the weeks that end by S
+    tests (w 60 ∷ r 11460 ∷ times 5 (w 780 ∷ r 660 ∷ []) (w 780 ∷ r 540 ∷ w 119 ∷ [])) (weekly 0 0 (daily 6 [])) 0 ∷
+    tests (w 60 ∷ r 11460 ∷ times 5 (w 780 ∷ r 660 ∷ []) (w 780 ∷ r 540 ∷ w 120 ∷ [])) (weekly 0 0 (daily 6 [])) 11 ∷
+    tests (times 5 (w 780 ∷ r 660 ∷ []) (w 780 ∷ r 2700 ∷ times 5 (w 780 ∷ r 660 ∷ []) (w 780 ∷ r 1440 ∷ w 60 ∷ [])))
+    (daily 5 (weekly 0 0 (daily 5 (weekly 1 0 [])))) 0 ∷
+    tests (times 5 (w 780 ∷ r 660 ∷ []) (w 780 ∷ r 1440 ∷ times 5 (w 780 ∷ r 660 ∷ []) (w 780 ∷ r 1440 ∷ w 780 ∷ r 540 ∷ w 1 ∷ [])))
+    (daily 5 (weekly 0 0 (daily 5 (weekly 1 0 (daily 1 []))))) 11 ∷
+    -- a week of rest minutes only holds one, whether or not one is counted in it
+    tests (r 11520 ∷ times 5 (w 780 ∷ r 660 ∷ []) (w 780 ∷ r 540 ∷ w 120 ∷ [])) (weekly 1 0 (daily 6 [])) 0 ∷
+    tests (r 11520 ∷ times 5 (w 780 ∷ r 660 ∷ []) (w 780 ∷ r 540 ∷ w 120 ∷ [])) (weekly 0 0 (daily 6 [])) 11 ∷
+    []
+
+-- THE JOINT THEOREM
+pub on-the-edge : AllSay (starred ++ worked)
+unfolding opened endBy closedBy totalBy drivingUpTo cutAt spellBy holds bytesTest
+on-the-edge = all-say (starred ++ worked) refl

@@ -1,0 +1,11 @@
+pub mod FirstLaws
+pub mod RuleLaws
+pub mod FixedPrefix
+pub mod ReadingPrefix
+pub mod Prefix
+pub mod Breach
+pub mod OnlyDaily
+pub mod EntryLaws
+pub mod RestWeekLaws
+pub mod ByWord
+pub mod Cases

@@ -1,0 +1,70 @@
+-- Document 01, "Operations": both tests, the verdict, and the entry of a reading.
+-- Assumes nothing.
+use mathlib.Core.Bool.{Bool, not}
+use mathlib.Core.List.{List, []}
+use Prim.Native.Nat.{ℕ, _-_, _*_, _/_, _%_}
+use lib.Dec.{ltb, eqb}
+use lib.ListN.{length, take, drop}
+use Rattle.recording.specs.Tests.{_or_}
+use Rattle.recording.specs.Answers.{Answer, refused, answered, andThen, refuseIf, filled}
+use Rattle.recording.specs.Words.{minutesOf}
+use Rattle.recording.specs.Operations.{measured}
+use Rattle.rules.specs.Fixed.{fixedTest}
+use Rattle.rules.specs.Reading.{entryBytes}
+use Rattle.rules.specs.ReadingRules.{readingTest}
+use Rattle.rules.specs.Verdict.{prefix, Verdict, pass, breach, verdict}
+
+-- "Testing fixed rules for a stretch of m: 1, 2; then 5, m is over N. The answer is 0 or the smallest broken rule of 1 to 5."
+unfoldable pub fixedTested : List ℕ → ℕ → Answer ℕ
+fixedTested words m =
+    andThen (measured words) (λ k.
+    refuseIf (ltb (k .total) m) 5 (answered (fixedTest (prefix m (minutesOf words)))))
+
+-- "Testing a reading: 1, 2; then 6, its byte count isn't 3 × k. The answer is 0 or the smallest broken rule."
+unfoldable pub readingTested : List ℕ → List ℕ → Answer ℕ
+readingTested words reading =
+    andThen (measured words) (λ k.
+    refuseIf (not (eqb (length reading) (entryBytes * k .count))) 6 (answered (readingTest (minutesOf words) reading)))
+
+-- "The verdict: 1, 2; then 4, the reading buffer is under 3 × k bytes." Here for a buffer of `room` bytes.
+unfoldable pub judged : List ℕ → ℕ → Answer Verdict
+judged words room =
+    andThen (measured words) (λ k.
+    refuseIf (ltb room (entryBytes * k .count)) 4 (answered (verdict (minutesOf words))))
+
+-- The result: a pass "answers with the count" of bytes written; a breach "gives the least m without a lawful reading, and its article".
+pub data Outcome : Type 0 where
+  passed : ℕ → Outcome
+  breached : ℕ → ℕ → Outcome
+
+abbrev pub outcomeOf : Verdict → Outcome
+outcomeOf (pass reading) = passed (length reading)
+outcomeOf (breach m a) = breached m a
+
+abbrev pub outcome : Answer Verdict → Answer Outcome
+outcome (refused n) = refused n
+outcome (answered v) = answered (outcomeOf v)
+
+-- The buffer: "A pass writes the first lawful reading into the first 3 × k bytes; the rest stays. A breach writes nothing".
+abbrev pub readingAfter : Answer Verdict → List ℕ → List ℕ
+readingAfter (refused n) old = old
+readingAfter (answered (pass reading)) old = filled (answered reading) old
+readingAfter (answered (breach m a)) old = old
+
+-- "Entry of a reading: 6, byte count not a multiple of 3; then 7, number 0 or over a third of the count. The answer is the three bytes themselves
+-- in the caller's reading."
+unfoldable pub entryAt : List ℕ → ℕ → Answer (List ℕ)
+entryAt reading number =
+    refuseIf (not (eqb (length reading % entryBytes) 0)) 6
+    (refuseIf (eqb number 0 or ltb (length reading / entryBytes) number) 7
+    (answered (take entryBytes (drop (entryBytes * (number - 1)) reading))))
+
+-- "The part is empty if there is a refusal, and only then"
+abbrev pub entryPart : Answer (List ℕ) → List ℕ
+entryPart (refused n) = []
+entryPart (answered part) = part
+
+-- "a companion operation on the same inputs gives 0 or the refusal's number"
+abbrev pub entryRefusal : Answer (List ℕ) → ℕ
+entryRefusal (refused n) = n
+entryRefusal (answered part) = 0

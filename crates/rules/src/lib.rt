@@ -1,0 +1,13 @@
+// The rules of driving times and rests, and readings of a recording. What is said of them stands in specs/.
+
+// What a weekly rest is: regular, or reduced by so many minutes.
+pub enum Standing {
+    Regular,
+    Reduced(u32),
+}
+
+// What a reading takes a long rest for.
+pub enum Kind {
+    Daily,
+    Weekly(Standing),
+}
