@@ -18,23 +18,23 @@ use Rattle.recording.specs.declared.Span.{Span}
 use Rattle.recording.proofs.WordLaws.{minutes-in, activity-in}
 
 -- ---- S and the rests: `from` and `now` after a run of n minutes of the activity a
-abbrev pub afterRun : {A : Type 0} → ℕ → ℕ → ℕ → ℕ → (ℕ → ℕ → A) → A
-afterRun zero a from now later = later from now
-afterRun (suc n) zero from now later = later from (now + suc n)
-afterRun (suc n) (suc a) from now later = later (now + suc n) (now + suc n)
+abbrev pub byRun : {A : Type 0} → ℕ → ℕ → ℕ → ℕ → (ℕ → ℕ → A) → A
+byRun zero a from now later = later from now
+byRun (suc n) zero from now later = later from (now + suc n)
+byRun (suc n) (suc a) from now later = later (now + suc n) (now + suc n)
 
-abbrev pub restsRun : ℕ → ℕ → ℕ → ℕ → (ℕ → ℕ → List Span) → List Span
-restsRun zero a from now later = later from now
-restsRun (suc n) zero from now later = later from (now + suc n)
-restsRun (suc n) (suc a) from now later = withRest from now (later (now + suc n) (now + suc n))
+abbrev pub restsByRun : ℕ → ℕ → ℕ → ℕ → (ℕ → ℕ → List Span) → List Span
+restsByRun zero a from now later = later from now
+restsByRun (suc n) zero from now later = later from (now + suc n)
+restsByRun (suc n) (suc a) from now later = withRest from now (later (now + suc n) (now + suc n))
 
 unfoldable pub endBy : ℕ → ℕ → List ℕ → ℕ
 endBy from now [] = from
-endBy from now (w ∷ ws) = afterRun (minutesIn w) (activityIn w) from now (λ f t. endBy f t ws)
+endBy from now (w ∷ ws) = byRun (minutesIn w) (activityIn w) from now (λ f t. endBy f t ws)
 
 unfoldable pub closedBy : ℕ → ℕ → List ℕ → List Span
 closedBy from now [] = []
-closedBy from now (w ∷ ws) = restsRun (minutesIn w) (activityIn w) from now (λ f t. closedBy f t ws)
+closedBy from now (w ∷ ws) = restsByRun (minutesIn w) (activityIn w) from now (λ f t. closedBy f t ws)
 
 -- a number that is written in two ways
 at : {A : Type 0} (f : ℕ → A) {m n : ℕ} → m ≡ n → f m ≡ f n
@@ -50,7 +50,7 @@ unfolding endFrom
 busy-end zero a now ms = at (λ t. endFrom t t ms) (omega arith)
 busy-end (suc n) a now ms = busy-end n a (suc now) ms ∙ at (λ t. endFrom t t ms) (omega arith)
 
-end-run : (n a from now : ℕ) (ms : List ℕ) → endFrom from now (replicate n a ++ ms) ≡ afterRun n a from now (λ f t. endFrom f t ms)
+end-run : (n a from now : ℕ) (ms : List ℕ) → endFrom from now (replicate n a ++ ms) ≡ byRun n a from now (λ f t. endFrom f t ms)
 unfolding endFrom
 end-run zero a from now ms = refl
 end-run (suc n) zero from now ms = rest-end (suc n) from now ms
@@ -67,18 +67,18 @@ busy-closed zero a now ms = at (λ t. closedFrom t t ms) (omega arith)
 busy-closed (suc n) a now ms =
     rw (le-ltb now now (le-refl _)) (busy-closed n a (suc now) ms ∙ at (λ t. closedFrom t t ms) (omega arith))
 
-closed-run : (n a from now : ℕ) (ms : List ℕ) → closedFrom from now (replicate n a ++ ms) ≡ restsRun n a from now (λ f t. closedFrom f t ms)
+closed-run : (n a from now : ℕ) (ms : List ℕ) → closedFrom from now (replicate n a ++ ms) ≡ restsByRun n a from now (λ f t. closedFrom f t ms)
 unfolding closedFrom
 closed-run zero a from now ms = refl
 closed-run (suc n) zero from now ms = rest-closed (suc n) from now ms
 closed-run (suc n) (suc a) from now ms = ap (withRest from now) (busy-closed n a (suc now) ms ∙ at (λ t. closedFrom t t ms) (omega arith))
 
-after-same : {A : Type 0} (n a from now : ℕ) (f g : ℕ → ℕ → A) → ((x y : ℕ) → f x y ≡ g x y) → afterRun n a from now f ≡ afterRun n a from now g
+after-same : {A : Type 0} (n a from now : ℕ) (f g : ℕ → ℕ → A) → ((x y : ℕ) → f x y ≡ g x y) → byRun n a from now f ≡ byRun n a from now g
 after-same zero a from now f g e = e from now
 after-same (suc n) zero from now f g e = e from (now + suc n)
 after-same (suc n) (suc a) from now f g e = e (now + suc n) (now + suc n)
 
-rests-same : (n a from now : ℕ) (f g : ℕ → ℕ → List Span) → ((x y : ℕ) → f x y ≡ g x y) → restsRun n a from now f ≡ restsRun n a from now g
+rests-same : (n a from now : ℕ) (f g : ℕ → ℕ → List Span) → ((x y : ℕ) → f x y ≡ g x y) → restsByRun n a from now f ≡ restsByRun n a from now g
 rests-same zero a from now f g e = e from now
 rests-same (suc n) zero from now f g e = e from (now + suc n)
 rests-same (suc n) (suc a) from now f g e = ap (withRest from now) (e (now + suc n) (now + suc n))

@@ -7,3 +7,5 @@ pub mod DayLaws
 pub mod RestWeeks
 pub mod ByWord
 pub mod Worked
+pub mod Scanning
+pub mod Listing

@@ -42,10 +42,14 @@ long-with false from now rs e =
     let h : now ≤ from = ltb-false from now e in
     rw (lt-leb longRestMinutes (now - from) (omega arith))
 
-pub long-busy : (from now a : ℕ) (ms : List ℕ) → longFrom from now (suc a ∷ ms)
+pub long-with-rest : (from now : ℕ) (rs : List Span) → keep isLong (withRest from now rs)
+    ≡ pick (leb longRestMinutes (now - from)) (record { start = from; end = now } ∷ keep isLong rs) (keep isLong rs)
+long-with-rest from now rs = long-with (ltb from now) from now rs refl
+
+long-busy : (from now a : ℕ) (ms : List ℕ) → longFrom from now (suc a ∷ ms)
     ≡ pick (leb longRestMinutes (now - from)) (record { start = from; end = now } ∷ longFrom (suc now) (suc now) ms) (longFrom (suc now) (suc now) ms)
 unfolding closedFrom
-long-busy from now a ms = long-with (ltb from now) from now (closedFrom (suc now) (suc now) ms) refl
+long-busy from now a ms = long-with-rest from now (closedFrom (suc now) (suc now) ms)
 
 -- ---- their order: from a minute on, a minute of another activity after each, each over before the minute `to`
 pub data Ordered (to : ℕ) : ℕ → List Span → Type 0 where

@@ -5,8 +5,10 @@ use mathlib.Core.List.{List, [], _∷_, _++_, append-assoc}
 use Prim.Native.Nat.{ℕ, zero, suc, _+_, _*_, _/_, _%_, _≤_, _<_}
 use native.Mathlib.Omega.{arith}
 use lib.Dec.{eqb, ltb}
-use lib.ListN.{length, replicate, length-append, length-replicate}
-use borrow.Author.Tests.{ltb-false}
+use native.Mathlib.Numerals.{add-one}
+use lib.ListN.{length, drop, getD, replicate, length-append, length-replicate}
+use lib.Seq.{drop-cons, drop-length}
+use borrow.Author.Tests.{ltb-false, eq-eqb, ne-eqb, lt-ltb, le-ltb}
 use Rattle.recording.specs.Tests.{pick}
 use Rattle.recording.specs.Answers.{Answer, refused, answered}
 use Rattle.recording.specs.Words.{activities, wordOf, minutesIn, activityIn, minutesOf}
@@ -46,3 +48,22 @@ total-is t (w ∷ ws) n h e =
     let k = no-fault t w n (totalFrom (t + minutesIn w) ws) e in
     let i = total-is (t + minutesIn w) ws n (k .0) (k .1) in
     record { minutes = rw (length-append, length-replicate) (omega (arith, i .minutes)); within = i .within }
+
+-- ---- one word of the total
+module _ (ws : List ℕ) (t i : ℕ) (h : i < length ws) where
+  pub total-on : (minutesIn (getD ws i 0) ≡ 0 → ⊥) → t + minutesIn (getD ws i 0) ≤ totalAtMost
+      → totalFrom t (drop i ws) ≡ totalFrom (t + minutesIn (getD ws i 0)) (drop (i + 1) ws)
+  unfolding totalFrom faultOf
+  total-on z l = rw (drop-cons ws i 0, add-one) (simp (ne-eqb _ _ z, le-ltb _ _ l))
+
+  pub total-empty : minutesIn (getD ws i 0) ≡ 0 → totalFrom t (drop i ws) ≡ refused 1
+  unfolding totalFrom faultOf
+  total-empty z = rw (drop-cons ws i 0) (simp (eq-eqb _ _ z))
+
+  pub total-past : (minutesIn (getD ws i 0) ≡ 0 → ⊥) → totalAtMost < t + minutesIn (getD ws i 0) → totalFrom t (drop i ws) ≡ refused 2
+  unfolding totalFrom faultOf
+  total-past z l = rw (drop-cons ws i 0) (simp (ne-eqb _ _ z, lt-ltb _ _ l))
+
+pub total-done : (ws : List ℕ) (t i : ℕ) → i ≡ length ws → totalFrom t (drop i ws) ≡ answered t
+unfolding totalFrom
+total-done ws t i e = rw (e, drop-length)

@@ -8,9 +8,10 @@ use Rattle.recording.specs.Words.{wordOf, rest, otherWork, minutesOf}
 use Rattle.recording.specs.Rests.{judgedEnd}
 use Rattle.recording.specs.Days.{latestEnd, days}
 use Rattle.recording.specs.Weeks.{touches, restOnly}
-use Rattle.recording.specs.Operations.{totalFrom, Measure, measured, listed}
+use Rattle.recording.specs.Operations.{totalFrom, measured, listed}
 use Rattle.recording.specs.Opened.{opened}
 use Rattle.recording.specs.declared.Span.{Span}
+use Rattle.recording.specs.declared.Measure.{Measure}
 
 abbrev w : ℕ → ℕ
 w n = wordOf n otherWork

@@ -6,3 +6,4 @@ pub mod Days
 pub mod Weeks
 pub mod Operations
 pub mod Opened
+pub mod Scan

@@ -10,6 +10,11 @@ use Rattle.recording.specs.Answers.{Answer, refused, answered, andThen, 
 use Rattle.recording.specs.Words.{minutesIn, minutesOf}
 use Rattle.recording.specs.Rests.{judgedEnd, longRests}
 use Rattle.recording.specs.declared.Span.{Span}
+use Rattle.recording.specs.declared.Measure.{Measure}
+use Rattle.recording.specs.declared.Weighing.{Weighing}
+use Rattle.recording.specs.declared.Weighing.the-variants as weighing
+use Rattle.recording.specs.declared.Filling.{Filling}
+use Rattle.recording.specs.declared.Filling.the-variants as filling
 
 -- "The total N is 0 to 120,960."
 abbrev pub totalAtMost : ℕ
@@ -29,11 +34,6 @@ totalFrom total [] = answered total
 totalFrom total (w ∷ ws) = unlessFault (faultOf total w) (totalFrom (total + minutesIn w) ws)
 
 -- "Weighing gives N, S and k."
-pub record Measure : Type 0 where
-  pub total : ℕ
-  pub judged : ℕ
-  pub count : ℕ
-
 abbrev pub measureOf : List ℕ → Measure
 measureOf ms = record { total = length ms; judged = judgedEnd ms; count = length (longRests ms) }
 
@@ -46,3 +46,12 @@ unfoldable pub listed : List ℕ → ℕ → Answer (List Span)
 listed words room =
     andThen (measured words) (λ m.
     refuseIf (ltb room (m .count)) 3 (answered (longRests (minutesOf words))))
+
+-- What the code's answers say, in the paper's numbers and values.
+abbrev pub weighed : Weighing → Answer Measure
+weighed (weighing.Refused n) = refused n
+weighed (weighing.Weighed m) = answered m
+
+abbrev pub written : Filling → Answer ℕ
+written (filling.Refused n) = refused n
+written (filling.Written n) = answered n

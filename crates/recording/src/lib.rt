@@ -1,7 +1,229 @@
 // A recording of a driver's activity, minute by minute. What is said of it stands in specs/.
+ghost use mathlib.Core.Path.{_≡_};
+ghost use Prim.Native.Nat.{_+_, _≤_, _<_};
+ghost use lib.ListN.{length, set};
+ghost use Rattle.recording.specs.Tests.{pick};
+ghost use Rattle.recording.specs.Words.{minutesOf};
+ghost use Rattle.recording.specs.Operations.{totalAtMost, totalFrom, measured, weighed};
+ghost use Rattle.recording.specs.Scan.{totalled, faultIn, refusalIn, endsRest, afterRun, placeOf, origin, Scanned, Listed};
 
 // The minutes from `start` up to `end`, which is not included.
 pub struct Span {
     pub start: u32,
     pub end: u32,
+}
+
+// What weighing gives: the total N, the judged end S and the number k of long rests.
+pub struct Measure {
+    pub total: u32,
+    pub judged: u32,
+    pub count: u32,
+}
+
+// What weighing answers.
+pub enum Weighing {
+    Refused(u32),
+    Weighed(Measure),
+}
+
+// What an operation answers that fills a lent buffer: a refusal, or the count of what it wrote.
+pub enum Filling {
+    Refused(u32),
+    Written(u32),
+}
+
+// The total of a recording, or its first word's fault.
+pub enum Total {
+    Refused(u32),
+    Minutes(u32),
+}
+
+// A place in the walk over a recording: the minute reached, where the rest under way started or one could start, and the long
+// rests that have ended.
+pub struct Place {
+    pub now: u32,
+    pub from: u32,
+    pub count: u32,
+}
+
+const TOTAL_AT_MOST: u32 = 120960;
+
+const LONG_REST: u32 = 540;
+
+// The total, or the refusal of the first word at fault: 1 where its minutes are 0, else 2 where the total passes the limit.
+pub fn total_of(words: &[u32]) -> Total
+    ensures { λ r. ⌜ totalled r ≡ totalFrom 0 (now (words .entry)) ⌝ }
+{
+    let mut sum: u32 = 0;
+    let mut i = 0;
+    'walk: loop {
+        if i == words.len() {
+            break 'walk Total::Minutes(sum);
+        }
+        let minutes = words[i] / 4;
+        if minutes == 0 {
+            break 'walk Total::Refused(1);
+        }
+        if TOTAL_AT_MOST - sum < minutes {
+            break 'walk Total::Refused(2);
+        }
+        sum += minutes;
+        i += 1;
+    }
+}
+
+// The number of a refusal, and 0 of a total.
+pub fn fault_of(t: Total) -> u32
+    ensures { λ r. ⌜ r ≡ faultIn t ⌝ }
+{
+    match t {
+        Total::Refused(n) => n,
+        Total::Minutes(_) => 0,
+    }
+}
+
+// Whether a run of n minutes of this activity ends a long rest.
+pub fn ends_rest(p: Place, activity: u32, n: u32) -> bool
+    requires { ⌜ p .from ≤ p .now ⌝ }
+    ensures { λ r. ⌜ r ≡ endsRest p activity n ⌝ }
+{
+    if n == 0 {
+        return false;
+    }
+    match activity {
+        0 => false,
+        _ => LONG_REST <= p.now - p.from,
+    }
+}
+
+// The place after a run of n minutes of one activity.
+pub fn after_run(p: Place, activity: u32, n: u32) -> Place
+    requires { ⌜ (p .from ≤ p .now) × (p .count ≤ p .now) × (p .now + n ≤ totalAtMost) ⌝ }
+    ensures { λ r. ⌜ r ≡ afterRun p activity n ⌝ }
+{
+    if n == 0 {
+        return p;
+    }
+    let next = p.now + n;
+    match activity {
+        0 => Place {
+            now: next,
+            from: p.from,
+            count: p.count,
+        },
+        _ => {
+            if LONG_REST <= p.now - p.from {
+                return Place {
+                    now: next,
+                    from: next,
+                    count: p.count + 1,
+                };
+            }
+            Place {
+                now: next,
+                from: next,
+                count: p.count,
+            }
+        }
+    }
+}
+
+// The place at the end of a recording.
+pub fn place_of(words: &[u32]) -> Place
+    requires { ⌜ length (minutesOf (now words)) ≤ totalAtMost ⌝ }
+    ensures { λ r. ⌜ r ≡ placeOf origin (now (words .entry)) ⌝ }
+{
+    let mut p = Place {
+        now: 0,
+        from: 0,
+        count: 0,
+    };
+    let mut i = 0;
+    while i < words.len() {
+        let word = words[i];
+        p = after_run(p, word % 4, word / 4);
+        i += 1;
+    }
+    p
+}
+
+// Weighing: N, S and k, or refusal 1 or 2.
+pub fn weigh(words: &[u32]) -> Weighing
+    ensures { λ r. ⌜ weighed r ≡ measured (now (words .entry)) ⌝ }
+{
+    let sum = total_of(words);
+    let Total::Minutes(minutes) = sum else {
+        return Weighing::Refused(fault_of(sum));
+    };
+    let p = place_of(words);
+    Weighing::Weighed(Measure {
+        total: minutes,
+        judged: p.from,
+        count: p.count,
+    })
+}
+
+// The number of weighing's refusal, and 0 of a measure.
+pub fn refusal_of(w: Weighing) -> u32
+    ensures { λ r. ⌜ r ≡ refusalIn w ⌝ }
+{
+    match w {
+        Weighing::Refused(n) => n,
+        Weighing::Weighed(_) => 0,
+    }
+}
+
+// Writes v at k if it is wanted and there is such a place.
+fn put_if(s: &mut [u32], wanted: bool, k: u32, v: u32)
+    ensures { λ r. ⌜ now (s .exit) ≡ pick wanted (set (now (s .entry)) k v) (now (s .entry)) ⌝ }
+{
+    if wanted {
+        let at = k as usize;
+        if at < s.len() {
+            s[at] = v;
+        }
+    }
+}
+
+// Where each long rest starts and ends, written from the front of the lent slices as far as they reach.
+pub fn scan(words: &[u32], starts: &mut [u32], ends: &mut [u32]) -> Place
+    requires { ⌜ length (minutesOf (now words)) ≤ totalAtMost ⌝ }
+    ensures { λ r. ⌜ Scanned (now (words .entry)) (now (starts .entry)) (now (ends .entry)) r (now (starts .exit)) (now (ends .exit)) ⌝ }
+{
+    let mut p = Place {
+        now: 0,
+        from: 0,
+        count: 0,
+    };
+    let mut i = 0;
+    while i < words.len() {
+        let word = words[i];
+        let activity = word % 4;
+        let minutes = word / 4;
+        let ended = ends_rest(p, activity, minutes);
+        put_if(starts, ended, p.count, p.from);
+        put_if(ends, ended, p.count, p.now);
+        p = after_run(p, activity, minutes);
+        i += 1;
+    }
+    p
+}
+
+// The long rests' starts and ends into two lent slices: refusals 1 and 2, then 3 where one of them is too short.
+pub fn list_rests(words: &[u32], starts: &mut [u32], ends: &mut [u32]) -> Filling
+    ensures { λ r. ⌜ Listed (now (words .entry)) (now (starts .entry)) (now (ends .entry)) r (now (starts .exit)) (now (ends .exit)) ⌝ }
+{
+    let weighing = weigh(words);
+    let Weighing::Weighed(measure) = weighing else {
+        return Filling::Refused(refusal_of(weighing));
+    };
+    let count = measure.count;
+    if starts.len() < count as usize {
+        return Filling::Refused(3);
+    }
+    if ends.len() < count as usize {
+        return Filling::Refused(3);
+    }
+    scan(words, starts, ends);
+    Filling::Written(count)
 }

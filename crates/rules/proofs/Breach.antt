@@ -15,6 +15,7 @@ use Rattle.recording.specs.Rests.{longRests}
 use Rattle.rules.specs.Reading.{readingSize, restricted}
 use Rattle.rules.specs.Order.{Bytes, NotAfter, first}
 use Rattle.rules.specs.Verdict.{lawful, firstLawful, isNone, prefix, leastFrom, breachMinute, article, Verdict, pass, breach, verdict}
+use Rattle.rules.specs.Opened.{opened}
 use Rattle.rules.proofs.FirstLaws.{IsFirst, law-at, first-is, bytes-length}
 use Rattle.rules.proofs.Prefix.{lawful-prefix, restricted-bytes}
 use Rattle.recording.proofs.TestLaws.{clash, less-or-not}
@@ -103,6 +104,10 @@ pub record Breach (ms : List ℕ) (m : ℕ) : Type 0 where
   pub none-there : HasLawful (prefix m ms) → ⊥
   pub shorter : (n : ℕ) → n < m → HasLawful (prefix n ms)
 
+empty-lawful : HasLawful []
+unfolding opened
+empty-lawful = ([], record { bytes = tt; keeps = refl })
+
 module _ (ms : List ℕ) where
   found : (c b : ℕ) → b + c ≡ length ms → (HasLawful ms → ⊥) → ((n : ℕ) → n < b → HasLawful (prefix n ms)) → Breach ms (leastFrom ms c b)
   unfolding leastFrom
@@ -132,10 +137,10 @@ module _ (ms : List ℕ) where
   pub only-breach : (m : ℕ) → suc m ≤ length ms → HasLawful (prefix m ms) → (HasLawful (prefix (suc m) ms) → ⊥) → breachMinute ms ≡ suc m
   only-breach m h l n = breach-at ms m l (is-none (prefix (suc m) ms) n) h
 
-  -- and the empty stretch has one, so a breach comes after it
-  pub breach-after : (HasLawful ms → ⊥) → HasLawful [] → (m : ℕ) × (breachMinute ms ≡ suc m)
-  breach-after h l = at (breachMinute ms) (breach-is h)
+  -- and it is no minute 0, since the empty stretch has one
+  pub breach-after : (HasLawful ms → ⊥) → (m : ℕ) × (breachMinute ms ≡ suc m)
+  breach-after h = at (breachMinute ms) (breach-is h)
     where
       at : (b : ℕ) → Breach ms b → (m : ℕ) × (b ≡ suc m)
-      at zero k = absurd (k .none-there l)
+      at zero k = absurd (k .none-there empty-lawful)
       at (suc m) k = (m, refl)
