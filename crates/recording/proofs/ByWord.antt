@@ -6,10 +6,9 @@ use mathlib.Core.List.{List, [], _∷_, _++_}
 use Prim.Native.Nat.{ℕ, zero, suc, _+_, _-_, _*_, _/_, _%_, _≤_, _<_, min, zero-le}
 use native.Mathlib.Nat.{le-refl}
 use native.Mathlib.Omega.{arith}
-use lib.Dec.{leb, ltb}
 use lib.ListN.{length, take, drop, replicate, length-append, length-replicate}
-use lib.Seq.{slice, take-append-add}
-use borrow.Author.Tests.{leb-true, leb-false, le-ltb}
+use lib.Seq.{slice}
+use borrow.Author.Tests.{le-ltb}
 use Rattle.recording.specs.Tests.{pick, one, keep}
 use Rattle.recording.specs.Words.{activities, wordOf, minutesIn, activityIn, minutesOf, isDriving, drivingTime}
 use Rattle.recording.specs.Rests.{withRest, endFrom, judgedEnd, closedFrom, isLong, longRests}
@@ -175,32 +174,31 @@ driving-by ws d =
     driving-less (d .start) (d .end) (minutesOf ws)
     ∙ ap₂ (λ (x y : ℕ). x - y) (driving-up-to (d .end) ws) (driving-up-to (d .start) ws)
 
--- ---- a stretch: the words of the first m minutes
+-- ---- a stretch: the words of the first m minutes, those past it with none
 unfoldable pub cutAt : ℕ → List ℕ → List ℕ
 cutAt m [] = []
-cutAt m (w ∷ ws) = pick (leb (minutesIn w) m) (w ∷ cutAt (m - minutesIn w) ws) (wordOf m (activityIn w) ∷ [])
+cutAt m (w ∷ ws) = wordOf (min m (minutesIn w)) (activityIn w) ∷ cutAt (m - minutesIn w) ws
 
-take-run : (m n a : ℕ) (ms : List ℕ) → m ≤ n → take m (replicate n a ++ ms) ≡ replicate m a ++ []
-take-run zero n a ms h = refl
-take-run (suc m) zero a ms h = absurd (omega arith)
-take-run (suc m) (suc n) a ms h = ap (λ (l : List ℕ). a ∷ l) (take-run m n a ms (omega arith))
-
-past-run : (m n a : ℕ) (ms : List ℕ) → n ≤ m → take m (replicate n a ++ ms) ≡ replicate n a ++ take (m - n) ms
-past-run m n a ms h =
-    let e : m ≡ length (replicate n a) + (m - n) = rw length-replicate (omega arith) in
-    at (λ x. take x (replicate n a ++ ms)) e ∙ take-append-add (replicate n a) ms (m - n)
+pub take-run : (m n a : ℕ) (ms : List ℕ) → take m (replicate n a ++ ms) ≡ replicate (min m n) a ++ take (m - n) ms
+take-run m zero a ms =
+    let e : m ≡ m - 0 = omega arith in
+    let z : 0 ≡ min m 0 = omega arith in
+    ap₂ (λ (x y : ℕ). replicate x a ++ take y ms) z e
+take-run zero (suc n) a ms =
+    let e : 0 ≡ 0 - suc n = omega arith in
+    let z : 0 ≡ min 0 (suc n) = omega arith in
+    ap₂ (λ (x y : ℕ). replicate x a ++ take y ms) z e
+take-run (suc m) (suc n) a ms =
+    let e : m - n ≡ suc m - suc n = omega arith in
+    let z : suc (min m n) ≡ min (suc m) (suc n) = omega arith in
+    ap (λ (l : List ℕ). a ∷ l) (take-run m n a ms) ∙ ap₂ (λ (x y : ℕ). replicate x a ++ take y ms) z e
 
 pub cut-at : (m : ℕ) (ws : List ℕ) → minutesOf (cutAt m ws) ≡ take m (minutesOf ws)
 unfolding minutesOf cutAt
 cut-at zero [] = refl
 cut-at (suc m) [] = refl
-cut-at m (w ∷ ws) = go (leb (minutesIn w) m) refl (cut-at (m - minutesIn w) ws)
-  where
-    go : (b : Bool) → leb (minutesIn w) m ≡ b → minutesOf (cutAt (m - minutesIn w) ws) ≡ take (m - minutesIn w) (minutesOf ws)
-        → minutesOf (pick b (w ∷ cutAt (m - minutesIn w) ws) (wordOf m (activityIn w) ∷ [])) ≡ take m (replicate (minutesIn w) (activityIn w) ++ minutesOf ws)
-    go true t ih =
-        ap (λ (l : List ℕ). replicate (minutesIn w) (activityIn w) ++ l) ih
-        ∙ sym (past-run m (minutesIn w) (activityIn w) (minutesOf ws) (leb-true (minutesIn w) m t))
-    go false t ih =
-        ap₂ (λ (n x : ℕ). replicate n x ++ []) (minutes-in m (activityIn w) (omega arith)) (activity-in m (activityIn w) (omega arith))
-        ∙ sym (take-run m (minutesIn w) (activityIn w) (minutesOf ws) (omega (arith, leb-false (minutesIn w) m t)))
+cut-at m (w ∷ ws) =
+    ap₂ (λ (n x : ℕ). replicate n x ++ minutesOf (cutAt (m - minutesIn w) ws))
+    (minutes-in (min m (minutesIn w)) (activityIn w) (omega arith)) (activity-in (min m (minutesIn w)) (activityIn w) (omega arith))
+    ∙ ap (λ (l : List ℕ). replicate (min m (minutesIn w)) (activityIn w) ++ l) (cut-at (m - minutesIn w) ws)
+    ∙ sym (take-run m (minutesIn w) (activityIn w) (minutesOf ws))

@@ -46,7 +46,7 @@ pub long-with-rest : (from now : ℕ) (rs : List Span) → keep isLong (withRest
     ≡ pick (leb longRestMinutes (now - from)) (record { start = from; end = now } ∷ keep isLong rs) (keep isLong rs)
 long-with-rest from now rs = long-with (ltb from now) from now rs refl
 
-long-busy : (from now a : ℕ) (ms : List ℕ) → longFrom from now (suc a ∷ ms)
+pub long-busy : (from now a : ℕ) (ms : List ℕ) → longFrom from now (suc a ∷ ms)
     ≡ pick (leb longRestMinutes (now - from)) (record { start = from; end = now } ∷ longFrom (suc now) (suc now) ms) (longFrom (suc now) (suc now) ms)
 unfolding closedFrom
 long-busy from now a ms = long-with-rest from now (closedFrom (suc now) (suc now) ms)

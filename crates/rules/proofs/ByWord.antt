@@ -16,7 +16,8 @@ use Rattle.recording.specs.Rests.{judgedEnd, longRests}
 use Rattle.recording.specs.declared.Span.{Span}
 use Rattle.recording.proofs.ByWord.{judgedEndBy, judged-by, longRestsBy, rests-by, totalBy, total-by, drivingBy, driving-by}
 use Rattle.rules.specs.Broken.{ifNone}
-use Rattle.rules.specs.Fixed.{Driven, cleared, fullBreak, firstPart, secondPart, rested, drove, spellAtMost, keepsSpell, rule1, firstBroken, fixedTest}
+use Rattle.rules.specs.declared.Driven.{Driven}
+use Rattle.rules.specs.Fixed.{cleared, fullBreak, firstPart, secondPart, rested, drove, spellAtMost, keepsSpell, rule1, firstBroken, fixedTest}
 use Rattle.rules.specs.Reading.{entries}
 use Rattle.rules.specs.ReadingRules.{laterTest, readingTest}
 use Rattle.rules.proofs.RestWeekLaws.{insideRest, reading-by-rests}

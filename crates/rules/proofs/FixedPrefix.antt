@@ -19,7 +19,8 @@ use Rattle.recording.specs.declared.Span.{Span}
 use Rattle.recording.proofs.TestLaws.{and-left, and-right, and-both, below-at, at-below}
 use Rattle.recording.proofs.Walks.{judged-mono}
 use Rattle.recording.proofs.LongRests.{Ordered, none, next, restsPast, rests-split, past-ordered}
-use Rattle.rules.specs.Fixed.{Driven, cleared, rested, drove, keepsSpell, spellAtMost, rule1, dayAtMost, extendedDays, extended, rule2, weekAtMost, rule3, fortnightAtMost, rule4, dayLength, endsInTime, rule5, fixedTest}
+use Rattle.rules.specs.declared.Driven.{Driven}
+use Rattle.rules.specs.Fixed.{cleared, rested, drove, keepsSpell, spellAtMost, rule1, dayAtMost, extendedDays, extended, rule2, weekAtMost, rule3, fortnightAtMost, rule4, dayLength, endsInTime, rule5, fixedTest}
 use Rattle.rules.proofs.RuleLaws.{FixedRules, fixed-rules, rules-fixed}
 
 -- ---- days: each day of the stretch begins as one of the whole does, in turn, and ends no later
@@ -97,26 +98,26 @@ module _ (xs ys : List ℕ) where
       let b = and-right _ _ u in
       and-both _ _ (rw p at a) (lt-ltb _ _ (le-trans (ltb-true _ _ b) (driving-in d e p q)))
 
-  prefix1 : rule1 (xs ++ ys) ≡ true → rule1 xs ≡ true
+  pub prefix1 : rule1 (xs ++ ys) ≡ true → rule1 xs ≡ true
   unfolding rule1
   prefix1 t = spell-prefix cleared 0 xs ys t
 
-  prefix2 : rule2 (drivingIn (xs ++ ys)) (weeksOf (xs ++ ys)) (days (xs ++ ys)) ≡ true → rule2 (drivingIn xs) (weeksOf xs) (days xs) ≡ true
+  pub prefix2 : rule2 (drivingIn (xs ++ ys)) (weeksOf (xs ++ ys)) (days (xs ++ ys)) ≡ true → rule2 (drivingIn xs) (weeksOf xs) (days xs) ≡ true
   unfolding rule2
   prefix2 t =
       and-both _ _
       (all-within _ _ (λ d e p q u. keeps dayAtMost (driving-in d e p q) u) prefix-days (and-left _ _ t))
       (each-week _ _ (λ w u. keeps extendedDays (count-within _ _ (extended-in w) prefix-days) u) (and-right _ _ t))
 
-  prefix3 : rule3 (drivingIn (xs ++ ys)) (weeksOf (xs ++ ys)) ≡ true → rule3 (drivingIn xs) (weeksOf xs) ≡ true
+  pub prefix3 : rule3 (drivingIn (xs ++ ys)) (weeksOf (xs ++ ys)) ≡ true → rule3 (drivingIn xs) (weeksOf xs) ≡ true
   unfolding rule3
   prefix3 t = each-week _ _ (λ w u. keeps weekAtMost (week-driving w) u) t
 
-  prefix4 : rule4 (drivingIn (xs ++ ys)) (weeksOf (xs ++ ys)) ≡ true → rule4 (drivingIn xs) (weeksOf xs) ≡ true
+  pub prefix4 : rule4 (drivingIn (xs ++ ys)) (weeksOf (xs ++ ys)) ≡ true → rule4 (drivingIn xs) (weeksOf xs) ≡ true
   unfolding rule4
   prefix4 t = each-week _ _ (λ w u. keeps fortnightAtMost (add-le-add (week-driving w) (week-driving (w + 1))) u) t
 
-  prefix5 : rule5 (days (xs ++ ys)) ≡ true → rule5 (days xs) ≡ true
+  pub prefix5 : rule5 (days (xs ++ ys)) ≡ true → rule5 (days xs) ≡ true
   unfolding rule5
   prefix5 t = all-within _ _ (λ d e p q u. le-leb (d .end) (d .start + dayLength) (omega (arith, leb-true (e .end) (e .start + dayLength) u))) prefix-days t
 

@@ -9,13 +9,10 @@ use Rattle.recording.specs.Words.{isDriving}
 use Rattle.recording.specs.Days.{days, drivingIn}
 use Rattle.recording.specs.Weeks.{week, weekOf, weeksOf}
 use Rattle.recording.specs.declared.Span.{Span}
+use Rattle.rules.specs.declared.Driven.{Driven}
 use Rattle.rules.specs.Broken.{unless}
 
--- Rule 1, article 7. "A driving sum starts at 0." Beside the sum: whether a split break has begun, the document's first part.
-pub record Driven : Type 0 where
-  pub sum : ℕ
-  pub split : Bool
-
+-- Rule 1, article 7. "A driving sum starts at 0." Beside the sum, `split`: whether a split break has begun, the document's first part.
 -- "Clearing forgets the first part."
 abbrev pub cleared : Driven
 cleared = record { sum = 0; split = false }

@@ -1,5 +1,11 @@
 // The rules of driving times and rests, and readings of a recording. What is said of them stands in specs/.
 
+// The driving sum of rule 1, and whether a split break has begun.
+pub struct Driven {
+    pub sum: u32,
+    pub split: bool,
+}
+
 // What a weekly rest is: regular, or reduced by so many minutes.
 pub enum Standing {
     Regular,
