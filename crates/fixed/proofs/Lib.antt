@@ -3,3 +3,5 @@ pub mod Spell
 pub mod DayEnds
 pub mod Rules
 pub mod AccountRight
+pub mod Steps
+pub mod Surveying

@@ -13,6 +13,7 @@ use Rattle.recording.specs.Tests.{pick, one, keep}
 use Rattle.recording.specs.Words.{activities, wordOf, minutesIn, activityIn, minutesOf, isDriving, drivingTime}
 use Rattle.recording.specs.Rests.{withRest, endFrom, judgedEnd, closedFrom, isLong, longRests}
 use Rattle.recording.specs.Days.{drivingIn}
+use Rattle.recording.specs.Scan.{cutAt}
 use Rattle.recording.specs.declared.Span.{Span}
 use Rattle.recording.proofs.WordLaws.{minutes-in, activity-in}
 
@@ -174,11 +175,7 @@ driving-by ws d =
     driving-less (d .start) (d .end) (minutesOf ws)
     ∙ ap₂ (λ (x y : ℕ). x - y) (driving-up-to (d .end) ws) (driving-up-to (d .start) ws)
 
--- ---- a stretch: the words of the first m minutes, those past it with none
-unfoldable pub cutAt : ℕ → List ℕ → List ℕ
-cutAt m [] = []
-cutAt m (w ∷ ws) = wordOf (min m (minutesIn w)) (activityIn w) ∷ cutAt (m - minutesIn w) ws
-
+-- ---- a stretch
 pub take-run : (m n a : ℕ) (ms : List ℕ) → take m (replicate n a ++ ms) ≡ replicate (min m n) a ++ take (m - n) ms
 take-run m zero a ms =
     let e : m ≡ m - 0 = omega arith in

@@ -9,7 +9,7 @@ use lib.Dec.{leb, eqb}
 use lib.ListN.{length, set}
 use Rattle.recording.specs.Tests.{pick, one}
 use Rattle.recording.specs.Answers.{Answer, refused, answered, counted, filled}
-use Rattle.recording.specs.Words.{minutesIn, activityIn}
+use Rattle.recording.specs.Words.{wordOf, minutesIn, activityIn}
 use Rattle.recording.specs.Rests.{longRestMinutes}
 use Rattle.recording.specs.Weeks.{isRest}
 use Rattle.recording.specs.Operations.{listed, written}
@@ -32,6 +32,11 @@ faultIn (total.Minutes n) = 0
 abbrev pub refusalIn : Weighing → ℕ
 refusalIn (weighing.Refused n) = n
 refusalIn (weighing.Weighed m) = 0
+
+-- ---- the words of the first m minutes; those past it have none
+unfoldable pub cutAt : ℕ → List ℕ → List ℕ
+cutAt m [] = []
+cutAt m (w ∷ ws) = wordOf (min m (minutesIn w)) (activityIn w) ∷ cutAt (m - minutesIn w) ws
 
 -- ---- a run of n minutes of the activity a: whether it ends a long rest, and the place after it
 unfoldable pub endsRest : Place → ℕ → ℕ → Bool

@@ -174,7 +174,7 @@ pub fn refusal_of(w: Weighing) -> u32
 }
 
 // Writes v at k if it is wanted and there is such a place.
-fn put_if(s: &mut [u32], wanted: bool, k: u32, v: u32)
+pub fn put_if(s: &mut [u32], wanted: bool, k: u32, v: u32)
     ensures { λ r. ⌜ now (s .exit) ≡ pick wanted (set (now (s .entry)) k v) (now (s .entry)) ⌝ }
 {
     if wanted {

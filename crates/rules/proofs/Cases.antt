@@ -14,7 +14,8 @@ use Rattle.recording.specs.Words.{wordOf, rest, availability, otherWork, drivin
 use Rattle.recording.specs.Rests.{longRests}
 use Rattle.recording.proofs.TestLaws.{and-left, and-right, or-cases}
 use Rattle.recording.specs.declared.Span.{Span}
-use Rattle.recording.proofs.ByWord.{longRestsBy, rests-by, totalBy, total-by, cutAt, cut-at, endBy, closedBy, drivingUpTo}
+use Rattle.recording.proofs.ByWord.{longRestsBy, rests-by, totalBy, total-by, cut-at, endBy, closedBy, drivingUpTo}
+use Rattle.recording.specs.Scan.{cutAt}
 use Rattle.rules.specs.Fixed.{fixedTest}
 use Rattle.rules.specs.Reading.{dailyKind, weeklyKind, entryBytes, readingSize}
 use Rattle.rules.specs.ReadingRules.{readingTest}

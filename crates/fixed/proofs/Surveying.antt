@@ -1,0 +1,191 @@
+-- The walk over the words: what it keeps, and what the fixed test answers at each return. Assumes nothing.
+use mathlib.Core.Path.{_≡_, refl, sym, ap, ap₂, _∙_}
+use mathlib.Core.Bool.{Bool, true, false}
+use mathlib.Core.List.{List, [], _∷_, _++_}
+use Prim.Native.Nat.{ℕ, zero, suc, _+_, _-_, _≤_, _<_, min}
+use native.Mathlib.Numerals.{add-one, sub-one}
+use native.Mathlib.Omega.{arith}
+use lib.Dec.{ltb}
+use lib.ListN.{length, drop, take, getD, set, replicate, length-append, length-replicate, length-take}
+use lib.Seq.{drop-cons, drop-length, take-nil}
+use borrow.Author.Tests.{lt-ltb, le-ltb}
+use Rattle.recording.specs.Tests.{pick}
+use Rattle.recording.specs.Answers.{refused, answered}
+use Rattle.recording.specs.Words.{wordOf, minutesIn, activityIn, minutesOf}
+use Rattle.recording.specs.Operations.{totalAtMost, measured}
+use Rattle.recording.specs.Scan.{cutAt, endsRest, afterRun, origin, placeOf, restAt, writtenFrom}
+use Rattle.recording.specs.declared.Place.{Place}
+use Rattle.recording.specs.declared.Measure.{Measure}
+use Rattle.recording.specs.declared.Span.{Span}
+use Rattle.recording.proofs.WordLaws.{minutes-in, activity-in}
+use Rattle.recording.proofs.ByWord.{take-run}
+use Rattle.recording.proofs.Scanning.{run-sensible}
+use Rattle.recording.proofs.Listing.{measured-is}
+use Rattle.rules.specs.Fixed.{fixedTest}
+use Rattle.rules.specs.Operations.{fixedTested}
+use Rattle.fixed.specs.Account.{minuteAfter, accountFrom, opening}
+use Rattle.fixed.specs.Walk.{Bounded, Ran}
+use Rattle.fixed.specs.declared.Account.{Account}
+use Rattle.fixed.proofs.AccountRight.{account-right}
+
+-- ---- runs of minutes
+pub account-append : (s : Account) (xs ys : List ℕ) → accountFrom s (xs ++ ys) ≡ accountFrom (accountFrom s xs) ys
+unfolding accountFrom
+account-append s [] ys = refl
+account-append s (x ∷ xs) ys = account-append (minuteAfter s x) xs ys
+
+-- n minutes are to come to r, of which left are left from t
+pub record Running (r : Account) (n a left : ℕ) (t : Account) : Type 0 where
+  pub bounded : Bounded t
+  pub room : t .now + left ≤ totalAtMost
+  pub now : t .now + left ≡ n
+  pub same : r ≡ accountFrom t (replicate left a)
+
+pub run-on : {r : Account} {n a left : ℕ} {t u : Account} → Running r n a left t → 0 < left → u ≡ minuteAfter t a → Bounded u → u .now ≡ t .now + 1
+    → Running r n a (left - 1) u
+unfolding accountFrom
+run-on {left = zero} k h e b g = absurd (omega arith)
+run-on {a = a} {left = suc left} k h e b g =
+    let z : suc left - 1 ≡ left = omega arith in
+    rw z (record {
+      bounded = b;
+      room = omega (arith, k .room);
+      now = omega (arith, k .now);
+      same = k .same ∙ ap (λ (x : Account). accountFrom x (replicate left a)) (sym e);
+    })
+
+pub run-done : {s : Account} {n a left : ℕ} {t : Account} → Running (accountFrom s (replicate n a)) (s .now + n) a left t → left ≤ 0 → Ran s a n t
+unfolding accountFrom
+run-done {left = zero} k h = record { is = sym (k .same); bounded = k .bounded; now = omega (arith, k .now) }
+run-done {left = suc left} k h = absurd (omega arith)
+
+-- ---- the walk, at the word i with togo minutes to go
+pub record Walking (ws : List ℕ) (m : ℕ) (p : Place) (s : Account) (togo i : ℕ) : Type 0 where
+  pub within : i ≤ length ws
+  pub from : p .from ≤ p .now
+  pub count : p .count ≤ p .now
+  pub bounded : Bounded s
+  pub same-now : s .now ≡ p .now
+  pub room : p .now + length (minutesOf (drop i ws)) ≤ totalAtMost
+  pub place : placeOf origin (cutAt m ws) ≡ placeOf p (cutAt togo (drop i ws))
+  pub account : accountFrom opening (take m (minutesOf ws)) ≡ accountFrom s (take togo (minutesOf (drop i ws)))
+
+opening-bounded : Bounded opening
+opening-bounded = record {
+  from = omega arith;
+  sum = omega arith;
+  start = omega arith;
+  driving = omega arith;
+  extended = omega arith;
+  end = omega arith;
+  weekly = omega arith;
+  last = omega arith;
+}
+
+pub start-walking : (ws : List ℕ) (m : ℕ) → length (minutesOf ws) ≤ totalAtMost → Walking ws m origin opening m 0
+start-walking ws m h = record {
+  within = omega arith;
+  from = omega arith;
+  count = omega arith;
+  bounded = opening-bounded;
+  same-now = refl;
+  room = omega arith;
+  place = refl;
+  account = refl;
+}
+
+module _ {ws : List ℕ} {m : ℕ} {p : Place} {s : Account} {togo i : ℕ} (k : Walking ws m p s togo i) (h : i < length ws) where
+  left-there : length (minutesOf (drop i ws)) ≡ minutesIn (getD ws i 0) + length (minutesOf (drop (i + 1) ws))
+  unfolding minutesOf
+  left-there = rw (drop-cons ws i 0, add-one, length-append, length-replicate) refl
+
+  cut-there : cutAt togo (drop i ws) ≡ wordOf (min togo (minutesIn (getD ws i 0))) (activityIn (getD ws i 0)) ∷ cutAt (togo - minutesIn (getD ws i 0)) (drop (i + 1) ws)
+  unfolding cutAt
+  cut-there = rw (drop-cons ws i 0, add-one) refl
+
+  taken-there : take togo (minutesOf (drop i ws))
+      ≡ replicate (min togo (minutesIn (getD ws i 0))) (activityIn (getD ws i 0)) ++ take (togo - minutesIn (getD ws i 0)) (minutesOf (drop (i + 1) ws))
+  unfolding minutesOf
+  taken-there =
+      ap (λ (l : List ℕ). take togo (minutesOf l)) (drop-cons ws i 0 h)
+      ∙ take-run togo (minutesIn (getD ws i 0)) (activityIn (getD ws i 0)) (minutesOf (drop (suc i) ws))
+      ∙ ap (λ (x : ℕ). replicate (min togo (minutesIn (getD ws i 0))) (activityIn (getD ws i 0)) ++ take (togo - minutesIn (getD ws i 0)) (minutesOf (drop x ws))) (sym (add-one i))
+
+  cut-minutes : minutesIn (wordOf (min togo (minutesIn (getD ws i 0))) (activityIn (getD ws i 0))) ≡ min togo (minutesIn (getD ws i 0))
+  cut-minutes = minutes-in (min togo (minutesIn (getD ws i 0))) (activityIn (getD ws i 0)) (omega arith)
+
+  cut-activity : activityIn (wordOf (min togo (minutesIn (getD ws i 0))) (activityIn (getD ws i 0))) ≡ activityIn (getD ws i 0)
+  cut-activity = activity-in (min togo (minutesIn (getD ws i 0))) (activityIn (getD ws i 0)) (omega arith)
+
+  module _ {n : ℕ} (is-n : n ≡ min togo (minutesIn (getD ws i 0))) where
+    pub run-room : p .now + n ≤ totalAtMost
+    run-room = omega (arith, k .room, left-there)
+
+    pub account-room : s .now + n ≤ totalAtMost
+    account-room = omega (arith, run-room, k .same-now)
+
+    pub walk-on : {q : Place} {t : Account} → q ≡ afterRun p (activityIn (getD ws i 0)) n → Ran s (activityIn (getD ws i 0)) n t → Walking ws m q t (togo - n) (i + 1)
+    unfolding placeOf
+    walk-on {q} {t} e r =
+        let g = run-sensible p (activityIn (getD ws i 0)) n (k .from) (k .count) in
+        let z : togo - minutesIn (getD ws i 0) ≡ togo - n = omega arith in
+        record {
+          within = omega arith;
+          from = rw e (g .from);
+          count = rw e (g .count);
+          bounded = r .bounded;
+          same-now = omega (arith, r .now, k .same-now, ap (λ (x : Place). x .now) e, g .now);
+          room = omega (arith, k .room, left-there, ap (λ (x : Place). x .now) e, g .now);
+          place =
+              k .place ∙ ap (placeOf p) cut-there
+              ∙ ap₂ (λ (a x : ℕ). placeOf (afterRun p a x) (cutAt (togo - minutesIn (getD ws i 0)) (drop (i + 1) ws))) cut-activity (cut-minutes ∙ sym is-n)
+              ∙ ap₂ (λ (x : Place) (y : ℕ). placeOf x (cutAt y (drop (i + 1) ws))) (sym e) z;
+          account =
+              k .account ∙ ap (accountFrom s) taken-there ∙ account-append s _ _
+              ∙ ap (λ (x : ℕ). accountFrom (accountFrom s (replicate x (activityIn (getD ws i 0)))) (take (togo - minutesIn (getD ws i 0)) (minutesOf (drop (i + 1) ws)))) (sym is-n)
+              ∙ ap₂ (λ (x : Account) (y : ℕ). accountFrom x (take y (minutesOf (drop (i + 1) ws)))) (sym (r .is)) z;
+        }
+
+    pub write-on : (f : Span → ℕ) (out : List ℕ) {q : Place} {b : Bool} {out′ : List ℕ} → q ≡ afterRun p (activityIn (getD ws i 0)) n
+        → b ≡ endsRest p (activityIn (getD ws i 0)) n → out′ ≡ pick b (set out (p .count) (f (restAt p))) out
+        → writtenFrom f p (cutAt togo (drop i ws)) out ≡ writtenFrom f q (cutAt (togo - n) (drop (i + 1) ws)) out′
+    unfolding writtenFrom
+    write-on f out e t g =
+        let z : togo - minutesIn (getD ws i 0) ≡ togo - n = omega arith in
+        ap (λ (l : List ℕ). writtenFrom f p l out) cut-there
+        ∙ ap₂ (λ (a x : ℕ). writtenFrom f (afterRun p a x) (cutAt (togo - minutesIn (getD ws i 0)) (drop (i + 1) ws)) (pick (endsRest p a x) (set out (p .count) (f (restAt p))) out))
+        cut-activity (cut-minutes ∙ sym is-n)
+        ∙ ap₂ (λ (x : Place) (y : ℕ). writtenFrom f x (cutAt y (drop (i + 1) ws)) (pick (endsRest p (activityIn (getD ws i 0)) n) (set out (p .count) (f (restAt p))) out)) (sym e) z
+        ∙ ap (writtenFrom f _ (cutAt (togo - n) (drop (i + 1) ws))) (ap (λ (x : Bool). pick x (set out (p .count) (f (restAt p))) out) (sym t) ∙ sym g)
+
+module _ {ws : List ℕ} {m : ℕ} {p : Place} {s : Account} {togo i : ℕ} (k : Walking ws m p s togo i) (h : i ≡ length ws) where
+  none-left : cutAt togo (drop i ws) ≡ []
+  unfolding cutAt
+  none-left = rw (h, drop-length) refl
+
+  pub walk-place : p ≡ placeOf origin (cutAt m ws)
+  unfolding placeOf
+  walk-place = sym (k .place ∙ rw none-left refl)
+
+  pub walk-account : s ≡ accountFrom opening (take m (minutesOf ws))
+  unfolding accountFrom minutesOf
+  walk-account = sym (k .account ∙ rw (h, drop-length, take-nil) refl)
+
+  pub write-done : (f : Span → ℕ) (out : List ℕ) → writtenFrom f p (cutAt togo (drop i ws)) out ≡ out
+  unfolding writtenFrom
+  write-done f out = rw none-left refl
+
+-- ---- the fixed test
+module _ (ws : List ℕ) (m : ℕ) where
+  pub test-refused : {n : ℕ} → measured ws ≡ refused n → refused n ≡ fixedTested ws m
+  unfolding fixedTested
+  test-refused e = rw e
+
+  pub test-past : {k : Measure} → measured ws ≡ answered k → k .total < m → refused 5 ≡ fixedTested ws m
+  unfolding fixedTested
+  test-past {k} e h = rw (e, lt-ltb (k .total) m h) refl
+
+  pub test-done : {k : Measure} {s : Account} → measured ws ≡ answered k → m ≤ k .total → s ≡ accountFrom opening (take m (minutesOf ws)) → answered (s .rule) ≡ fixedTested ws m
+  unfolding fixedTested
+  test-done {k} {s} e h q =
+      rw (e, le-ltb (k .total) m h) (ap answered (ap (λ (x : Account). x .rule) q ∙ account-right (take m (minutesOf ws)) .rule))

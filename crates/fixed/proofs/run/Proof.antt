@@ -1,0 +1,42 @@
+-- `fixed::run` meets its contract. Assumes nothing.
+use mathlib.Core.Path.{refl}
+use native.Mathlib.Omega.{arith}
+use borrow.Author.Needs.{needs}
+use Prim.Native.Nat.{_+_, _-_}
+use lib.ListN.{replicate}
+use Rattle.fixed.specs.Account.{accountFrom}
+use Rattle.fixed.proofs.Steps.{minute-bounded, minute-now}
+use Rattle.fixed.proofs.Surveying.{Running, run-on, run-done}
+use Rattle.fixed.proofs.run.Statement.{statement}
+use Rattle.fixed.proofs.run.Tie as tie
+
+abbrev Inv-loop : tie.InvT-loop
+Inv-loop activity n t₀ left₀ t left = Running (accountFrom t₀ (replicate left₀ activity)) (t₀ .now + left₀) activity left t
+
+abbrev μ-loop : tie.MeasureT-loop
+μ-loop activity n t₀ left₀ t left = left
+
+loop-holds : tie.Need-loop-holds Inv-loop μ-loop
+loop-holds c = record { bounded = c .pre .0; room = c .pre .1; now = refl; same = refl }
+
+minute-requires : tie.Need-minute-requires Inv-loop μ-loop
+minute-requires c κs = (c .before .loop .inv .bounded, omega arith)
+
+loop-again : tie.Need-loop-again Inv-loop μ-loop
+loop-again c = run-on (c .before .before .loop .inv) (omega arith) (c .minute .ensures) (rw (c .minute .ensures) (minute-bounded _ (c .before .before .loop .inv .bounded) _)) (rw (c .minute .ensures) (minute-now _ _))
+
+returns : tie.Need-returns Inv-loop μ-loop
+returns c = run-done (c .before .loop .inv) (omega arith)
+
+pub run-spec : {M : Type 1} → statement M
+run-spec =
+    tie.close
+    (tie.spec
+    Inv-loop
+    μ-loop
+    loop-holds
+    (λ c. search needs)
+    minute-requires
+    (λ c. search needs)
+    loop-again
+    returns)
