@@ -8,8 +8,8 @@ use Prim.Native.Nat.{ℕ, zero, suc, _+_, _-_, _*_, _/_, _≤_, _<_, zero-le}
 use native.Mathlib.Nat.{le-refl, le-trans}
 use native.Mathlib.Omega.{arith}
 use lib.Dec.{leb, ltb, eqb, eqb·suc-zero}
-use lib.ListN.{length, take}
-use lib.Seq.{append-snoc, take-append-le, take-append-seam, take-all}
+use lib.ListN.{length, take, drop, take-append-drop}
+use lib.Seq.{append-snoc, take-append-le, take-append-seam, take-all, take-take}
 use borrow.Author.Tests.{leb-true, leb-false, le-leb, lt-leb, ltb-true, ltb-false, lt-ltb, le-ltb, eqb-true, eqb-false, eq-eqb, ne-eqb}
 use Rattle.recording.specs.Tests.{_and_, pick, one, countOf}
 use Rattle.recording.specs.Words.{isDriving, drivingTime}
@@ -22,6 +22,7 @@ use Rattle.rules.specs.Broken.{unless}
 use Rattle.rules.specs.Fixed.{cleared, rested, drove, ordinaryDay, extended, firstBroken, fixedTest}
 use Rattle.rules.specs.Opened.{opened as rulesOpened}
 use Rattle.rules.specs.declared.Driven.{Driven}
+use Rattle.rules.proofs.FixedPrefix.{fixed-prefix}
 use Rattle.fixed.specs.declared.Day.{Day}
 use Rattle.fixed.specs.declared.Week.{Week}
 use Rattle.fixed.specs.declared.Break.{Break}
@@ -411,3 +412,31 @@ right-none = record {
 -- THE LAW
 pub account-right : (ms : List ℕ) → Right ms (accountFrom opening ms)
 account-right ms = right-on [] ms opening right-none
+
+-- ---- the first minute at which the fixed test of a stretch is not 0
+pub record Least (ms : List ℕ) (f : Break) : Type 0 where
+  pub none-broken : f .rule ≡ 0 → (m : ℕ) → fixedTest (take m ms) ≡ 0
+  pub there : (f .rule ≡ 0 → ⊥) → fixedTest (take (f .at) ms) ≡ f .rule
+  pub before : (f .rule ≡ 0 → ⊥) → (m : ℕ) → m < f .at → fixedTest (take m ms) ≡ 0
+
+prefix-zero : (ms : List ℕ) (m n : ℕ) → m ≤ n → fixedTest (take n ms) ≡ 0 → fixedTest (take m ms) ≡ 0
+prefix-zero ms m n h e =
+    let whole : fixedTest (take m (take n ms) ++ drop m (take n ms)) ≡ 0 = rw (take-append-drop m (take n ms)) e in
+    rw (take-take m n ms h) at (fixed-prefix (take m (take n ms)) (drop m (take n ms)) whole)
+
+least : (ms : List ℕ) (f : Break) → First ms f → Least ms f
+least ms f (unbroken z e) = record {
+  none-broken = λ q m.
+      let whole : fixedTest (take m ms ++ drop m ms) ≡ 0 = rw (take-append-drop m ms) e in
+      fixed-prefix (take m ms) (drop m ms) whole;
+  there = λ q. absurd (q z);
+  before = λ q m h. absurd (q z);
+}
+least ms f (broken n e h p q r) = record {
+  none-broken = λ z. absurd (r z);
+  there = λ z. ap (λ (m : ℕ). fixedTest (take m ms)) e ∙ q;
+  before = λ z m l. prefix-zero ms m n (omega arith) p;
+}
+
+pub first-least : (ms : List ℕ) → Least ms (accountFrom opening ms .first)
+first-least ms = least ms _ (account-right ms .first)
