@@ -34,10 +34,10 @@ use Rattle.fixed.proofs.DayEnds.{span, lastEnd, dayStart, daysDone, day
 use Rattle.fixed.proofs.Rules.{extendedIn, none-extended, weekBefore, count-one, driving-rest, up-to-rest, extended-rest, rule2-rest, rule3-rest, rule4-rest, rule5-rest, running, extended-busy, rule2-busy, rule5-busy, rule3-busy, rule4-busy}
 
 -- ---- the smaller of two broken rules: each is 0 or past the rules that are read before it
-abbrev Past : ℕ → ℕ → Type 0
+abbrev pub Past : ℕ → ℕ → Type 0
 Past n x = (x ≡ 0) ⊎ (n < x)
 
-past-unless : (m n : ℕ) (b : Bool) (x : ℕ) → m < n → Past n x → Past m (unless b n x)
+pub past-unless : (m n : ℕ) (b : Bool) (x : ℕ) → m < n → Past n x → Past m (unless b n x)
 past-unless m n true x h (inl e) = inl e
 past-unless m n true x h (inr l) = inr (omega arith)
 past-unless m n false x h p = inr h
@@ -52,7 +52,7 @@ smaller-second n zero p = refl
 smaller-second n (suc x) (inl e) = absurd (omega arith)
 smaller-second n (suc x) (inr l) = rw (lt-leb x n (omega arith)) refl
 
-unless-both : (n : ℕ) (r t : Bool) (x y z : ℕ) → Past (suc n) x → Past (suc n) y → z ≡ smaller x y
+pub unless-both : (n : ℕ) (r t : Bool) (x y z : ℕ) → Past (suc n) x → Past (suc n) y → z ≡ smaller x y
     → unless (r and t) (suc n) z ≡ smaller (unless r (suc n) x) (unless t (suc n) y)
 unfolding _and_
 unless-both n true true x y z p q e = e

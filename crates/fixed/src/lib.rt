@@ -308,7 +308,8 @@ pub fn run(s: Account, activity: u32, n: u32) -> Account
     t
 }
 
-fn lesser(a: u32, b: u32) -> u32
+// The lesser of two numbers.
+pub fn lesser(a: u32, b: u32) -> u32
     ensures { λ r. ⌜ r ≡ min a b ⌝ }
 {
     if a < b {

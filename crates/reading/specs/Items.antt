@@ -3,19 +3,26 @@
 use mathlib.Core.Path.{_≡_}
 use mathlib.Core.Bool.{Bool, true, false, not}
 use mathlib.Core.List.{List, [], _∷_}
-use Prim.Native.Nat.{ℕ, zero, suc, _+_, _-_, _*_, _≤_}
-use lib.Dec.{leb}
-use lib.ListN.{length, getD}
-use Rattle.recording.specs.Tests.{_and_, _or_, pick, one}
+use Prim.Native.Nat.{ℕ, zero, suc, _+_, _-_, _*_, _≤_, _<_}
+use lib.Dec.{leb, ltb, eqb}
+use lib.ListN.{length, getD, set}
+use Rattle.recording.specs.Tests.{_and_, _or_, pick, one, allOf, countOf}
+use Rattle.recording.specs.Rests.{longRestsAtMost}
 use Rattle.recording.specs.Operations.{totalAtMost}
+use Rattle.recording.specs.Weeks.{weekStart}
 use Rattle.recording.specs.declared.Span.{Span}
 use Rattle.rules.specs.Broken.{unless}
-use Rattle.rules.specs.Reading.{Entry, asRead, isWeekly}
-use Rattle.rules.specs.ReadingRules.{longEnough, compensated, shortened, shortenedAtMost, inGap}
+use Rattle.rules.specs.Reading.{Entry, asRead, isWeekly, isRegular, entryBytes}
+use Rattle.rules.specs.ReadingRules.{leastNet, rule7, weeksToCompensate, compensated, shortened, shortenedAtMost, rule9From, inGap, rule10From, ofKind}
 use Rattle.rules.specs.declared.Kind.{Kind}
+use Rattle.rules.specs.declared.Kind.the-variants.{Daily, Weekly}
+use Rattle.rules.specs.declared.Standing.the-variants.{Regular, Reduced}
 use Rattle.fixed.specs.Account.{smaller}
 use Rattle.reading.specs.declared.Item.{Item}
+use Rattle.reading.specs.declared.LongRest.{LongRest}
 use Rattle.reading.specs.declared.Tally.{Tally}
+use Rattle.reading.specs.declared.Walk.{Walk}
+use Rattle.reading.specs.declared.Walk.the-variants.{TooShort, AllThrough}
 
 -- an item as an entry
 abbrev pub entryBy : Item → Entry
@@ -48,34 +55,110 @@ itemAt starts ends reading loads i = record {
 }
 
 -- an item whose numbers are in bounds
+abbrev pub loadAtMost : ℕ
+loadAtMost = 1000000
+
 pub record Sane (x : Item) : Type 0 where
-  pub number : x .number ≤ totalAtMost
   pub before : x .before ≤ totalAtMost
   pub ordered : x .start ≤ x .end
   pub end : x .end ≤ totalAtMost
   pub week : x .week ≤ 255
-  pub load : x .load ≤ 2700 * totalAtMost
+  pub load : x .load ≤ loadAtMost
 
-abbrev pub kindBy : Item → Kind
-kindBy x = asRead (entryBy x)
+-- ---- an item as a long rest, and the rules of one
+abbrev pub restBy : Item → LongRest
+restBy x = record { start = x .start; end = x .end; kind = asRead (entryBy x) }
 
--- the first k long rests
-unfoldable pub spansOf : List ℕ → List ℕ → ℕ → List Span
-spansOf starts ends zero = []
-spansOf [] ends (suc k) = []
-spansOf (s ∷ starts) [] (suc k) = []
-spansOf (s ∷ starts) (e ∷ ends) (suc k) = record { start = s; end = e } ∷ spansOf starts ends k
+abbrev pub enoughBy : LongRest → ℕ → Bool
+enoughBy r load = leb (leastNet (r .kind) + load) (r .end - r .start)
 
--- rules 7 to 10, an entry more
+abbrev pub endAt : List ℕ → ℕ → ℕ → ℕ
+endAt ends k zero = 0
+endAt ends k (suc i) = pick (ltb i k) (getD ends i 0) 0
+
+abbrev pub timeBy : Kind → ℕ → ℕ → ℕ → ℕ → Bool
+timeBy Daily week carrier end s = true
+timeBy (Weekly Regular) week carrier end s = eqb carrier 0
+timeBy (Weekly (Reduced d)) week carrier end s = pick (eqb carrier 0) (ltb s (weekStart (week + weeksToCompensate))) (leb end (weekStart (week + weeksToCompensate)))
+
+abbrev pub gapBy : ℕ → LongRest → Bool
+gapBy q r = not (isWeekly (r .kind)) or inGap q (r .start)
+
+-- each number of a list is at most n
+abbrev pub Below : ℕ → List ℕ → Type 0
+Below n xs = (i : ℕ) → getD xs i 0 ≤ n
+
+-- ---- rules 8 to 10, an entry more: the carrier ends at `end`, S is s
 unfoldable pub shortAfter : ℕ → Entry → ℕ
 shortAfter n e = pick (isWeekly (asRead e)) 0 (n + one (shortened e))
 
-unfoldable pub tallyAfter : ℕ → List Span → Tally → Entry → Tally
-tallyAfter s rs t e = record {
-  rule =
-      smaller (t .rule)
-      (unless (longEnough e) 7 (unless (compensated s rs e) 8 (unless (leb (shortAfter (t .short) e) shortenedAtMost) 9
-      (unless (not (isWeekly (asRead e)) or inGap (t .last) (e .span .start)) 10 0))));
+unfoldable pub brokenBy : ℕ → ℕ → Tally → Entry → ℕ
+brokenBy s end t e =
+    unless (timeBy (asRead e) (e .week) (e .compensatedBy) end s) 8
+    (unless (leb (shortAfter (t .short) e) shortenedAtMost) 9
+    (unless (not (isWeekly (asRead e)) or inGap (t .last) (e .span .start)) 10 0))
+
+unfoldable pub tallyBy : ℕ → ℕ → Tally → Entry → Tally
+tallyBy s end t e = record {
+  rule = smaller (t .rule) (brokenBy s end t e);
   short = shortAfter (t .short) e;
   last = pick (isWeekly (asRead e)) (e .span .end) (t .last);
 }
+
+-- ---- a payment to a carrier, and a rest counted in its week
+abbrev pub paid : List ℕ → ℕ → ℕ → List ℕ
+paid loads zero d = loads
+paid loads (suc c) d = set loads c (getD loads c 0 + d)
+
+abbrev pub bumped : Bool → List ℕ → ℕ → List ℕ
+bumped true counts w = set counts w (getD counts w 0 + 1)
+bumped false counts w = counts
+
+-- ---- the long rests of index i to k, from their starts and ends
+abbrev pub spanAt : List ℕ → List ℕ → ℕ → Span
+spanAt starts ends i = record { start = getD starts i 0; end = getD ends i 0 }
+
+unfoldable pub spansFrom : List ℕ → List ℕ → ℕ → ℕ → List Span
+spansFrom starts ends i zero = []
+spansFrom starts ends i (suc n) = spanAt starts ends i ∷ spansFrom starts ends (suc i) n
+
+abbrev pub spansIn : List ℕ → List ℕ → ℕ → List Span
+spansIn starts ends k = spansFrom starts ends 0 k
+
+-- they stand in the slices, in order, within the limit
+pub record Laid (starts ends reading loads : List ℕ) (k : ℕ) : Type 0 where
+  pub few : k ≤ longRestsAtMost
+  pub starts-in : k ≤ length starts
+  pub ends-in : k ≤ length ends
+  pub loads-in : k ≤ length loads
+  pub reading-in : length reading ≡ entryBytes * k
+  pub ordered : (i : ℕ) → i < k → getD starts i 0 ≤ getD ends i 0
+  pub limited : (i : ℕ) → getD ends i 0 ≤ totalAtMost
+
+-- all zeros
+abbrev pub Zeros : List ℕ → Type 0
+Zeros xs = (i : ℕ) → getD xs i 0 ≡ 0
+
+-- rules 8 to 10 from a tally on
+unfoldable pub testFrom : ℕ → List Span → Tally → List Entry → ℕ
+testFrom s rs t es =
+    smaller (t .rule)
+    (unless (allOf (compensated s rs) es) 8 (unless (rule9From (t .short) es) 9 (unless (rule10From (t .last) s es) 10 0)))
+
+abbrev pub freshTally : Tally
+freshTally = record { rule = 0; short = 0; last = 0 }
+
+-- what the walk over the rests answers: a rest is too short net of its compensation, or all are through, with what is left of rules 8 to 10 and
+-- the rests counted in each week
+pub record Through (s : ℕ) (rs : List Span) (es : List Entry) (t : Tally) (weekly regular : List ℕ) : Type 0 where
+  pub seven : rule7 es ≡ true
+  pub tally : testFrom s rs freshTally es ≡ testFrom s rs t []
+  pub last : t .last ≤ totalAtMost
+  pub weeklies : (w : ℕ) → w < 256 → getD weekly w 0 ≡ countOf (ofKind isWeekly w) es
+  pub regulars : (w : ℕ) → w < 256 → getD regular w 0 ≡ countOf (ofKind isRegular w) es
+  pub few-weeklies : Below loadAtMost weekly
+  pub few-regulars : Below loadAtMost regular
+
+abbrev pub Walked : ℕ → List Span → List Entry → Walk → List ℕ → List ℕ → Type 0
+Walked s rs es TooShort weekly regular = rule7 es ≡ false
+Walked s rs es (AllThrough t) weekly regular = Through s rs es t weekly regular

@@ -4,15 +4,16 @@ use recording::Weighing;
 use rules::Kind;
 use rules::Standing;
 ghost use mathlib.Core.Path.{_≡_};
-ghost use mathlib.Core.Bool.{true, false};
 ghost use Prim.Native.Nat.{_+_, _*_, _<_, _≤_};
-ghost use lib.ListN.{length, set, getD};
+ghost use lib.ListN.{length};
+ghost use lib.Dec.{leb};
 ghost use Rattle.recording.specs.Tests.{pick};
 ghost use Rattle.recording.specs.Operations.{totalAtMost};
-ghost use Rattle.rules.specs.Reading.{asRead};
-ghost use Rattle.rules.specs.ReadingRules.{formed, compensated, shortened, longEnough, endOf};
+ghost use Rattle.rules.specs.Broken.{unless};
+ghost use Rattle.rules.specs.Reading.{isWeekly, isRegular, reductionOf, entries};
+ghost use Rattle.rules.specs.ReadingRules.{formed, rule6, shortened, shortenedAtMost};
 ghost use Rattle.rules.specs.Operations.{entryAt, entryPart, entryRefusal};
-ghost use Rattle.reading.specs.Items.{entryBy, itemAt, Sane, kindBy, spansOf, tallyAfter};
+ghost use Rattle.reading.specs.Items.{entryBy, endBefore, itemAt, Sane, loadAtMost, Below, restBy, enoughBy, endAt, timeBy, gapBy, shortAfter, tallyBy, paid, bumped, spansIn, Laid, Zeros, Walked};
 
 // A long rest with its entry: its number from 1, the end of the long rest before it or 0, its start and end, its three bytes, and
 // the compensation that it gives, the document's load.
@@ -40,6 +41,12 @@ pub struct Tally {
     pub rule: u32,
     pub short: u32,
     pub last: u32,
+}
+
+// What the walk over the rests finds: one that breaks rule 7, or that all are through.
+pub enum Walk {
+    TooShort,
+    AllThrough(Tally),
 }
 
 const WEEKLY_KIND: u32 = 1;
@@ -104,4 +111,354 @@ pub fn entry_refusal(reading: &[u8], number: usize) -> u32
         return 7;
     }
     0
+}
+
+fn wide(x: u8) -> u32
+    ensures { λ r. ⌜ r ≡ x ⌝ }
+{
+    x as u32
+}
+
+// Where the long rest before the one of index i ends, or 0.
+fn end_before(ends: &[u32], i: usize) -> u32
+    requires { ⌜ i ≤ length (now ends) ⌝ }
+    ensures { λ r. ⌜ r ≡ endBefore (now (ends .entry)) i ⌝ }
+{
+    if i == 0 {
+        return 0;
+    }
+    ends[i - 1]
+}
+
+// The item of index i.
+fn item_at(starts: &[u32], ends: &[u32], reading: &[u8], loads: &[u32], i: usize) -> Item
+    requires { ⌜ (i < 1000) × (i < length (now starts)) × (i < length (now ends)) × (3 * i + 2 < length (now reading)) × (i < length (now loads)) ⌝ }
+    ensures { λ r. ⌜ r ≡ itemAt (now (starts .entry)) (now (ends .entry)) (now (reading .entry)) (now (loads .entry)) i ⌝ }
+{
+    let at = ENTRY_BYTES * i;
+    let week = at + 1;
+    let carrier = at + 2;
+    Item {
+        number: (i + 1) as u32,
+        before: end_before(ends, i),
+        start: starts[i],
+        end: ends[i],
+        kind: wide(reading[at]),
+        week: wide(reading[week]),
+        carrier: wide(reading[carrier]),
+        load: loads[i],
+    }
+}
+
+// A long rest as its entry reads it: daily, regular weekly or reduced weekly with its reduction.
+pub fn as_read(x: Item) -> LongRest
+    requires { ⌜ Sane x ⌝ }
+    ensures { λ r. ⌜ r ≡ restBy x ⌝ }
+{
+    if x.kind != WEEKLY_KIND {
+        return LongRest {
+            start: x.start,
+            end: x.end,
+            kind: Kind::Daily,
+        };
+    }
+    let length = x.end - x.start;
+    let full = REGULAR + x.load;
+    if length < full {
+        return LongRest {
+            start: x.start,
+            end: x.end,
+            kind: Kind::Weekly(Standing::Reduced(full - length)),
+        };
+    }
+    LongRest {
+        start: x.start,
+        end: x.end,
+        kind: Kind::Weekly(Standing::Regular),
+    }
+}
+
+// Rule 6, of an item among k long rests.
+fn formed_item(k: u32, x: Item) -> bool
+    requires { ⌜ Sane x ⌝ }
+    ensures { λ r. ⌜ r ≡ formed k (entryBy x) ⌝ }
+{
+    if x.kind == DAILY_KIND {
+        if x.week != 0 {
+            return false;
+        }
+        return x.carrier == 0;
+    }
+    if x.kind != WEEKLY_KIND {
+        return false;
+    }
+    if x.end - x.start < WEEKLY_LENGTH {
+        return false;
+    }
+    if WEEK_MINUTES * (x.week + 1) <= x.start {
+        return false;
+    }
+    if x.end <= WEEK_MINUTES * x.week {
+        return false;
+    }
+    if x.carrier == 0 {
+        return true;
+    }
+    if x.carrier <= x.number {
+        return false;
+    }
+    x.carrier <= k
+}
+
+// Rule 7: long enough net of the compensation that it gives.
+fn long_enough(r: LongRest, load: u32) -> bool
+    requires { ⌜ (r .start ≤ r .end) × (load ≤ loadAtMost) ⌝ }
+    ensures { λ b. ⌜ b ≡ enoughBy r load ⌝ }
+{
+    let kind = r.kind;
+    match kind {
+        Kind::Daily => DAILY_NET + load <= r.end - r.start,
+        Kind::Weekly(_) => WEEKLY_NET + load <= r.end - r.start,
+    }
+}
+
+// Where the long rest of a number ends, or 0.
+fn end_of(ends: &[u32], k: usize, number: u32) -> u32
+    requires { ⌜ k ≤ length (now ends) ⌝ }
+    ensures { λ r. ⌜ r ≡ endAt (now (ends .entry)) k number ⌝ }
+{
+    if number == 0 {
+        return 0;
+    }
+    let i = (number - 1) as usize;
+    if i < k {
+        return ends[i];
+    }
+    0
+}
+
+// Rule 8: compensated in time, where the carrier ends at `end` and S is s.
+fn in_time(r: LongRest, week: u32, carrier: u32, end: u32, s: u32) -> bool
+    requires { ⌜ week ≤ 255 ⌝ }
+    ensures { λ b. ⌜ b ≡ timeBy (r .kind) week carrier end s ⌝ }
+{
+    let due = WEEK_MINUTES * (week + WEEKS_TO_COMPENSATE);
+    let kind = r.kind;
+    match kind {
+        Kind::Daily => true,
+        Kind::Weekly(standing) => match standing {
+            Standing::Regular => carrier == 0,
+            Standing::Reduced(_) => {
+                if carrier == 0 {
+                    return s < due;
+                }
+                end <= due
+            }
+        },
+    }
+}
+
+// Rule 9: whether a rest is a shortened daily one.
+fn shortened_item(x: Item, r: LongRest) -> bool
+    requires { ⌜ Sane x × (r ≡ restBy x) ⌝ }
+    ensures { λ b. ⌜ b ≡ shortened (entryBy x) ⌝ }
+{
+    let kind = r.kind;
+    match kind {
+        Kind::Daily => {
+            let window = x.before + DAILY_WINDOW + x.load;
+            let full = x.start + FULL_PORTION + x.load;
+            fixed::lesser(x.end, window) < full
+        }
+        Kind::Weekly(_) => false,
+    }
+}
+
+// Rule 9: the shortened daily rests since the last weekly rest, with this one.
+fn short_after(n: u32, x: Item, r: LongRest) -> u32
+    requires { ⌜ Sane x × (r ≡ restBy x) × (n < 1000) ⌝ }
+    ensures { λ b. ⌜ b ≡ shortAfter n (entryBy x) ⌝ }
+{
+    let short = shortened_item(x, r);
+    let kind = r.kind;
+    match kind {
+        Kind::Daily => {
+            if short {
+                return n + 1;
+            }
+            n
+        }
+        Kind::Weekly(_) => 0,
+    }
+}
+
+// Rule 10: where the last weekly rest ended, with this one.
+fn last_after(q: u32, r: LongRest) -> u32
+    ensures { λ b. ⌜ b ≡ pick (isWeekly (r .kind)) (r .end) q ⌝ }
+{
+    let kind = r.kind;
+    match kind {
+        Kind::Daily => q,
+        Kind::Weekly(_) => r.end,
+    }
+}
+
+// Rule 10: whether a rest is daily or starts in time after the last weekly rest.
+fn in_gap(q: u32, r: LongRest) -> bool
+    requires { ⌜ q ≤ totalAtMost ⌝ }
+    ensures { λ b. ⌜ b ≡ gapBy q r ⌝ }
+{
+    let kind = r.kind;
+    match kind {
+        Kind::Daily => true,
+        Kind::Weekly(_) => r.start <= q + WEEKLY_GAP,
+    }
+}
+
+// The smallest of rules 8 to 10 that a rest breaks, or 0.
+fn broken_by(timely: bool, short: u32, near: bool) -> u32
+    ensures { λ b. ⌜ b ≡ unless timely 8 (unless (leb short shortenedAtMost) 9 (unless near 10 0)) ⌝ }
+{
+    if timely {
+        if SHORTENED_AT_MOST < short {
+            return 9;
+        }
+        if near {
+            return 0;
+        }
+        return 10;
+    }
+    8
+}
+
+// Rules 8 to 10 with a rest more, whose carrier ends at `end`.
+fn tally_after(s: u32, end: u32, t: Tally, x: Item, r: LongRest) -> Tally
+    requires { ⌜ Sane x × (r ≡ restBy x) × (t .short < 1000) × (t .last ≤ totalAtMost) ⌝ }
+    ensures { λ b. ⌜ b ≡ tallyBy s end t (entryBy x) ⌝ }
+{
+    let short = short_after(t.short, x, r);
+    let last = last_after(t.last, r);
+    let timely = in_time(r, x.week, x.carrier, end, s);
+    let near = in_gap(t.last, r);
+    Tally {
+        rule: fixed::smaller_of(t.rule, broken_by(timely, short, near)),
+        short: short,
+        last: last,
+    }
+}
+
+// The reduction of a rest, the document's debt.
+fn reduction(r: LongRest) -> u32
+    ensures { λ b. ⌜ b ≡ reductionOf (r .kind) ⌝ }
+{
+    let kind = r.kind;
+    match kind {
+        Kind::Daily => 0,
+        Kind::Weekly(standing) => match standing {
+            Standing::Regular => 0,
+            Standing::Reduced(d) => d,
+        },
+    }
+}
+
+// The reduction d is to be paid back by the rest of number `carrier`, if that is one.
+fn pay(loads: &mut [u32], carrier: u32, d: u32)
+    requires { ⌜ (d ≤ loadAtMost) × Below loadAtMost (now loads) ⌝ }
+    ensures { λ r. ⌜ now (loads .exit) ≡ paid (now (loads .entry)) carrier d ⌝ }
+{
+    if carrier == 0 {
+        return;
+    }
+    let at = (carrier - 1) as usize;
+    if at < loads.len() {
+        loads[at] = loads[at] + d;
+    }
+}
+
+// One rest more is counted in a week.
+fn bump(wanted: bool, counts: &mut [u32], week: u32)
+    requires { ⌜ Below loadAtMost (now counts) ⌝ }
+    ensures { λ r. ⌜ now (counts .exit) ≡ bumped wanted (now (counts .entry)) week ⌝ }
+{
+    if wanted {
+        let at = week as usize;
+        if at < counts.len() {
+            counts[at] = counts[at] + 1;
+        }
+    }
+}
+
+fn is_weekly(r: LongRest) -> bool
+    ensures { λ b. ⌜ b ≡ isWeekly (r .kind) ⌝ }
+{
+    let kind = r.kind;
+    match kind {
+        Kind::Daily => false,
+        Kind::Weekly(_) => true,
+    }
+}
+
+fn is_regular(r: LongRest) -> bool
+    ensures { λ b. ⌜ b ≡ isRegular (r .kind) ⌝ }
+{
+    let kind = r.kind;
+    match kind {
+        Kind::Daily => false,
+        Kind::Weekly(standing) => match standing {
+            Standing::Regular => true,
+            Standing::Reduced(_) => false,
+        },
+    }
+}
+
+// Rule 6 of all long rests.
+fn form_test(starts: &[u32], ends: &[u32], reading: &[u8], loads: &[u32], k: usize) -> bool
+    requires { ⌜ Laid (now starts) (now ends) (now reading) (now loads) k × Zeros (now loads) ⌝ }
+    ensures { λ r. ⌜ r ≡ rule6 k (entries (spansIn (now (starts .entry)) (now (ends .entry)) k) (now (reading .entry))) ⌝ }
+{
+    let mut i = 0;
+    while i < k {
+        let x = item_at(starts, ends, reading, loads, i);
+        i += 1;
+        if !formed_item(k as u32, x) {
+            return false;
+        }
+    }
+    true
+}
+
+// Rules 7 to 10, and the rests counted in each week, in one walk over the long rests. What each compensates for is summed in
+// `loads` as the walk goes.
+fn rest_walk(
+    starts: &[u32],
+    ends: &[u32],
+    reading: &[u8],
+    loads: &mut [u32],
+    weekly: &mut [u32],
+    regular: &mut [u32],
+    k: usize,
+    s: u32,
+) -> Walk
+    requires { ⌜ Laid (now starts) (now ends) (now reading) (now loads) k × Zeros (now loads) × Zeros (now weekly) × Zeros (now regular) × (length (now weekly) ≡ 256) × (length (now regular) ≡ 256) ⌝ }
+    ensures { λ r. ⌜ Walked s (spansIn (now (starts .entry)) (now (ends .entry)) k) (entries (spansIn (now (starts .entry)) (now (ends .entry)) k) (now (reading .entry))) r (now (weekly .exit)) (now (regular .exit)) ⌝ }
+{
+    let mut t = Tally {
+        rule: 0,
+        short: 0,
+        last: 0,
+    };
+    let mut i = 0;
+    while i < k {
+        let x = item_at(starts, ends, reading, loads, i);
+        i += 1;
+        let r = as_read(x);
+        if !long_enough(r, x.load) {
+            return Walk::TooShort;
+        }
+        t = tally_after(s, end_of(ends, k, x.carrier), t, x, r);
+        bump(is_weekly(r), weekly, x.week);
+        bump(is_regular(r), regular, x.week);
+        pay(loads, x.carrier, reduction(r));
+    }
+    Walk::AllThrough(t)
 }
