@@ -1,3 +1,4 @@
 pub mod ItemLaws
 pub mod WalkLaws
 pub mod TallyLaws
+pub mod PairLaws

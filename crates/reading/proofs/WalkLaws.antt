@@ -122,16 +122,16 @@ module _ (starts ends reading : List ℕ) (k : ℕ) where
   form-done {i} f h = sym (f .same ∙ ap (allOf (formed k)) (left-none (f .earlier) i h))
 
 -- ---- an item's numbers are in bounds
-end-before-most : (ends : List ℕ) → ((i : ℕ) → getD ends i 0 ≤ totalAtMost) → (i : ℕ) → endBefore ends i ≤ totalAtMost
-end-before-most ends f zero = omega arith
-end-before-most ends f (suc i) = f i
+end-before-most : (ends : List ℕ) (k : ℕ) → ((i : ℕ) → i < k → getD ends i 0 ≤ totalAtMost) → (i : ℕ) → i < k → endBefore ends i ≤ totalAtMost
+end-before-most ends k f zero h = omega arith
+end-before-most ends k f (suc i) h = f i (omega arith)
 
 pub sane-item : (starts ends reading loads : List ℕ) (k i : ℕ) → Laid starts ends reading loads k → ((j : ℕ) → getD reading j 0 < 256) → i < k → getD loads i 0 ≤ loadAtMost
     → Sane (itemAt starts ends reading loads i)
 sane-item starts ends reading loads k i l b h g = record {
-  before = end-before-most ends (l .limited) i;
+  before = end-before-most ends k (l .limited) i h;
   ordered = l .ordered i h;
-  end = l .limited i;
+  end = l .limited i h;
   week = omega (arith, b (3 * i + 1));
   load = g;
 }
@@ -292,7 +292,7 @@ module _ (starts ends reading : List ℕ) (k s : ℕ) where
               ∙ ap (λ (y : Tally). testFrom s (spansIn starts ends k) y (left starts ends reading k (i + 1) (this ∷ w .earlier)))
               (sym (qt ∙ ap₂ (λ (e : ℕ) (y : Entry). tallyBy s e t y) (qe ∙ end-of-spans starts ends k (x .carrier) ∙ ap (endOf (spansIn starts ends k)) carried) here-item));
           short = omega (arith, ap (λ (y : Tally). y .short) qt, short-on s end t (entryBy x), w .short);
-          last = le-trans (le-of-eq (ap (λ (y : Tally). y .last) qt)) (last-on s end t (entryBy x) (w .laid .limited i) (w .last));
+          last = le-trans (le-of-eq (ap (λ (y : Tally). y .last) qt)) (last-on s end t (entryBy x) (w .laid .limited i h) (w .last));
           weeklies = λ v l. bump-on isWeekly weekly weekly′ (r .kind) (x .week) v kind wk (w .weekly-size) l qw (w .weeklies v l);
           regulars = λ v l. bump-on isRegular regular regular′ (r .kind) (x .week) v kind wk (w .regular-size) l qg (w .regulars v l);
           few-weeklies = λ j. omega (arith, ap (λ (y : List ℕ). getD y j 0) qw, bumped-below (isWeekly (r .kind)) weekly (x .week) i (w .few-weeklies) j);

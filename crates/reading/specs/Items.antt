@@ -6,14 +6,14 @@ use mathlib.Core.List.{List, [], _∷_}
 use Prim.Native.Nat.{ℕ, zero, suc, _+_, _-_, _*_, _≤_, _<_}
 use lib.Dec.{leb, ltb, eqb}
 use lib.ListN.{length, getD, set}
-use Rattle.recording.specs.Tests.{_and_, _or_, pick, one, allOf, countOf}
+use Rattle.recording.specs.Tests.{_and_, _or_, pick, one, allOf, anyOf, allBelow, countOf}
 use Rattle.recording.specs.Rests.{longRestsAtMost}
 use Rattle.recording.specs.Operations.{totalAtMost}
-use Rattle.recording.specs.Weeks.{weekStart}
+use Rattle.recording.specs.Weeks.{weekStart, week, weekOf, inside}
 use Rattle.recording.specs.declared.Span.{Span}
 use Rattle.rules.specs.Broken.{unless}
 use Rattle.rules.specs.Reading.{Entry, asRead, isWeekly, isRegular, entryBytes}
-use Rattle.rules.specs.ReadingRules.{leastNet, rule7, weeksToCompensate, compensated, shortened, shortenedAtMost, rule9From, inGap, rule10From, ofKind}
+use Rattle.rules.specs.ReadingRules.{leastNet, rule7, weeksToCompensate, compensated, shortened, shortenedAtMost, rule9From, inGap, rule10From, ofKind, weeklyAtLeast, regularAtLeast}
 use Rattle.rules.specs.declared.Kind.{Kind}
 use Rattle.rules.specs.declared.Kind.the-variants.{Daily, Weekly}
 use Rattle.rules.specs.declared.Standing.the-variants.{Regular, Reduced}
@@ -133,7 +133,7 @@ pub record Laid (starts ends reading loads : List ℕ) (k : ℕ) : Type 0 where
   pub loads-in : k ≤ length loads
   pub reading-in : length reading ≡ entryBytes * k
   pub ordered : (i : ℕ) → i < k → getD starts i 0 ≤ getD ends i 0
-  pub limited : (i : ℕ) → getD ends i 0 ≤ totalAtMost
+  pub limited : (i : ℕ) → i < k → getD ends i 0 ≤ totalAtMost
 
 -- all zeros
 abbrev pub Zeros : List ℕ → Type 0
@@ -162,3 +162,22 @@ pub record Through (s : ℕ) (rs : List Span) (es : List Entry) (t : Tally) (wee
 abbrev pub Walked : ℕ → List Span → List Entry → Walk → List ℕ → List ℕ → Type 0
 Walked s rs es TooShort weekly regular = rule7 es ≡ false
 Walked s rs es (AllThrough t) weekly regular = Through s rs es t weekly regular
+
+-- ---- rule 11 by the counts of each week
+abbrev pub countedBy : (ℕ → Bool) → List ℕ → ℕ → ℕ
+countedBy restWeek counts w = pick (restWeek w) 1 (getD counts w 0)
+
+unfoldable pub enoughWith : (ℕ → Bool) → List ℕ → List ℕ → ℕ → Bool
+enoughWith restWeek weekly regular w =
+    leb weeklyAtLeast (countedBy restWeek weekly w + countedBy restWeek weekly (w + 1)) and
+    leb regularAtLeast (countedBy restWeek regular w + countedBy restWeek regular (w + 1))
+
+unfoldable pub rule11With : (ℕ → Bool) → ℕ → List ℕ → List ℕ → Bool
+rule11With restWeek s weekly regular = allBelow (weekOf s) (λ w. not (leb (weekStart (w + 2)) s) or enoughWith restWeek weekly regular w)
+
+abbrev pub spanOf : ℕ → ℕ → Span
+spanOf start end = record { start = start; end = end }
+
+-- the weeks that lie inside a long rest
+abbrev pub restWeeks : List Span → ℕ → Bool
+restWeeks rs w = anyOf (inside (week w)) rs

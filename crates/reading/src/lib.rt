@@ -5,15 +5,17 @@ use rules::Kind;
 use rules::Standing;
 ghost use mathlib.Core.Path.{_≡_};
 ghost use Prim.Native.Nat.{_+_, _*_, _<_, _≤_};
-ghost use lib.ListN.{length};
+ghost use mathlib.Core.Bool.{not};
+ghost use lib.ListN.{length, getD};
 ghost use lib.Dec.{leb};
-ghost use Rattle.recording.specs.Tests.{pick};
+ghost use Rattle.recording.specs.Tests.{pick, _or_};
+ghost use Rattle.recording.specs.Weeks.{weekStart, week, inside};
 ghost use Rattle.recording.specs.Operations.{totalAtMost};
 ghost use Rattle.rules.specs.Broken.{unless};
 ghost use Rattle.rules.specs.Reading.{isWeekly, isRegular, reductionOf, entries};
 ghost use Rattle.rules.specs.ReadingRules.{formed, rule6, shortened, shortenedAtMost};
 ghost use Rattle.rules.specs.Operations.{entryAt, entryPart, entryRefusal};
-ghost use Rattle.reading.specs.Items.{entryBy, endBefore, itemAt, Sane, loadAtMost, Below, restBy, enoughBy, endAt, timeBy, gapBy, shortAfter, tallyBy, paid, bumped, spansIn, Laid, Zeros, Walked};
+ghost use Rattle.reading.specs.Items.{entryBy, endBefore, itemAt, Sane, loadAtMost, Below, restBy, enoughBy, endAt, timeBy, gapBy, shortAfter, tallyBy, paid, bumped, spansIn, Laid, Zeros, Walked, enoughWith, rule11With, restWeeks, spanOf};
 
 // A long rest with its entry: its number from 1, the end of the long rest before it or 0, its start and end, its three bytes, and
 // the compensation that it gives, the document's load.
@@ -461,4 +463,106 @@ fn rest_walk(
         pay(loads, x.carrier, reduction(r));
     }
     Walk::AllThrough(t)
+}
+
+// Whether the week w lies inside a rest.
+fn holds_week(start: u32, end: u32, w: u32) -> bool
+    requires { ⌜ w < 255 ⌝ }
+    ensures { λ r. ⌜ r ≡ inside (week w) (spanOf start end) ⌝ }
+{
+    if WEEK_MINUTES * w < start {
+        return false;
+    }
+    WEEK_MINUTES * (w + 1) <= end
+}
+
+// Rule 11: whether the week w is one of rest minutes only, inside one of the long rests.
+fn rest_week(starts: &[u32], ends: &[u32], k: usize, w: u32) -> bool
+    requires { ⌜ (k ≤ length (now starts)) × (k ≤ length (now ends)) × (w < 255) ⌝ }
+    ensures { λ r. ⌜ r ≡ restWeeks (spansIn (now (starts .entry)) (now (ends .entry)) k) w ⌝ }
+{
+    let mut i = 0;
+    while i < k {
+        let start = starts[i];
+        let end = ends[i];
+        i += 1;
+        if holds_week(start, end, w) {
+            return true;
+        }
+    }
+    false
+}
+
+// The rests counted in a week: exactly one where it is of rest minutes only.
+fn counted_in(rest: bool, counts: &[u32], w: u32) -> u32
+    requires { ⌜ w < length (now counts) ⌝ }
+    ensures { λ r. ⌜ r ≡ pick rest 1 (getD (now (counts .entry)) w 0) ⌝ }
+{
+    if rest {
+        return 1;
+    }
+    let at = w as usize;
+    counts[at]
+}
+
+// Rule 11 of the weeks w and w + 1.
+fn enough_in(
+    starts: &[u32],
+    ends: &[u32],
+    weekly: &[u32],
+    regular: &[u32],
+    k: usize,
+    w: u32,
+) -> bool
+    requires { ⌜ (k ≤ length (now starts)) × (k ≤ length (now ends)) × (w < 254) × (length (now weekly) ≡ 256) × (length (now regular) ≡ 256) × Below loadAtMost (now weekly) × Below loadAtMost (now regular) ⌝ }
+    ensures { λ r. ⌜ r ≡ enoughWith (restWeeks (spansIn (now (starts .entry)) (now (ends .entry)) k)) (now (weekly .entry)) (now (regular .entry)) w ⌝ }
+{
+    let next = w + 1;
+    let here = rest_week(starts, ends, k, w);
+    let there = rest_week(starts, ends, k, next);
+    if counted_in(here, weekly, w) + counted_in(there, weekly, next) < WEEKLY_AT_LEAST {
+        return false;
+    }
+    REGULAR_AT_LEAST <= counted_in(here, regular, w) + counted_in(there, regular, next)
+}
+
+// Rule 11 of the weeks w and w + 1, if they end by s.
+fn pair_kept(
+    starts: &[u32],
+    ends: &[u32],
+    weekly: &[u32],
+    regular: &[u32],
+    k: usize,
+    s: u32,
+    w: u32,
+) -> bool
+    requires { ⌜ (k ≤ length (now starts)) × (k ≤ length (now ends)) × (w < 254) × (length (now weekly) ≡ 256) × (length (now regular) ≡ 256) × Below loadAtMost (now weekly) × Below loadAtMost (now regular) ⌝ }
+    ensures { λ r. ⌜ r ≡ not (leb (weekStart (w + 2)) s) or enoughWith (restWeeks (spansIn (now (starts .entry)) (now (ends .entry)) k)) (now (weekly .entry)) (now (regular .entry)) w ⌝ }
+{
+    if s < WEEK_MINUTES * (w + 2) {
+        return true;
+    }
+    enough_in(starts, ends, weekly, regular, k, w)
+}
+
+// Rule 11 of all pairs of weeks that end by s.
+fn pairs_test(
+    starts: &[u32],
+    ends: &[u32],
+    weekly: &[u32],
+    regular: &[u32],
+    k: usize,
+    s: u32,
+) -> bool
+    requires { ⌜ (k ≤ length (now starts)) × (k ≤ length (now ends)) × (s ≤ totalAtMost) × (length (now weekly) ≡ 256) × (length (now regular) ≡ 256) × Below loadAtMost (now weekly) × Below loadAtMost (now regular) ⌝ }
+    ensures { λ r. ⌜ r ≡ rule11With (restWeeks (spansIn (now (starts .entry)) (now (ends .entry)) k)) s (now (weekly .entry)) (now (regular .entry)) ⌝ }
+{
+    let mut w = s / WEEK_MINUTES;
+    while 0 < w {
+        w -= 1;
+        if !pair_kept(starts, ends, weekly, regular, k, s, w) {
+            return false;
+        }
+    }
+    true
 }
