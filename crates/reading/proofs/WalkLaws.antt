@@ -321,4 +321,6 @@ module _ (starts ends reading : List ℕ) (k s : ℕ) where
         regulars = λ v l. omega (arith, w .regulars v l, ap (countOf (ofKind isRegular v)) none);
         few-weeklies = λ j. omega (arith, w .few-weeklies j, w .laid .few);
         few-regulars = λ j. omega (arith, w .few-regulars j, w .laid .few);
+        weekly-size = w .weekly-size;
+        regular-size = w .regular-size;
       }

@@ -5,15 +5,15 @@ use mathlib.Core.Bool.{Bool, true, false, not}
 use mathlib.Core.List.{List, [], _∷_}
 use Prim.Native.Nat.{ℕ, zero, suc, _+_, _-_, _*_, _≤_, _<_}
 use lib.Dec.{leb, ltb, eqb}
-use lib.ListN.{length, getD, set}
+use lib.ListN.{length, getD, set, replicate}
 use Rattle.recording.specs.Tests.{_and_, _or_, pick, one, allOf, anyOf, allBelow, countOf}
 use Rattle.recording.specs.Rests.{longRestsAtMost}
 use Rattle.recording.specs.Operations.{totalAtMost}
 use Rattle.recording.specs.Weeks.{weekStart, week, weekOf, inside}
 use Rattle.recording.specs.declared.Span.{Span}
 use Rattle.rules.specs.Broken.{unless}
-use Rattle.rules.specs.Reading.{Entry, asRead, isWeekly, isRegular, entryBytes}
-use Rattle.rules.specs.ReadingRules.{leastNet, rule7, weeksToCompensate, compensated, shortened, shortenedAtMost, rule9From, inGap, rule10From, ofKind, weeklyAtLeast, regularAtLeast}
+use Rattle.rules.specs.Reading.{Entry, asRead, isWeekly, isRegular, entryBytes, entries}
+use Rattle.rules.specs.ReadingRules.{leastNet, rule7, weeksToCompensate, compensated, shortened, shortenedAtMost, rule9From, inGap, rule10From, ofKind, weeklyAtLeast, regularAtLeast, laterTest}
 use Rattle.rules.specs.declared.Kind.{Kind}
 use Rattle.rules.specs.declared.Kind.the-variants.{Daily, Weekly}
 use Rattle.rules.specs.declared.Standing.the-variants.{Regular, Reduced}
@@ -158,6 +158,8 @@ pub record Through (s : ℕ) (rs : List Span) (es : List Entry) (t : Tally) (wee
   pub regulars : (w : ℕ) → w < 256 → getD regular w 0 ≡ countOf (ofKind isRegular w) es
   pub few-weeklies : Below loadAtMost weekly
   pub few-regulars : Below loadAtMost regular
+  pub weekly-size : length weekly ≡ 256
+  pub regular-size : length regular ≡ 256
 
 abbrev pub Walked : ℕ → List Span → List Entry → Walk → List ℕ → List ℕ → Type 0
 Walked s rs es TooShort weekly regular = rule7 es ≡ false
@@ -181,3 +183,11 @@ spanOf start end = record { start = start; end = end }
 -- the weeks that lie inside a long rest
 abbrev pub restWeeks : List Span → ℕ → Bool
 restWeeks rs w = anyOf (inside (week w)) rs
+
+-- ---- rules 6 to 11 by the rests that stand in two slices
+abbrev pub zeros : List ℕ
+zeros = replicate longRestsAtMost 0
+
+abbrev pub laterBy : List ℕ → List ℕ → List ℕ → ℕ → ℕ → ℕ
+laterBy starts ends reading k s =
+    laterTest (restWeeks (spansIn starts ends k)) s (spansIn starts ends k) (entries (spansIn starts ends k) reading)

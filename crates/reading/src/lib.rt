@@ -13,9 +13,10 @@ ghost use Rattle.recording.specs.Weeks.{weekStart, week, inside};
 ghost use Rattle.recording.specs.Operations.{totalAtMost};
 ghost use Rattle.rules.specs.Broken.{unless};
 ghost use Rattle.rules.specs.Reading.{isWeekly, isRegular, reductionOf, entries};
-ghost use Rattle.rules.specs.ReadingRules.{formed, rule6, shortened, shortenedAtMost};
-ghost use Rattle.rules.specs.Operations.{entryAt, entryPart, entryRefusal};
-ghost use Rattle.reading.specs.Items.{entryBy, endBefore, itemAt, Sane, loadAtMost, Below, restBy, enoughBy, endAt, timeBy, gapBy, shortAfter, tallyBy, paid, bumped, spansIn, Laid, Zeros, Walked, enoughWith, rule11With, restWeeks, spanOf};
+ghost use Rattle.rules.specs.ReadingRules.{formed, rule6, shortened, shortenedAtMost, inGap};
+ghost use Rattle.rules.specs.Operations.{readingTested, entryAt, entryPart, entryRefusal};
+ghost use Rattle.fixed.specs.Walk.{tested};
+ghost use Rattle.reading.specs.Items.{entryBy, endBefore, itemAt, Sane, loadAtMost, Below, restBy, enoughBy, endAt, timeBy, gapBy, shortAfter, tallyBy, paid, bumped, spansIn, Laid, Zeros, Walked, enoughWith, rule11With, restWeeks, spanOf, zeros, laterBy};
 
 // A long rest with its entry: its number from 1, the end of the long rest before it or 0, its start and end, its three bytes, and
 // the compensation that it gives, the document's load.
@@ -565,4 +566,73 @@ fn pairs_test(
         }
     }
     true
+}
+
+// Rule 10 from the last weekly rest's end to s: 10 where that is too far, or 0.
+fn gap_rule(q: u32, s: u32) -> u32
+    requires { ⌜ q ≤ totalAtMost ⌝ }
+    ensures { λ r. ⌜ r ≡ unless (inGap q s) 10 0 ⌝ }
+{
+    if s <= q + WEEKLY_GAP {
+        return 0;
+    }
+    10
+}
+
+// Rules 6 to 11 of a reading, where the k long rests stand in `starts` and `ends` and S is s: 0 or the smallest broken one.
+fn later_test(starts: &[u32], ends: &[u32], reading: &[u8], k: usize, s: u32) -> u32
+    requires { ⌜ Laid (now starts) (now ends) (now reading) zeros k × (s ≤ totalAtMost) ⌝ }
+    ensures { λ r. ⌜ r ≡ laterBy (now (starts .entry)) (now (ends .entry)) (now (reading .entry)) k s ⌝ }
+{
+    let mut loads = [0u32; 223];
+    if !form_test(starts, ends, reading, &loads, k) {
+        return 6;
+    }
+    let mut weekly = [0u32; 256];
+    let mut regular = [0u32; 256];
+    let Walk::AllThrough(t) = rest_walk(
+        starts,
+        ends,
+        reading,
+        &mut loads,
+        &mut weekly,
+        &mut regular,
+        k,
+        s,
+    ) else {
+        return 7;
+    };
+    let broken = fixed::smaller_of(t.rule, gap_rule(t.last, s));
+    if broken != 0 {
+        return broken;
+    }
+    if pairs_test(starts, ends, &weekly, &regular, k, s) {
+        return 0;
+    }
+    11
+}
+
+// Testing a reading: refusals 1 and 2, then 6 where its byte count is not 3 for each long rest; else 0 or the smallest broken rule.
+pub fn reading_test(words: &[u32], reading: &[u8]) -> Tested
+    ensures { λ r. ⌜ tested r ≡ readingTested (now (words .entry)) (now (reading .entry)) ⌝ }
+{
+    let weighing = recording::weigh(words);
+    let Weighing::Weighed(measure) = weighing else {
+        return Tested::Refused(recording::refusal_of(weighing));
+    };
+    let count = measure.count as usize;
+    let total = measure.total;
+    let judged = measure.judged;
+    if reading.len() != ENTRY_BYTES * count {
+        return Tested::Refused(6);
+    }
+    let mut starts = [0u32; 223];
+    let mut ends = [0u32; 223];
+    let found = fixed::survey_of(words, total, &mut starts, &mut ends);
+    let account = found.account;
+    let rule = account.rule;
+    if rule != 0 {
+        return Tested::Answer(rule);
+    }
+    Tested::Answer(later_test(&starts, &ends, reading, count, judged))
 }

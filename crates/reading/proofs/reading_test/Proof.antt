@@ -1,0 +1,45 @@
+-- `reading::reading_test` meets its contract. Assumes nothing.
+use borrow.Author.Needs.{needs}
+use Rattle.reading.proofs.LaterLaws.{laid, judged-most, test-refused, test-sized, test-fixed, test-later}
+use Rattle.recording.proofs.Listing.{refused-there, measured-there, measured-is}
+use Rattle.reading.proofs.reading_test.Statement.{statement}
+use Rattle.reading.proofs.reading_test.Tie as tie
+
+returns : tie.Need-returns
+returns c = test-refused _ _ (refused-there _ (c .before .before .before .weigh .ensures) (c .before .enum-told .given .1) (c .refusal-of .ensures))
+
+returns-2 : tie.Need-returns-2
+returns-2 c = test-sized _ _ (measured-there _ (c .before .before .before .before .before .weigh .ensures) (c .before .before .before .weighing .given .1)) (c .if1 .taken)
+
+survey-of-requires : tie.Need-survey-of-requires
+survey-of-requires c κs = measured-is _ (measured-there _ (c .before .before .before .before .before .before .before .weigh .ensures) (c .before .before .before .before .before .weighing .given .1)) .within
+
+returns-3 : tie.Need-returns-3
+returns-3 c = test-fixed _ _ (measured-there _ (c .before .before .before .before .before .before .before .before .before .before .before .before .weigh .ensures) (c .before .before .before .before .before .before .before .before .before .before .weighing .given .1)) (c .before .before .before .before .survey-of .ensures) (c .before .before .before .before .before .before .before .if1 .left) (c .if2 .taken)
+
+later-test-requires : tie.Need-later-test-requires
+later-test-requires c κs = (laid _ _ (measured-there _ (c .before .before .before .before .before .before .before .before .before .before .before .before .before .before .weigh .ensures) (c .before .before .before .before .before .before .before .before .before .before .before .before .weighing .given .1)) (c .before .before .before .before .before .before .survey-of .ensures) (c .before .before .before .before .before .before .before .before .before .if1 .left), judged-most _ ((c .before .before .before .before .before .before .before .before .before .before .before .before .before .before .before .before .before) .args .reading .now) (measured-there _ (c .before .before .before .before .before .before .before .before .before .before .before .before .before .before .weigh .ensures) (c .before .before .before .before .before .before .before .before .before .before .before .before .weighing .given .1)) (c .before .before .before .before .before .before .survey-of .ensures))
+
+returns-4 : tie.Need-returns-4
+returns-4 c = test-later _ _ (measured-there _ (c .before .before .before .before .before .before .before .before .before .before .before .before .before .before .before .weigh .ensures) (c .before .before .before .before .before .before .before .before .before .before .before .before .before .weighing .given .1)) (c .before .before .before .before .before .before .before .survey-of .ensures) (c .before .before .before .before .before .before .before .before .before .before .if1 .left) (c .before .before .before .if2 .left) (c .later-test .ensures)
+
+pub reading-test-spec : {M : Type 1} → statement M
+reading-test-spec =
+    tie.close
+    (tie.spec
+    (λ c κs. search needs)
+    (λ c. search needs)
+    (λ c. search needs)
+    (λ c κs. search needs)
+    returns
+    (λ c. search needs)
+    (λ c. search needs)
+    returns-2
+    (λ c. search needs)
+    (λ c. search needs)
+    survey-of-requires
+    returns-3
+    (λ c. search needs)
+    (λ c. search needs)
+    later-test-requires
+    returns-4)
