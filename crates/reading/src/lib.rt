@@ -82,6 +82,17 @@ const REGULAR_AT_LEAST: u32 = 1;
 
 const ENTRY_BYTES: usize = 3;
 
+// Refusals, and the rules that are named where they are broken.
+const BAD_COUNT: u32 = 6;
+
+const NO_ENTRY: u32 = 7;
+
+const FORM_BROKEN: u32 = 6;
+
+const NET_BROKEN: u32 = 7;
+
+const PAIRS_BROKEN: u32 = 11;
+
 // The three bytes of the entry of a number, in the caller's reading; empty on a refusal.
 pub fn entry(reading: &[u8], number: usize) -> &[u8]
     ensures { λ r. ⌜ now r ≡ entryPart (entryAt (now (reading .entry)) number) ⌝ }
@@ -105,13 +116,13 @@ pub fn entry_refusal(reading: &[u8], number: usize) -> u32
     ensures { λ r. ⌜ r ≡ entryRefusal (entryAt (now (reading .entry)) number) ⌝ }
 {
     if reading.len() % ENTRY_BYTES != 0 {
-        return 6;
+        return BAD_COUNT;
     }
     if number == 0 {
-        return 7;
+        return NO_ENTRY;
     }
     if reading.len() / ENTRY_BYTES < number {
-        return 7;
+        return NO_ENTRY;
     }
     0
 }
@@ -586,7 +597,7 @@ fn later_test(starts: &[u32], ends: &[u32], reading: &[u8], k: usize, s: u32) ->
 {
     let mut loads = [0u32; 223];
     if !form_test(starts, ends, reading, &loads, k) {
-        return 6;
+        return FORM_BROKEN;
     }
     let mut weekly = [0u32; 256];
     let mut regular = [0u32; 256];
@@ -600,7 +611,7 @@ fn later_test(starts: &[u32], ends: &[u32], reading: &[u8], k: usize, s: u32) ->
         k,
         s,
     ) else {
-        return 7;
+        return NET_BROKEN;
     };
     let broken = fixed::smaller_of(t.rule, gap_rule(t.last, s));
     if broken != 0 {
@@ -609,7 +620,7 @@ fn later_test(starts: &[u32], ends: &[u32], reading: &[u8], k: usize, s: u32) ->
     if pairs_test(starts, ends, &weekly, &regular, k, s) {
         return 0;
     }
-    11
+    PAIRS_BROKEN
 }
 
 // Testing a reading: refusals 1 and 2, then 6 where its byte count is not 3 for each long rest; else 0 or the smallest broken rule.
@@ -624,7 +635,7 @@ pub fn reading_test(words: &[u32], reading: &[u8]) -> Tested
     let total = measure.total;
     let judged = measure.judged;
     if reading.len() != ENTRY_BYTES * count {
-        return Tested::Refused(6);
+        return Tested::Refused(BAD_COUNT);
     }
     let mut starts = [0u32; 223];
     let mut ends = [0u32; 223];
