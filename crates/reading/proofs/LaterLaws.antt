@@ -9,7 +9,7 @@ use native.Mathlib.Omega.{arith}
 use lib.Dec.{leb, ltb, eqb}
 use lib.ListN.{length, getD, take, drop, replicate, length-append, length-replicate, getD-replicate, length-map, List·getD-append, List·getD-map, List·getD-eq-default}
 use lib.Seq.{sets, sets-eq, length-sets, take-all}
-use borrow.Author.Tests.{le-leb, lt-leb, eq-eqb, ne-eqb}
+use borrow.Author.Tests.{eqb-true, eq-eqb, ne-eqb}
 use Rattle.recording.specs.Tests.{_and_, pick, allOf}
 use Rattle.recording.specs.Answers.{refused, answered, refuseIf}
 use Rattle.recording.specs.Words.{minutesOf}
@@ -29,6 +29,7 @@ use Rattle.rules.specs.Fixed.{fixedTest}
 use Rattle.rules.specs.Reading.{Entry, entryBytes, entries}
 use Rattle.rules.specs.ReadingRules.{rule6, rule7, compensated, rule8, rule9From, rule9, inGap, rule10From, rule10, rule11, laterTest, readingTest}
 use Rattle.rules.specs.Operations.{readingTested}
+use Rattle.rules.specs.Verdict.{lawful}
 use Rattle.rules.proofs.RestWeekLaws.{insideRest, reading-by-rests}
 use Rattle.fixed.specs.Account.{smaller, accountFrom, opening}
 use Rattle.fixed.specs.Walk.{Surveyed}
@@ -232,3 +233,19 @@ module _ (ws reading : List ℕ) where
   pub test-sized : {m : Measure} → measured ws ≡ answered m → (length reading ≡ entryBytes * m .count → ⊥) → refused 6 ≡ readingTested ws reading
   unfolding readingTested
   test-sized {m} e z = rw (e, ne-eqb (length reading) (entryBytes * m .count) z) refl
+
+-- ---- the test's answer is 0 exactly where the reading is lawful
+module _ (ws reading : List ℕ) {m : Measure} (q : measured ws ≡ answered m) (e : length reading ≡ entryBytes * m .count) where
+  answer-is : readingTested ws reading ≡ answered (readingTest (minutesOf ws) reading)
+  unfolding readingTested
+  answer-is = rw (q, eq-eqb (length reading) (entryBytes * m .count) e) refl
+
+  pub tested-lawful : readingTested ws reading ≡ answered 0 → lawful (minutesOf ws) reading ≡ true
+  unfolding lawful
+  tested-lawful t =
+      let a : answered (readingTest (minutesOf ws) reading) ≡ answered 0 = sym answer-is ∙ t in
+      eq-eqb (readingTest (minutesOf ws) reading) 0 cc
+
+  pub lawful-tested : lawful (minutesOf ws) reading ≡ true → readingTested ws reading ≡ answered 0
+  unfolding lawful
+  lawful-tested t = answer-is ∙ ap answered (eqb-true (readingTest (minutesOf ws) reading) 0 t)
