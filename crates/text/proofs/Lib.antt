@@ -1,0 +1,11 @@
+pub mod Bytes
+pub mod Puts
+pub mod Lines
+pub mod Numbers
+pub mod LineText
+pub mod WeekLines
+pub mod FormLaws
+pub mod Joining
+pub mod Parts
+pub mod WritingLaws
+pub mod Worked
