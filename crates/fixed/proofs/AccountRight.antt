@@ -17,6 +17,7 @@ use Rattle.recording.specs.Rests.{judgedEnd, longRestMinutes, longRests}
 use Rattle.recording.specs.Days.{days, drivingIn}
 use Rattle.recording.specs.Weeks.{weekMinutes, weekStart, week, weekOf, weeksOf}
 use Rattle.recording.specs.declared.Span.{Span}
+use Rattle.recording.proofs.TestLaws.{one-most}
 use Rattle.recording.proofs.Walks.{judged-within}
 use Rattle.rules.specs.Broken.{unless}
 use Rattle.rules.specs.Fixed.{cleared, rested, drove, ordinaryDay, extended, firstBroken, fixedTest}
@@ -202,10 +203,6 @@ passes true t = at (ltb ordinaryDay t) (eqb t ordinaryDay) refl refl
     at true false p q = rw (lt-ltb ordinaryDay (1 + t) (omega (arith, ltb-true ordinaryDay t p))) refl
     at false true p q = rw (lt-ltb ordinaryDay (1 + t) (omega (arith, eqb-true t ordinaryDay q))) refl
     at false false p q = rw (le-ltb ordinaryDay (1 + t) (omega (arith, ltb-false ordinaryDay t p, eqb-false t ordinaryDay q))) refl
-
-one-most : (b : Bool) → one b ≤ 1
-one-most true = omega arith
-one-most false = omega arith
 
 no-more : (b : Bool) → one (b and false) ≡ 0
 unfolding _and_

@@ -7,6 +7,7 @@ use native.Mathlib.Nat.{le-refl}
 use native.Mathlib.Omega.{arith}
 use lib.Dec.{leb, eqb, eqb·suc-zero, leb·suc-suc}
 use borrow.Author.Tests.{eqb-true}
+use Rattle.recording.proofs.TestLaws.{one-most}
 use Rattle.recording.specs.Tests.{_and_, pick, one}
 use Rattle.recording.specs.Words.{isDriving}
 use Rattle.recording.specs.Rests.{longRestMinutes}
@@ -24,10 +25,6 @@ pub smaller-tests : (a b : ℕ) → smaller a b ≡ pick (eqb a 0) b (pick (eqb 
 smaller-tests zero b = refl
 smaller-tests (suc a) zero = rw (eqb·suc-zero a) refl
 smaller-tests (suc a) (suc b) = rw (eqb·suc-zero a, eqb·suc-zero b, leb·suc-suc a b) refl
-
-one-most : (b : Bool) → one b ≤ 1
-one-most true = omega arith
-one-most false = omega arith
 
 pick-most : (b : Bool) (x y n : ℕ) → x ≤ n → y ≤ n → pick b x y ≤ n
 pick-most true x y n h l = h

@@ -76,10 +76,6 @@ const FORTNIGHT: u32 = 5400;
 
 const DAY_LENGTH: u32 = 900;
 
-const LONG_REST: u32 = 540;
-
-const WEEK_MINUTES: u32 = 10080;
-
 // Rule 1: the driving sum after a rest of n minutes.
 pub fn rested_for(n: u32, d: Driven) -> Driven
     ensures { λ r. ⌜ r ≡ rested n d ⌝ }
@@ -130,10 +126,10 @@ pub fn day_after(n: u32, now: u32, end: u32, d: Day) -> Day
     requires { ⌜ d .start ≤ totalAtMost ⌝ }
     ensures { λ r. ⌜ r ≡ dayAfter n now end d ⌝ }
 {
-    if n < LONG_REST {
+    if n < recording::LONG_REST {
         return d;
     }
-    if end <= d.start + WEEK_MINUTES {
+    if end <= d.start + recording::WEEK_MINUTES {
         return Day {
             start: now,
             driving: 0,
@@ -192,7 +188,7 @@ pub fn week_next(now: u32, w: Week) -> Week
 {
     if now == w.end {
         return Week {
-            end: w.end + WEEK_MINUTES,
+            end: w.end + recording::WEEK_MINUTES,
             driving: 0,
             last: w.driving,
         };
@@ -342,7 +338,7 @@ pub fn survey_of(words: &[u32], m: u32, starts: &mut [u32], ends: &mut [u32]) ->
             extended: 0,
         },
         week: Week {
-            end: WEEK_MINUTES,
+            end: recording::WEEK_MINUTES,
             driving: 0,
             last: 0,
         },

@@ -13,7 +13,7 @@ use borrow.Author.Tests.{leb-true, leb-false, le-leb, lt-leb, lt-ltb, le-ltb, lt
 use Rattle.recording.specs.Tests.{_and_, _or_, pick, one, allOf, countOf}
 use Rattle.recording.specs.Weeks.{weekStart}
 use Rattle.recording.specs.declared.Span.{Span}
-use Rattle.recording.proofs.TestLaws.{less-or-not, and-left, and-right}
+use Rattle.recording.proofs.TestLaws.{less-or-not, and-left, and-right, one-most}
 use Rattle.rules.specs.Broken.{unless}
 use Rattle.rules.specs.Reading.{Entry, minutes, regularMinutes, weeklyKind, asRead, isWeekly, isRegular, reductionOf, kindOf, standingOf}
 use Rattle.rules.specs.ReadingRules.{leastNet, weeksToCompensate, deadline, endOf, byDeadline, settles, compensated, shortenedAtMost, rule9From, inGap, rule10From}
@@ -150,10 +150,6 @@ bumped-at false counts w v h = omega arith
 pub bumped-length : (b : Bool) (counts : List ℕ) (w : ℕ) → length (bumped b counts w) ≡ length counts
 bumped-length true counts w = length-set counts w _
 bumped-length false counts w = refl
-
-one-most : (b : Bool) → one b ≤ 1
-one-most true = omega arith
-one-most false = omega arith
 
 pub bumped-below : (b : Bool) (counts : List ℕ) (w n : ℕ) → ((i : ℕ) → getD counts i 0 ≤ n) → (i : ℕ) → getD (bumped b counts w) i 0 ≤ n + 1
 bumped-below b counts w n f i = at (less-or-not i (length counts))

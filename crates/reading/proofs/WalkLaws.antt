@@ -15,7 +15,7 @@ use Rattle.recording.specs.Tests.{_and_, _or_, pick, one, allOf, countOf}
 use Rattle.recording.specs.Rests.{lengthOf, longRestsAtMost}
 use Rattle.recording.specs.Operations.{totalAtMost}
 use Rattle.recording.specs.declared.Span.{Span}
-use Rattle.recording.proofs.TestLaws.{less-or-not}
+use Rattle.recording.proofs.TestLaws.{less-or-not, one-most}
 use Rattle.rules.specs.Broken.{unless}
 use Rattle.rules.specs.Reading.{Entry, minutes, regularMinutes, weeklyKind, asRead, isWeekly, isRegular, reductionOf, kindOf, standingOf, compensationOf, entryBytes, entryOf, entriesFrom, entries}
 use Rattle.rules.specs.ReadingRules.{formed, formedDaily, formedWeekly, rule6, leastNet, longEnough, rule7, endOf, byDeadline, settles, compensated, deadline, shortened, shortenedAtMost, rule9From, inGap, rule10From, ofKind}
@@ -137,10 +137,6 @@ sane-item starts ends reading loads k i l b h g = record {
 }
 
 -- ---- bounds of a tally
-one-most : (b : Bool) → one b ≤ 1
-one-most true = omega arith
-one-most false = omega arith
-
 short-on : (s end : ℕ) (t : Tally) (e : Entry) → tallyBy s end t e .short ≤ t .short + 1
 unfolding tallyBy shortAfter
 short-on s end t e = at (isWeekly (asRead e))

@@ -64,8 +64,6 @@ const DAILY_NET: u32 = 540;
 
 const WEEKLY_NET: u32 = 1440;
 
-const WEEK_MINUTES: u32 = 10080;
-
 const WEEKS_TO_COMPENSATE: u32 = 4;
 
 const DAILY_WINDOW: u32 = 1440;
@@ -209,10 +207,10 @@ fn formed_item(k: u32, x: Item) -> bool
     if x.end - x.start < WEEKLY_LENGTH {
         return false;
     }
-    if WEEK_MINUTES * (x.week + 1) <= x.start {
+    if recording::WEEK_MINUTES * (x.week + 1) <= x.start {
         return false;
     }
-    if x.end <= WEEK_MINUTES * x.week {
+    if x.end <= recording::WEEK_MINUTES * x.week {
         return false;
     }
     if x.carrier == 0 {
@@ -256,7 +254,7 @@ fn in_time(r: LongRest, week: u32, carrier: u32, end: u32, s: u32) -> bool
     requires { ⌜ week ≤ 255 ⌝ }
     ensures { λ b. ⌜ b ≡ timeBy (r .kind) week carrier end s ⌝ }
 {
-    let due = WEEK_MINUTES * (week + WEEKS_TO_COMPENSATE);
+    let due = recording::WEEK_MINUTES * (week + WEEKS_TO_COMPENSATE);
     let kind = r.kind;
     match kind {
         Kind::Daily => true,
@@ -482,10 +480,10 @@ fn holds_week(start: u32, end: u32, w: u32) -> bool
     requires { ⌜ w < 255 ⌝ }
     ensures { λ r. ⌜ r ≡ inside (week w) (spanOf start end) ⌝ }
 {
-    if WEEK_MINUTES * w < start {
+    if recording::WEEK_MINUTES * w < start {
         return false;
     }
-    WEEK_MINUTES * (w + 1) <= end
+    recording::WEEK_MINUTES * (w + 1) <= end
 }
 
 // Rule 11: whether the week w is one of rest minutes only, inside one of the long rests.
@@ -551,7 +549,7 @@ fn pair_kept(
     requires { ⌜ (k ≤ length (now starts)) × (k ≤ length (now ends)) × (w < 254) × (length (now weekly) ≡ 256) × (length (now regular) ≡ 256) × Below loadAtMost (now weekly) × Below loadAtMost (now regular) ⌝ }
     ensures { λ r. ⌜ r ≡ not (leb (weekStart (w + 2)) s) or enoughWith (restWeeks (spansIn (now (starts .entry)) (now (ends .entry)) k)) (now (weekly .entry)) (now (regular .entry)) w ⌝ }
 {
-    if s < WEEK_MINUTES * (w + 2) {
+    if s < recording::WEEK_MINUTES * (w + 2) {
         return true;
     }
     enough_in(starts, ends, weekly, regular, k, w)
@@ -569,7 +567,7 @@ fn pairs_test(
     requires { ⌜ (k ≤ length (now starts)) × (k ≤ length (now ends)) × (s ≤ totalAtMost) × (length (now weekly) ≡ 256) × (length (now regular) ≡ 256) × Below loadAtMost (now weekly) × Below loadAtMost (now regular) ⌝ }
     ensures { λ r. ⌜ r ≡ rule11With (restWeeks (spansIn (now (starts .entry)) (now (ends .entry)) k)) s (now (weekly .entry)) (now (regular .entry)) ⌝ }
 {
-    let mut w = s / WEEK_MINUTES;
+    let mut w = s / recording::WEEK_MINUTES;
     while 0 < w {
         w -= 1;
         if !pair_kept(starts, ends, weekly, regular, k, s, w) {

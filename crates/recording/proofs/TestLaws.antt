@@ -45,6 +45,10 @@ unfolding _or_
 or-else true b f t = absurd (true≢false f)
 or-else false b f t = t
 
+pub one-most : (b : Bool) → one b ≤ 1
+one-most true = omega arith
+one-most false = omega arith
+
 -- a test that is true is not false, and two that imply one another are equal
 pub clash : {A : Type 0} (b : Bool) → b ≡ true → b ≡ false → A
 clash true t f = absurd (true≢false f)

@@ -48,7 +48,9 @@ pub struct Place {
 
 const TOTAL_AT_MOST: u32 = 120960;
 
-const LONG_REST: u32 = 540;
+pub const LONG_REST: u32 = 540;
+
+pub const WEEK_MINUTES: u32 = 10080;
 
 // The total, or the refusal of the first word at fault: 1 where its minutes are 0, else 2 where the total passes the limit.
 pub fn total_of(words: &[u32]) -> Total

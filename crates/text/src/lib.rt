@@ -52,8 +52,6 @@ pub struct Ahead {
     pub minutes: u32,
 }
 
-const WEEK_MINUTES: u32 = 10080;
-
 const WEEKS_AT_MOST: u32 = 12;
 
 const RUN_AT_MOST: u32 = 10080;
@@ -224,7 +222,7 @@ fn on_week(s: Stage) -> Stage
             if more == 0 {
                 return Stage::Wrong;
             }
-            Stage::Within(WEEK_MINUTES, more - 1)
+            Stage::Within(recording::WEEK_MINUTES, more - 1)
         }
         Stage::Within(_, _) => Stage::Wrong,
         Stage::Over => Stage::Wrong,
@@ -258,7 +256,7 @@ fn on_closing(s: Stage) -> Stage
         Stage::Before => Stage::Wrong,
         Stage::Between(_, _) => Stage::Over,
         Stage::Within(left, more) => {
-            if left < WEEK_MINUTES {
+            if left < recording::WEEK_MINUTES {
                 return Stage::Between(left, more);
             }
             Stage::Wrong
@@ -467,7 +465,7 @@ fn put_part(text: &mut [u8], at: usize, left: u32, activity: u32, n: u32) -> usi
     requires { ⌜ (at ≤ roomy) × (activity < activities) ⌝ }
     ensures { λ r. ⌜ Put (now (text .entry)) at (textOfLines (partLines left n (wordOf n activity))) r (now (text .exit)) ⌝ }
 {
-    let begun = put_if(text, at, left == WEEK_MINUTES, b"(week\n");
+    let begun = put_if(text, at, left == recording::WEEK_MINUTES, b"(week\n");
     let named = put_name(text, begun, activity);
     let timed = put_number(text, named, n);
     let ended = put_all(text, timed, b")\n");
@@ -480,7 +478,7 @@ fn left_after(left: u32, n: u32) -> u32
     ensures { λ r. ⌜ r ≡ leftAfter left n ⌝ }
 {
     if left == n {
-        return WEEK_MINUTES;
+        return recording::WEEK_MINUTES;
     }
     left - n
 }
@@ -520,7 +518,7 @@ fn put_recording(words: &[u32], text: &mut [u8]) -> usize
     ensures { λ r. ⌜ Put (now (text .entry)) 0 (textOfMinutes (minutesOf (now (words .entry)))) r (now (text .exit)) × (r < places) ⌝ }
 {
     let mut at = put_all(text, 0, b"(recording\n");
-    let mut left = WEEK_MINUTES;
+    let mut left = recording::WEEK_MINUTES;
     let mut activity: u32 = 0;
     let mut n: u32 = 0;
     let mut i = 0;
@@ -540,7 +538,7 @@ fn put_recording(words: &[u32], text: &mut [u8]) -> usize
             n -= part;
         }
     }
-    let ended = put_if(text, at, left != WEEK_MINUTES, b")\n");
+    let ended = put_if(text, at, left != recording::WEEK_MINUTES, b")\n");
     put_all(text, ended, b")\n")
 }
 
