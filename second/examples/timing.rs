@@ -1,0 +1,57 @@
+//! The time a verdict takes, on each kind of recording.
+
+use std::time::Instant;
+
+use second::dice::Dice;
+use second::fast::Judge;
+use second::grow;
+use second::verdict::Outcome;
+use second::Limits;
+
+fn main() {
+    report(
+        "ordinary",
+        (0..400).map(|seed| grow::ordinary(&mut Dice::new(seed))),
+    );
+    report(
+        "grown",
+        (0..200).map(|seed| grow::grown(&mut Dice::new(seed))),
+    );
+    report(
+        "hard",
+        (0..20).map(|seed| grow::hard(&mut Dice::new(seed), 150)),
+    );
+    report(
+        "scarce",
+        (0..400).map(|seed| grow::scarce(&mut Dice::new(seed))),
+    );
+}
+
+/// Prints the median and the most of time and steps.
+fn report(name: &str, recordings: impl Iterator<Item = Vec<u32>>) {
+    let limits = Limits::document();
+    let mut times = Vec::new();
+    let mut steps = Vec::new();
+    let mut passes = 0;
+    let mut rests = 0;
+    for words in recordings {
+        let before = Instant::now();
+        let mut judge = Judge::new(&words, &limits);
+        let outcome = judge.outcome();
+        times.push(before.elapsed().as_secs_f64() * 1e6);
+        steps.push(judge.steps);
+        passes += usize::from(matches!(outcome, Outcome::Pass(_)));
+        rests = rests.max(judge.long_rests());
+    }
+    times.sort_by(f64::total_cmp);
+    steps.sort();
+    let count = times.len();
+    println!(
+        "{name}: {count} recordings ({passes} pass, at most {rests} long rests): \
+         microseconds median {:.0}, most {:.0}; steps median {}, most {}",
+        times[count / 2],
+        times[count - 1],
+        steps[count / 2],
+        steps[count - 1],
+    );
+}

@@ -1,0 +1,355 @@
+//! Recordings of the document's size to compare on, from a generator with a
+//! fixed seed.
+
+use crate::dice::Dice;
+use crate::fast::Judge;
+use crate::limits::Limits;
+use crate::recording::{word, Activity};
+use crate::verdict::Outcome;
+
+const TOTAL: u32 = 120_960;
+const WEEK: u32 = 10_080;
+const DAY: u32 = 1_440;
+
+/// A recording in the making; what would pass the total is cut off.
+#[derive(Clone, Default)]
+struct Draft {
+    words: Vec<u32>,
+    total: u32,
+}
+
+impl Draft {
+    fn push(&mut self, activity: Activity, minutes: u32) {
+        let minutes = minutes.min(TOTAL - self.total);
+        if minutes > 0 {
+            self.words.push(word(minutes, activity));
+            self.total += minutes;
+        }
+    }
+
+    /// Rest up to this minute.
+    fn rest_until(&mut self, minute: u32) {
+        self.push(Activity::Rest, minute.saturating_sub(self.total));
+    }
+
+    fn is_full(&self) -> bool {
+        self.total == TOTAL
+    }
+
+    /// Whether it is lawful with its last rest closed.
+    fn is_lawful(&self) -> bool {
+        let mut closed = self.clone();
+        closed.push(Activity::Work, 1);
+        let limits = Limits::document();
+        Judge::new(&closed.words, &limits).is_lawful(i64::from(closed.total))
+    }
+}
+
+/// One to twelve weeks such as drivers have: five days with breaks and a
+/// weekly rest around Sunday, or six days and a reduced one, but not twice in
+/// a row. Most are lawful.
+pub fn ordinary(dice: &mut Dice) -> Vec<u32> {
+    let mut draft = Draft::default();
+    let mut days = 5;
+    let weeks = dice.between(1, 12);
+    for week in 0..weeks {
+        days = if days == 5 && dice.one_in(4) { 6 } else { 5 };
+        ordinary_week(dice, &mut draft, week * WEEK, days);
+    }
+    if weeks < 12 {
+        let days = dice.below(5);
+        ordinary_week(dice, &mut draft, weeks * WEEK, days);
+    }
+    draft.words
+}
+
+/// Duty on so many days from Monday on, each from half past nine or so.
+fn ordinary_week(dice: &mut Dice, draft: &mut Draft, monday: u32, days: u32) {
+    for day in 0..days {
+        let start = dice.between(545, 620);
+        draft.rest_until(monday + day * DAY + start);
+        ordinary_duty(dice, draft);
+    }
+}
+
+/// A day's duty of nine hours or so, with a break after each long drive, but
+/// for a rare one forgotten.
+fn ordinary_duty(dice: &mut Dice, draft: &mut Draft) {
+    draft.push(Activity::Work, dice.between(1, 30));
+    draft.push(Activity::Driving, dice.between(120, 270));
+    if !dice.one_in(300) {
+        ordinary_break(dice, draft);
+    }
+    draft.push(Activity::Driving, dice.between(60, 250));
+    if dice.one_in(12) {
+        ordinary_break(dice, draft);
+        draft.push(Activity::Driving, dice.between(10, 80));
+    }
+    draft.push(Activity::Availability, dice.between(1, 40));
+    draft.push(Activity::Work, dice.between(1, 60));
+}
+
+/// A break in one piece or in two.
+fn ordinary_break(dice: &mut Dice, draft: &mut Draft) {
+    if dice.one_in(2) {
+        draft.push(Activity::Rest, dice.between(45, 60));
+    } else {
+        draft.push(Activity::Rest, dice.between(15, 29));
+        draft.push(Activity::Availability, dice.between(1, 30));
+        draft.push(Activity::Rest, dice.between(30, 44));
+    }
+}
+
+/// Any words, now and then one of no minutes or one far too long.
+pub fn random_words(dice: &mut Dice) -> Vec<u32> {
+    let count = dice.below(60);
+    (0..count).map(|_| random_word(dice)).collect()
+}
+
+fn random_word(dice: &mut Dice) -> u32 {
+    let minutes = match dice.weighted(&[2, 60, 60, 60, 20, 3, 1]) {
+        0 => 0,
+        1 => dice.between(1, 60),
+        2 => dice.between(1, 600),
+        3 => dice.between(530, 900),
+        4 => dice.between(1_400, 4_000),
+        5 => dice.between(9_000, 130_000),
+        _ => dice.between(0, u32::MAX / 4),
+    };
+    word(minutes, Activity::ALL[dice.below(4) as usize])
+}
+
+/// How often each kind of rest is proposed.
+#[derive(Clone, Copy)]
+struct Taste([u32; 7]);
+
+impl Taste {
+    /// Weekly rests of all kinds now and then.
+    fn mixed(dice: &mut Dice) -> Taste {
+        Taste([
+            dice.between(1, 8),
+            dice.between(8, 30),
+            dice.between(0, 8),
+            dice.between(1, 8),
+            dice.between(0, 6),
+            dice.between(0, 4),
+            dice.below(2),
+        ])
+    }
+
+    /// Most rests between 24 and 45 hours.
+    fn reduced(dice: &mut Dice) -> Taste {
+        Taste([
+            dice.between(0, 3),
+            dice.between(0, 6),
+            dice.between(0, 6),
+            dice.between(10, 30),
+            dice.between(0, 3),
+            dice.between(0, 3),
+            0,
+        ])
+    }
+
+    /// The length of a rest that starts at this minute.
+    fn rest(&self, dice: &mut Dice, start: u32) -> u32 {
+        match dice.weighted(&self.0) {
+            0 => dice.between(540, 659),
+            1 => dice.between(660, 900),
+            2 => dice.between(900, 1_439),
+            3 => dice.between(1_440, 2_699),
+            4 => dice.between(2_700, 4_200),
+            5 => over_the_week_end(dice, start),
+            _ => dice.between(4_200, 25_000),
+        }
+    }
+}
+
+/// A rest that ends up to two days after the end of its week.
+fn over_the_week_end(dice: &mut Dice, start: u32) -> u32 {
+    let to_the_end = WEEK - start % WEEK;
+    if to_the_end > 3_000 {
+        return dice.between(540, 3_000);
+    }
+    (to_the_end + dice.between(1, 2_880)).max(540)
+}
+
+/// A recording grown rest by rest while it stays lawful, up to twelve weeks.
+/// Half of them end with a rest that makes them unlawful.
+pub fn grown(dice: &mut Dice) -> Vec<u32> {
+    let taste = Taste::mixed(dice);
+    let mut draft = Draft::default();
+    while !draft.is_full() {
+        match grown_by_a_day(dice, &draft, taste) {
+            Ok(next) => draft = next,
+            Err(unlawful) if dice.one_in(2) => return unlawful.words,
+            Err(_) => break,
+        }
+    }
+    draft.words
+}
+
+/// A lawful draft with one more duty and rest, or the last one tried.
+fn grown_by_a_day(dice: &mut Dice, draft: &Draft, taste: Taste) -> Result<Draft, Draft> {
+    let mut next = draft.clone();
+    for _ in 0..24 {
+        next = draft.clone();
+        grown_duty(dice, &mut next);
+        let rest = taste.rest(dice, next.total);
+        next.push(Activity::Rest, rest);
+        if next.is_lawful() {
+            return Ok(next);
+        }
+    }
+    next.push(Activity::Work, 1);
+    Err(next)
+}
+
+/// A duty of up to 15 hours, with or without driving.
+fn grown_duty(dice: &mut Dice, draft: &mut Draft) {
+    match dice.below(4) {
+        0 => ordinary_duty(dice, draft),
+        1 => draft.push(Activity::Work, dice.between(1, 60)),
+        2 => draft.push(Activity::Work, dice.between(600, 900)),
+        _ => draft.push(Activity::Availability, dice.between(1, 900)),
+    }
+}
+
+/// A recording whose verdict takes a long search: most rests between 24 and 45
+/// hours, many debts outstanding, and, if so many rounds suffice, a breach in
+/// the last week. It starts from a grown one and takes each change by which
+/// the breach gets later, up to the last week, or the search longer.
+pub fn hard(dice: &mut Dice, rounds: u32) -> Vec<u32> {
+    let mut best = grown_of_reduced_rests(dice);
+    let mut best_score = score(&best);
+    for _ in 0..rounds {
+        let changed = best.changed(dice);
+        let score = score(&changed);
+        if score >= best_score {
+            best_score = score;
+            best = changed;
+        }
+    }
+    best.words()
+}
+
+/// The minute of the breach, the same for all in the last week, and the steps
+/// of the search.
+fn score(days: &Days) -> (i64, u64) {
+    let words = days.words();
+    let limits = Limits::document();
+    let mut judge = Judge::new(&words, &limits);
+    match judge.outcome() {
+        Outcome::Pass(_) => (0, 0),
+        Outcome::Breach { minute, .. } => (minute.min(i64::from(TOTAL - WEEK)), judge.steps),
+    }
+}
+
+/// Twelve weeks of rests of little more than 24 hours, which cannot carry each
+/// other's debts, with a longer one every so often: many debts, few carriers.
+pub fn scarce(dice: &mut Dice) -> Vec<u32> {
+    let lengths: Vec<u32> = (0..6).map(|_| dice.between(1_440, 1_500)).collect();
+    let longer = [2_700, 2_701, 2_710, 2_760, 3_500][dice.below(5) as usize];
+    let every = dice.between(5, 10);
+    let daily = dice.between(540, 900);
+    let work = dice.between(1, 60);
+    let mut draft = Draft::default();
+    for number in 1.. {
+        let rest = match dice.below(7) {
+            _ if number % every == 0 => longer,
+            6 => daily,
+            length => lengths[length as usize],
+        };
+        draft.push(Activity::Work, work);
+        if draft.is_full() {
+            break;
+        }
+        draft.push(Activity::Rest, rest);
+    }
+    draft.words
+}
+
+/// Days of work alone: minutes of work, then minutes of rest.
+#[derive(Clone, Default)]
+struct Days(Vec<(u32, u32)>);
+
+impl Days {
+    fn draft(&self) -> Draft {
+        let mut draft = Draft::default();
+        for &(work, rest) in &self.0 {
+            draft.push(Activity::Work, work);
+            draft.push(Activity::Rest, rest);
+        }
+        draft
+    }
+
+    /// The days, and after them daily rests alone up to twelve weeks.
+    fn words(&self) -> Vec<u32> {
+        let mut draft = self.draft();
+        while !draft.is_full() {
+            draft.push(Activity::Work, 780);
+            draft.push(Activity::Rest, 660);
+        }
+        draft.words
+    }
+
+    /// The same days with one of them changed.
+    fn changed(&self, dice: &mut Dice) -> Days {
+        let mut days = self.clone();
+        let count = days.0.len() as u32;
+        if count == 0 {
+            return days;
+        }
+        let chosen = dice.below(count) as usize;
+        let other = dice.below(count) as usize;
+        match dice.below(6) {
+            0 => days.0.swap(chosen, other),
+            1 => days.0[chosen].0 = dice.between(1, 900),
+            2 => days.0[chosen].1 = dice.between(540, 1_500),
+            3 => days.0[chosen].1 = dice.between(1_440, 2_720),
+            4 => {
+                let change = dice.between(0, 60);
+                days.0[chosen].1 = (days.0[chosen].1 + change).saturating_sub(30).max(540);
+            }
+            _ => {
+                days.0.remove(chosen);
+            }
+        }
+        days
+    }
+}
+
+/// Days grown while they stay lawful, up to the last week, with a regular
+/// weekly rest only where nothing else will do. Where nothing will, the last
+/// few days are taken back.
+fn grown_of_reduced_rests(dice: &mut Dice) -> Days {
+    let taste = Taste::reduced(dice);
+    let mut days = Days::default();
+    for _ in 0..400 {
+        let draft = days.draft();
+        if draft.total >= TOTAL - WEEK {
+            break;
+        }
+        match lawful_day(dice, &draft, taste) {
+            Some(day) => days.0.push(day),
+            None => days.0.truncate(days.0.len().saturating_sub(4)),
+        }
+    }
+    days
+}
+
+/// Work and rest that the draft can be followed by.
+fn lawful_day(dice: &mut Dice, draft: &Draft, taste: Taste) -> Option<(u32, u32)> {
+    (0..16).find_map(|attempt| {
+        let longest = if dice.one_in(3) { 900 } else { 60 };
+        let work = dice.between(1, longest);
+        let rest = if attempt < 10 {
+            taste.rest(dice, draft.total + work)
+        } else {
+            dice.between(2_700, 2_760)
+        };
+        let mut next = draft.clone();
+        next.push(Activity::Work, work);
+        next.push(Activity::Rest, rest);
+        next.is_lawful().then_some((work, rest))
+    })
+}

@@ -1,0 +1,30 @@
+//! The hours desk a second time: recordings, readings and verdicts, written
+//! from document 01 alone, to be compared with the verified implementation.
+//!
+//! * [`recording`], [`fixed`] and [`reading`] say the document's sentences
+//!   minute by minute; [`plain`] enumerates readings by them.
+//! * [`runs`], [`search`] and [`fast`] answer the same questions run by run,
+//!   for recordings of any size; [`stepwise`] stands in between, for tests.
+//! * [`verdict`], [`entry`], [`text`] and [`print`] are the other operations.
+//! * [`grow`] and [`small`] make recordings to compare on, by the [`dice`].
+
+pub mod dice;
+pub mod entry;
+pub mod fast;
+pub mod fixed;
+pub mod grow;
+pub mod limits;
+pub mod plain;
+pub mod print;
+pub mod reading;
+pub mod recording;
+pub mod refusal;
+pub mod runs;
+pub mod search;
+pub mod small;
+pub mod stepwise;
+pub mod text;
+pub mod verdict;
+
+pub use limits::Limits;
+pub use refusal::Refusal;

@@ -1,0 +1,72 @@
+//! What the desk program prints.
+
+use crate::fast;
+use crate::limits::Limits;
+use crate::reading::{entries, Entry};
+use crate::refusal::Refusal;
+use crate::runs::Course;
+use crate::text;
+use crate::verdict::Outcome;
+
+/// "standard input, at most 65,536 bytes; more prints as refusal 9"
+pub const MOST_BYTES: usize = 65_536;
+
+/// What the desk program prints for this input text. "It lends words enough
+/// for any text of that size."
+pub fn print(input: &[u8]) -> String {
+    if input.len() > MOST_BYTES {
+        return refused(Refusal::TooFewWords);
+    }
+    match text::parse(input) {
+        Some(words) => judged(&words),
+        None => refused(Refusal::TextForm),
+    }
+}
+
+/// "A refusal prints `(verdict`, `(refused n)`, `)`."
+fn refused(refusal: Refusal) -> String {
+    format!("(verdict\n(refused {})\n)\n", refusal.number())
+}
+
+fn judged(words: &[u32]) -> String {
+    let limits = Limits::document();
+    let course = Course::new(words, &limits);
+    let total = course.total;
+    match fast::outcome(words, &limits) {
+        Outcome::Pass(reading) => {
+            let judged_end = course.judged_end(total);
+            let rests = rest_lines(&course, &entries(&reading));
+            format!("(verdict\n(minutes {total})\n(judged {judged_end})\n(reading\n{rests})\n)\n")
+        }
+        Outcome::Breach { minute, article } => {
+            let article = article_name(article);
+            format!("(verdict\n(minutes {total})\n(breach {minute} {article})\n)\n")
+        }
+    }
+}
+
+/// "These are N, S and each rest's start and end; a weekly rest prints
+/// `(weekly start end week carrier)`."
+fn rest_lines(course: &Course, entries: &[Entry]) -> String {
+    let line = |(rest, entry): (&crate::runs::LongRest, &Entry)| {
+        let (start, end) = (rest.span.start, rest.span.end);
+        if entry.is_weekly() {
+            format!("(weekly {start} {end} {} {})\n", entry.week, entry.carrier)
+        } else {
+            format!("(daily {start} {end})\n")
+        }
+    };
+    course.long_rests.iter().zip(entries).map(line).collect()
+}
+
+/// "a being 7, 6.1, 6.2, 6.3, 8.2 or 8 for 1 to 6"
+fn article_name(article: u8) -> &'static str {
+    match article {
+        1 => "7",
+        2 => "6.1",
+        3 => "6.2",
+        4 => "6.3",
+        5 => "8.2",
+        _ => "8",
+    }
+}
