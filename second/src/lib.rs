@@ -1,5 +1,6 @@
 //! The hours desk a second time: recordings, readings and verdicts, written
-//! from document 01 alone, to be compared with the verified implementation.
+//! from the documents and not from the verified implementation, which is to be
+//! compared with it.
 //!
 //! * [`recording`], [`fixed`] and [`reading`] say the document's sentences
 //!   minute by minute; [`plain`] enumerates readings by them.
