@@ -47,7 +47,7 @@ joined true true false x = refl
 joined true false r10 x = refl
 joined false r9 r10 x = refl
 
-spans-length : (starts ends : List ℕ) (i n : ℕ) → length (spansFrom starts ends i n) ≡ n
+pub spans-length : (starts ends : List ℕ) (i n : ℕ) → length (spansFrom starts ends i n) ≡ n
 unfolding spansFrom
 spans-length starts ends i zero = refl
 spans-length starts ends i (suc n) = ap suc (spans-length starts ends (suc i) n)
@@ -108,15 +108,15 @@ front-at f rs i h l =
     let k : 0 + length (map f rs) ≤ length zeros = rw (length-map, length-replicate) (omega arith) in
     ap (λ (x : List ℕ). getD x i 0) (sets-eq (map f rs) zeros 0 k) ∙ List·getD-append (map f rs) _ 0 i (rw length-map l)
 
-map-at : (f : Span → ℕ) (rs : List Span) (i : ℕ) (d : Span) → i < length rs → getD (map f rs) i 0 ≡ f (getD rs i d)
+pub map-at : (f : Span → ℕ) (rs : List Span) (i : ℕ) (d : Span) → i < length rs → getD (map f rs) i 0 ≡ f (getD rs i d)
 map-at f [] i d h = absurd (omega arith)
 map-at f (r ∷ rs) zero d h = refl
 map-at f (r ∷ rs) (suc i) d h = map-at f rs i d (omega arith)
 
-nowhere : Span
+abbrev pub nowhere : Span
 nowhere = record { start = 0; end = 0 }
 
-spans-are : (starts ends : List ℕ) (rs : List Span) (i : ℕ)
+pub spans-are : (starts ends : List ℕ) (rs : List Span) (i : ℕ)
     → ((j : ℕ) → j < length rs → getD starts (i + j) 0 ≡ getD rs j nowhere .start) → ((j : ℕ) → j < length rs → getD ends (i + j) 0 ≡ getD rs j nowhere .end)
     → spansFrom starts ends i (length rs) ≡ rs
 unfolding spansFrom
@@ -130,7 +130,7 @@ spans-are starts ends (r ∷ rs) i f g =
     (λ j h. let e : suc i + j ≡ i + suc j = omega arith in ap (λ (n : ℕ). getD starts n 0) e ∙ f (suc j) (omega arith))
     (λ j h. let e : suc i + j ≡ i + suc j = omega arith in ap (λ (n : ℕ). getD ends n 0) e ∙ g (suc j) (omega arith)))
 
-in-order : {to from : ℕ} {rs : List Span} → Ordered to from rs → (i : ℕ) → i < length rs → (getD rs i nowhere .start ≤ getD rs i nowhere .end) × (getD rs i nowhere .end ≤ to)
+pub in-order : {to from : ℕ} {rs : List Span} → Ordered to from rs → (i : ℕ) → i < length rs → (getD rs i nowhere .start ≤ getD rs i nowhere .end) × (getD rs i nowhere .end ≤ to)
 in-order none i h = absurd (omega arith)
 in-order (next l n e o) zero h = (omega arith, omega arith)
 in-order (next l n e o) (suc i) h = in-order o i (omega arith)
@@ -139,7 +139,7 @@ if-some : (n x : ℕ) → (n ≡ 0 → ⊥) → ifNone n x ≡ n
 if-some zero x z = absurd (z refl)
 if-some (suc n) x z = refl
 
-if-zero : (n x : ℕ) → n ≡ 0 → ifNone n x ≡ x
+pub if-zero : (n x : ℕ) → n ≡ 0 → ifNone n x ≡ x
 if-zero zero x e = refl
 if-zero (suc n) x e = absurd (omega arith)
 

@@ -56,27 +56,27 @@ const WEEKLY_KIND: u32 = 1;
 
 const DAILY_KIND: u32 = 0;
 
-const REGULAR: u32 = 2700;
+pub const REGULAR: u32 = 2700;
 
 const WEEKLY_LENGTH: u32 = 1440;
 
-const DAILY_NET: u32 = 540;
+pub const DAILY_NET: u32 = 540;
 
-const WEEKLY_NET: u32 = 1440;
+pub const WEEKLY_NET: u32 = 1440;
 
-const WEEKS_TO_COMPENSATE: u32 = 4;
+pub const WEEKS_TO_COMPENSATE: u32 = 4;
 
-const DAILY_WINDOW: u32 = 1440;
+pub const DAILY_WINDOW: u32 = 1440;
 
-const FULL_PORTION: u32 = 660;
+pub const FULL_PORTION: u32 = 660;
 
-const SHORTENED_AT_MOST: u32 = 3;
+pub const SHORTENED_AT_MOST: u32 = 3;
 
-const WEEKLY_GAP: u32 = 8640;
+pub const WEEKLY_GAP: u32 = 8640;
 
-const WEEKLY_AT_LEAST: u32 = 2;
+pub const WEEKLY_AT_LEAST: u32 = 2;
 
-const REGULAR_AT_LEAST: u32 = 1;
+pub const REGULAR_AT_LEAST: u32 = 1;
 
 const ENTRY_BYTES: usize = 3;
 
@@ -132,7 +132,7 @@ fn wide(x: u8) -> u32
 }
 
 // Where the long rest before the one of index i ends, or 0.
-fn end_before(ends: &[u32], i: usize) -> u32
+pub fn end_before(ends: &[u32], i: usize) -> u32
     requires { ⌜ i ≤ length (now ends) ⌝ }
     ensures { λ r. ⌜ r ≡ endBefore (now (ends .entry)) i ⌝ }
 {
@@ -487,7 +487,7 @@ fn holds_week(start: u32, end: u32, w: u32) -> bool
 }
 
 // Rule 11: whether the week w is one of rest minutes only, inside one of the long rests.
-fn rest_week(starts: &[u32], ends: &[u32], k: usize, w: u32) -> bool
+pub fn rest_week(starts: &[u32], ends: &[u32], k: usize, w: u32) -> bool
     requires { ⌜ (k ≤ length (now starts)) × (k ≤ length (now ends)) × (w < 255) ⌝ }
     ensures { λ r. ⌜ r ≡ restWeeks (spansIn (now (starts .entry)) (now (ends .entry)) k) w ⌝ }
 {
@@ -593,7 +593,7 @@ fn later_test(starts: &[u32], ends: &[u32], reading: &[u8], k: usize, s: u32) ->
     requires { ⌜ Laid (now starts) (now ends) (now reading) zeros k × (s ≤ totalAtMost) ⌝ }
     ensures { λ r. ⌜ r ≡ laterBy (now (starts .entry)) (now (ends .entry)) (now (reading .entry)) k s ⌝ }
 {
-    let mut loads = [0u32; 223];
+    let mut loads = [0u32; recording::LONG_RESTS];
     if !form_test(starts, ends, reading, &loads, k) {
         return FORM_BROKEN;
     }
@@ -635,8 +635,8 @@ pub fn reading_test(words: &[u32], reading: &[u8]) -> Tested
     if reading.len() != ENTRY_BYTES * count {
         return Tested::Refused(BAD_COUNT);
     }
-    let mut starts = [0u32; 223];
-    let mut ends = [0u32; 223];
+    let mut starts = [0u32; recording::LONG_RESTS];
+    let mut ends = [0u32; recording::LONG_RESTS];
     let found = fixed::survey_of(words, total, &mut starts, &mut ends);
     let account = found.account;
     let rule = account.rule;

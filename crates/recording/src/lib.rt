@@ -52,6 +52,9 @@ pub const LONG_REST: u32 = 540;
 
 pub const WEEK_MINUTES: u32 = 10080;
 
+// The most long rests that a recording can have.
+pub const LONG_RESTS: usize = 223;
+
 // The total, or the refusal of the first word at fault: 1 where its minutes are 0, else 2 where the total passes the limit.
 pub fn total_of(words: &[u32]) -> Total
     ensures { λ r. ⌜ totalled r ≡ totalFrom 0 (now (words .entry)) ⌝ }

@@ -208,30 +208,38 @@ pub rest-only-prefix : (xs ys : List ℕ) (w : ℕ) → weekStart (w + 1) ≤ le
 unfolding restOnly
 rest-only-prefix xs ys w h = sym (ap (λ (l : List ℕ). allOf isRest (drop (weekStart w) l)) (take-append-le (weekStart (w + 1)) xs ys h))
 
+-- an entry of the right form that is read as weekly has a minute in its week
+pub record InItsWeek (e : Entry) : Type 0 where
+  pub from : e .span .start < weekStart (e .week + 1)
+  pub upto : weekStart (e .week) < e .span .end
+
+as-weekly : (e : Entry) (b : Bool) → eqb (e .kind) weeklyKind ≡ b → isWeekly (asRead e) ≡ true → b ≡ true
+unfolding asRead
+as-weekly e true q t = refl
+as-weekly e false q t = rw q at t
+
+pub in-its-week : (k : ℕ) (e : Entry) → formed k e ≡ true → isWeekly (asRead e) ≡ true → InItsWeek e
+unfolding formed formedDaily formedWeekly touches
+in-its-week k e g t = at (or-cases (formedDaily e) (formedWeekly k e) g)
+  where
+    at : (formedDaily e ≡ true) ⊎ (formedWeekly k e ≡ true) → InItsWeek e
+    at (inl d) =
+        let d1 = and-left _ _ d in
+        absurd (omega (arith, eqb-true (e .kind) dailyKind (and-left _ _ d1), eqb-true (e .kind) weeklyKind (as-weekly e _ refl t)))
+    at (inr v) =
+        let v1 = and-left _ _ v in
+        let v2 = and-right _ _ v1 in
+        record { from = ltb-true _ _ (and-left _ _ v2); upto = ltb-true _ _ (and-right _ _ v2) }
+
 module _ (K w : ℕ) (f : Kind → Bool) (weekly : (m : Kind) → f m ≡ true → isWeekly m ≡ true) (s : ℕ) (h : weekStart (w + 1) ≤ s) where
   -- an entry of the right form that starts at s or later is counted in no week that ends by s
   not-counted : (e : Entry) → s ≤ e .span .start → formed K e ≡ true → ofKind f w e ≡ true → ⊥
-  unfolding formed formedDaily formedWeekly touches ofKind asRead
-  not-counted e l g t = at (or-cases (formedDaily e) (formedWeekly K e) g)
-    where
-      as-weekly : (b : Bool) → eqb (e .kind) weeklyKind ≡ b → isWeekly (asRead e) ≡ true → b ≡ true
-      as-weekly true q u = refl
-      as-weekly false q u = rw q at u
+  unfolding ofKind
+  not-counted e l g t =
+      let i = in-its-week K e g (weekly (asRead e) (and-left _ _ t)) in
+      omega (arith, i .from, eqb-true (e .week) w (and-right _ _ t))
 
-      at : (formedDaily e ≡ true) ⊎ (formedWeekly K e ≡ true) → ⊥
-      at (inl d) =
-          let d1 = and-left _ _ d in
-          let k0 = and-left _ _ d1 in
-          let k1 = as-weekly _ refl (weekly (asRead e) (and-left _ _ t)) in
-          omega (arith, eqb-true (e .kind) dailyKind k0, eqb-true (e .kind) weeklyKind k1)
-      at (inr v) =
-          let v1 = and-left _ _ v in
-          let v2 = and-right _ _ v1 in
-          let v3 = and-left _ _ v2 in
-          let e1 : e .week ≡ w = eqb-true (e .week) w (and-right _ _ t) in
-          omega (arith, ltb-true (e .span .start) (weekStart (e .week + 1)) v3)
-
-  none-counted : {fs : List Entry} → Starts s fs → allOf (formed K) fs ≡ true → countOf (ofKind f w) fs ≡ 0
+  pub none-counted : {fs : List Entry} → Starts s fs → allOf (formed K) fs ≡ true → countOf (ofKind f w) fs ≡ 0
   unfolding countOf allOf
   none-counted nil g = refl
   none-counted (cons {e = e} l st) g =
@@ -248,7 +256,7 @@ module _ (K w : ℕ) (f : Kind → Bool) (weekly : (m : Kind) → f m ≡ true �
   unfolding countedIn
   counted-cut k p q e es st g = ap₂ (λ (b : Bool) (n : ℕ). pick b 1 n) e (count-cut k es st g)
 
-regular-weekly : (m : Kind) → isRegular m ≡ true → isWeekly m ≡ true
+pub regular-weekly : (m : Kind) → isRegular m ≡ true → isWeekly m ≡ true
 regular-weekly Daily t = t
 regular-weekly (Weekly s) t = refl
 

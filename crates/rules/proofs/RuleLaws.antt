@@ -12,7 +12,8 @@ use Rattle.recording.specs.Days.{days, drivingIn}
 use Rattle.recording.specs.Weeks.{weeksOf, restOnly}
 use Rattle.rules.specs.Broken.{unless, ifNone}
 use Rattle.rules.specs.Fixed.{rule1, rule2, rule3, rule4, rule5, firstBroken, fixedTest}
-use Rattle.rules.specs.Reading.{entries}
+use Rattle.recording.specs.declared.Span.{Span}
+use Rattle.rules.specs.Reading.{Entry, entries}
 use Rattle.rules.specs.ReadingRules.{rule6, rule7, rule8, rule9, rule10, rule11, laterTest, readingTest}
 use Rattle.rules.specs.Verdict.{lawful}
 
@@ -45,6 +46,30 @@ pub rules-fixed : (ms : List ℕ) → FixedRules ms → fixedTest ms ≡ 0
 unfolding fixedTest firstBroken
 rules-fixed ms a = simp (a .one, a .two, a .three, a .four, a .five)
 
+-- where S is s and the long rests are rs
+pub record LaterRules (restWeek : ℕ → Bool) (s : ℕ) (rs : List Span) (es : List Entry) : Type 0 where
+  pub six : rule6 (length rs) es ≡ true
+  pub seven : rule7 es ≡ true
+  pub eight : rule8 s rs es ≡ true
+  pub nine : rule9 es ≡ true
+  pub ten : rule10 s es ≡ true
+  pub eleven : rule11 restWeek s es ≡ true
+
+pub later-rules : (restWeek : ℕ → Bool) (s : ℕ) (rs : List Span) (es : List Entry) → laterTest restWeek s rs es ≡ 0 → LaterRules restWeek s rs es
+unfolding laterTest
+later-rules restWeek s rs es t =
+    let r6 = holds _ 5 _ t in
+    let r7 = holds _ 6 _ (r6 .1) in
+    let r8 = holds _ 7 _ (r7 .1) in
+    let r9 = holds _ 8 _ (r8 .1) in
+    let r10 = holds _ 9 _ (r9 .1) in
+    let r11 = holds _ 10 _ (r10 .1) in
+    record { six = r6 .0; seven = r7 .0; eight = r8 .0; nine = r9 .0; ten = r10 .0; eleven = r11 .0 }
+
+pub rules-later : (restWeek : ℕ → Bool) (s : ℕ) (rs : List Span) (es : List Entry) → LaterRules restWeek s rs es → laterTest restWeek s rs es ≡ 0
+unfolding laterTest
+rules-later restWeek s rs es a = simp (a .six, a .seven, a .eight, a .nine, a .ten, a .eleven)
+
 pub record AllRules (ms bytes : List ℕ) : Type 0 where
   pub fixed : fixedTest ms ≡ 0
   pub six : rule6 (length (longRests ms)) (entries (longRests ms) bytes) ≡ true
@@ -55,16 +80,11 @@ pub record AllRules (ms bytes : List ℕ) : Type 0 where
   pub eleven : rule11 (restOnly ms) (judgedEnd ms) (entries (longRests ms) bytes) ≡ true
 
 pub all-rules : (ms bytes : List ℕ) → readingTest ms bytes ≡ 0 → AllRules ms bytes
-unfolding readingTest laterTest
+unfolding readingTest
 all-rules ms bytes t =
     let f = none-broken _ _ t in
-    let r6 = holds _ 5 _ (f .1) in
-    let r7 = holds _ 6 _ (r6 .1) in
-    let r8 = holds _ 7 _ (r7 .1) in
-    let r9 = holds _ 8 _ (r8 .1) in
-    let r10 = holds _ 9 _ (r9 .1) in
-    let r11 = holds _ 10 _ (r10 .1) in
-    record { fixed = f .0; six = r6 .0; seven = r7 .0; eight = r8 .0; nine = r9 .0; ten = r10 .0; eleven = r11 .0 }
+    let l = later-rules (restOnly ms) (judgedEnd ms) (longRests ms) (entries (longRests ms) bytes) (f .1) in
+    record { fixed = f .0; six = l .six; seven = l .seven; eight = l .eight; nine = l .nine; ten = l .ten; eleven = l .eleven }
 
 pub rules-all : (ms bytes : List ℕ) → AllRules ms bytes → readingTest ms bytes ≡ 0
 unfolding readingTest laterTest

@@ -1,0 +1,6 @@
+pub mod Heads
+pub mod Payments
+pub mod Carriers
+pub mod Monotone
+pub mod Windows
+pub mod RunLaws

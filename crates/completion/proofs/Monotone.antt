@@ -1,0 +1,575 @@
+-- A state that is at least as good can complete what another can; and what follows from that: a rest that can be a regular weekly one need not
+-- be daily, a debt that is due after S needs nothing, and the best state before a rest can complete what any other can.
+-- Assumes nothing.
+use mathlib.Core.Path.{_≡_, refl, sym, ap, subst, _∙_}
+use mathlib.Core.Logic.{_⊎_, inl, inr}
+use mathlib.Core.Bool.{Bool, true, false, false≢true}
+use mathlib.Core.List.{List}
+use Prim.Native.Nat.{ℕ, zero, suc, _+_, _-_, _*_, _≤_, _<_, min, zero-le}
+use native.Mathlib.Nat.{le-refl, le-trans, eq-or-lt-of-le, eq-zero-or-pos}
+use native.Mathlib.Omega.{arith}
+use lib.Dec.{leb, eqb}
+use lib.ListN.{length, set, length-set}
+use lib.Seq.{getD-set-same, getD-set-other, set-out, set-getD}
+use borrow.Author.Tests.{leb-true, leb-false, le-leb, ltb-true, lt-ltb, eqb-true, eqb-false, eq-eqb}
+use Rattle.recording.specs.Tests.{_and_, _or_, pick, one}
+use Rattle.recording.specs.Weeks.{weekStart, weekOf}
+use Rattle.recording.proofs.TestLaws.{and-left, and-right, and-both, or-cases, or-left, or-right, one-most, less-or-not}
+use Rattle.rules.specs.Reading.{regularMinutes}
+use Rattle.rules.specs.ReadingRules.{leastNet, weeksToCompensate, dailyWindow, fullPortion, shortenedAtMost, weeklyAtLeast, regularAtLeast}
+use Rattle.rules.specs.declared.Kind.the-variants.{Weekly}
+use Rattle.rules.specs.declared.Standing.the-variants.{Regular}
+use Rattle.reading.specs.Items.{endBefore, Zeros}
+use Rattle.completion.specs.declared.Counts.{Counts}
+use Rattle.completion.specs.declared.State.{State}
+use Rattle.completion.specs.declared.Brought.{Brought}
+use Rattle.completion.specs.declared.Brought.the-variants.{Broken, To}
+use Rattle.completion.specs.States.{pairKept, nextWeek, advance, After, afterDaily, afterWeekly}
+use Rattle.completion.specs.Completable.{Course, at, count, restWeek, lengthAt, debtUnit, amountOf, dueOf, debtOf, Overdue, Pays, brief, ReadDaily, ReadWeekly, Reads, Tries, Completable, Lies, Stands}
+use Rattle.completion.specs.Better.{Milder, none, free, some, Debts, Better, Small, AtRest, bestState}
+
+-- ---- debts
+same-or-not : (a b : ℕ) → (a ≡ b) ⊎ (a ≡ b → ⊥)
+same-or-not a b = go (eqb a b) refl
+  where
+    go : (t : Bool) → eqb a b ≡ t → (a ≡ b) ⊎ (a ≡ b → ⊥)
+    go true e = inl (eqb-true a b e)
+    go false e = inr (eqb-false a b e)
+
+module _ (s : ℕ) where
+  pub milder-self : (a : ℕ) → Milder s a a
+  milder-self a = go (eq-zero-or-pos a)
+    where
+      go : (a ≡ 0) ⊎ (0 < a) → Milder s a a
+      go (inl z) = none z
+      go (inr h) = some h (le-refl _) (le-refl _)
+
+  pub debts-self : (o : List ℕ) → Debts s o o
+  debts-self o = record { long = refl; each = λ i. milder-self (at o i) }
+
+  milder-same : {a b a′ b′ : ℕ} → a′ ≡ a → b′ ≡ b → Milder s a b → Milder s a′ b′
+  milder-same {a} {b} {a′} {b′} e f m = subst (λ (x : ℕ). Milder s x b′) (sym e) (subst (λ (y : ℕ). Milder s a y) (sym f) m)
+
+  -- a store on both sides
+  pub set-both : {o p : List ℕ} (i : ℕ) {a b : ℕ} → Debts s o p → Milder s a b → Debts s (set o i a) (set p i b)
+  set-both {o} {p} i {a} {b} d m = record {
+    long = length-set o i a ∙ d .long ∙ sym (length-set p i b);
+    each = λ x. go x (same-or-not x i);
+  }
+    where
+      here : (i < length o) ⊎ (length o ≤ i) → Milder s (at (set o i a) i) (at (set p i b) i)
+      here (inl h) = milder-same (getD-set-same o i a 0 h) (getD-set-same p i b 0 (omega (arith, d .long))) m
+      here (inr h) = milder-same (ap (λ (l : List ℕ). at l i) (set-out o i a h)) (ap (λ (l : List ℕ). at l i) (set-out p i b (omega (arith, d .long)))) (d .each i)
+
+      go : (x : ℕ) → (x ≡ i) ⊎ (x ≡ i → ⊥) → Milder s (at (set o i a) x) (at (set p i b) x)
+      go x (inl e) = milder-same (ap (at (set o i a)) e) (ap (at (set p i b)) e) (here (less-or-not i (length o)))
+      go x (inr n) = milder-same (getD-set-other o i x a 0 n) (getD-set-other p i x b 0 n) (d .each x)
+
+  -- one side stays as it is
+  set-right : {o p : List ℕ} (i b : ℕ) → Debts s o p → Milder s (at o i) b → Debts s o (set p i b)
+  set-right {o} {p} i b d m = subst (λ (l : List ℕ). Debts s l (set p i b)) (set-getD o i 0) (set-both i d m)
+
+  pub set-left : {o p : List ℕ} (i a : ℕ) → Debts s o p → Milder s a (at p i) → Debts s (set o i a) p
+  set-left {o} {p} i a d m = subst (λ (l : List ℕ). Debts s (set o i a) l) (set-getD p i 0) (set-both i d m)
+
+  -- nothing owed is no worse than anything
+  pub zeros-least : (o p : List ℕ) → length o ≡ length p → Zeros o → Debts s o p
+  zeros-least o p e z = record { long = e; each = λ i. none (z i) }
+
+  -- a debt that is no worse than one that is compensated for is left, or is no more
+  data Settled (a b : ℕ) : Type 0 where
+    leave : Milder s a 0 → Settled a b
+    settle : 0 < a → amountOf a ≤ amountOf b → Settled a b
+
+  settled : {a b : ℕ} → Milder s a b → Settled a b
+  settled (none z) = leave (none z)
+  settled (free h) = leave (free h)
+  settled {a} {b} (some p q r) = go (eq-zero-or-pos a)
+    where
+      go : (a ≡ 0) ⊎ (0 < a) → Settled a b
+      go (inl z) = leave (none z)
+      go (inr h) = settle h q
+
+  overdue-one : {a b : ℕ} (t : ℕ) → t ≤ s + 1 → Milder s a b → 0 < a → dueOf a < t → (0 < b) × (dueOf b < t)
+  overdue-one t le (none z) h k = absurd (omega arith)
+  overdue-one t le (free f) h k = absurd (omega arith)
+  overdue-one t le (some p q r) h k = (p, omega arith)
+
+  pub overdue-mono : {o p : List ℕ} (t : ℕ) → t ≤ s + 1 → Debts s o p → Overdue o t → Overdue p t
+  unfolding Overdue
+  overdue-mono t le d h = let q = overdue-one t le (d .each (h .0)) (h .1) (h .2) in (h .0, q .0, q .1)
+
+  module _ (F G : ℕ → List ℕ → Type 0) (minutes : ℕ) (mono : (a b : ℕ) (o p : List ℕ) → a ≤ b → Debts s o p → G b p → F a o) where
+    pub pays-mono : (m i a b : ℕ) {o p : List ℕ} → a ≤ b → Debts s o p → Pays G minutes m i b p → Pays F minutes m i a o
+    unfolding Pays
+    pays-mono zero i a b {o} {p} le d h = mono a b o p le d h
+    pays-mono (suc m) i a b {o} {p} le d (inr h) = inr (pays-mono m (i + 1) a b le d h)
+    pays-mono (suc m) i a b {o} {p} le d (inl h) =
+        go (settled (d .each i))
+        (λ l e. pays-mono m (i + 1) a (b + amountOf (at p i)) l e (h .2))
+        (λ l e. pays-mono m (i + 1) (a + amountOf (at o i)) (b + amountOf (at p i)) l e (h .2))
+      where
+        go : Settled (at o i) (at p i)
+            → (a ≤ b + amountOf (at p i) → Debts s o (set p i 0) → Pays F minutes m (i + 1) a o)
+            → (a + amountOf (at o i) ≤ b + amountOf (at p i) → Debts s (set o i 0) (set p i 0) → Pays F minutes m (i + 1) (a + amountOf (at o i)) (set o i 0))
+            → Pays F minutes (suc m) i a o
+        go (leave z) f g = inr (f (omega arith) (set-right i 0 d z))
+        go (settle q e) f g = inl (q, omega (arith, h .1), g (omega arith) (set-both i d (none refl)))
+
+-- ---- states and weeks
+pub better-self : (x : State) → Better x x
+better-self x = record {
+  week = refl;
+  ended = le-refl _;
+  short = le-refl _;
+  weekly-before = le-refl _;
+  regular-before = le-refl _;
+  weekly = le-refl _;
+  regular = le-refl _;
+}
+
+pair-mono : {x y : State} → Better x y → pairKept y ≡ true → pairKept x ≡ true
+unfolding pairKept
+pair-mono {x} {y} b t = go (or-cases _ _ t)
+  where
+    go : (eqb (y .week) 0 ≡ true)
+        ⊎ (leb weeklyAtLeast (y .before .weekly + y .current .weekly) and leb regularAtLeast (y .before .regular + y .current .regular) ≡ true)
+        → pairKept x ≡ true
+    go (inl z) = or-left _ _ (eq-eqb (x .week) 0 (b .week ∙ eqb-true (y .week) 0 z))
+    go (inr z) =
+        let u = leb-true weeklyAtLeast (y .before .weekly + y .current .weekly) (and-left _ _ z) in
+        let v = leb-true regularAtLeast (y .before .regular + y .current .regular) (and-right _ _ z) in
+        or-right (eqb (x .week) 0) _
+        (and-both _ _ (le-leb weeklyAtLeast (x .before .weekly + x .current .weekly) (omega (arith, b .weekly-before, b .weekly)))
+        (le-leb regularAtLeast (x .before .regular + x .current .regular) (omega (arith, b .regular-before, b .regular))))
+
+module _ (restWeek : ℕ → Bool) where
+  next-better : {x y : State} → Better x y → Better (nextWeek (restWeek (x .week + 1)) x) (nextWeek (restWeek (y .week + 1)) y)
+  next-better {x} {y} b =
+      let e : one (restWeek (y .week + 1)) ≡ one (restWeek (x .week + 1)) = ap (λ (n : ℕ). one (restWeek (n + 1))) (sym (b .week)) in
+      record {
+        week = ap (λ (n : ℕ). n + 1) (b .week);
+        ended = b .ended;
+        short = b .short;
+        weekly-before = b .weekly;
+        regular-before = b .regular;
+        weekly = omega (arith, e);
+        regular = omega (arith, e);
+      }
+
+  after-pick : (P Q : State → Type 0) (s t : Bool) (u v : Brought) → (t ≡ true → s ≡ true) → (After v Q → After u P) → After (pick t v Broken) Q
+      → After (pick s u Broken) P
+  after-pick P Q true true u v f g h = g h
+  after-pick P Q false true u v f g h = absurd (false≢true (f refl))
+  after-pick P Q s false u v f g h = absurd h
+
+  -- what a better state is brought to is better
+  pub advance-mono : (P Q : State → Type 0) (n : ℕ) {x y : State} → Better x y → ((x′ y′ : State) → Better x′ y′ → Q y′ → P x′)
+      → After (advance restWeek n y) Q → After (advance restWeek n x) P
+  unfolding advance
+  advance-mono P Q zero {x} {y} b f h = f x y b h
+  advance-mono P Q (suc n) {x} {y} b f h = after-pick P Q (pairKept x) (pairKept y) _ _ (pair-mono b) (advance-mono P Q n (next-better b) f) h
+
+  -- what an advance keeps
+  pub record Carried (n : ℕ) (st there : State) : Type 0 where
+    pub week : there .week ≡ st .week + n
+    pub ended : there .ended ≡ st .ended
+    pub short : there .short ≡ st .short
+    pub small : Small there
+
+  next-small : (b : Bool) {st : State} → Small st → Small (nextWeek b st)
+  next-small b h = record {
+    short = h .short;
+    weekly-before = h .weekly;
+    regular-before = h .regular;
+    weekly = le-trans (one-most b) (omega arith);
+    regular = one-most b;
+  }
+
+  carried-on : (n : ℕ) (b : Bool) (st there : State) → Carried n (nextWeek b st) there → Carried (suc n) st there
+  carried-on n b st there h = record { week = omega (arith, h .week); ended = h .ended; short = h .short; small = h .small }
+
+  after-if : (P Q : State → Type 0) (t : Bool) (u : Brought) → (After u Q → After u P) → After (pick t u Broken) Q → After (pick t u Broken) P
+  after-if P Q true u f h = f h
+  after-if P Q false u f h = absurd h
+
+  -- what follows of an advanced state may take that it is such
+  pub advanced : (P Q : State → Type 0) (n : ℕ) {st : State} → Small st → ((there : State) → Carried n st there → Q there → P there)
+      → After (advance restWeek n st) Q → After (advance restWeek n st) P
+  unfolding advance
+  advanced P Q zero {st} h f a = f st (record { week = omega arith; ended = refl; short = refl; small = h }) a
+  advanced P Q (suc n) {st} h f a =
+      after-if P Q (pairKept st) _
+      (advanced P Q n (next-small (restWeek (st .week + 1)) h) (λ there k q. f there (carried-on n (restWeek (st .week + 1)) st there k) q)) a
+
+-- ---- a rest
+least : (n a b : ℕ) → a ≤ b → min n a ≤ min n b
+least n a b le = omega arith
+
+one-mono : (s t : Bool) → (s ≡ true → t ≡ true) → one s ≤ one t
+one-mono true t f = rw (f refl) (le-refl _)
+one-mono false t f = zero-le
+
+brief-mono : (c : Course) (j a b : ℕ) → a ≤ b → one (brief c j a) ≤ one (brief c j b)
+brief-mono c j a b le =
+    one-mono (brief c j a) (brief c j b)
+    (λ t. lt-ltb _ _ (more (at (c .ends) j) (endBefore (c .ends) j) (at (c .starts) j) (ltb-true _ _ t)))
+  where
+    more : (e p t : ℕ) → min e (p + dailyWindow + a) < t + fullPortion + a → min e (p + dailyWindow + b) < t + fullPortion + b
+    more e p t h = omega arith
+
+daily-better : {x y : State} (s t : Bool) → one s ≤ one t → Better x y → Better (afterDaily s x) (afterDaily t y)
+daily-better s t le b = record {
+  week = b .week;
+  ended = b .ended;
+  short = omega (arith, b .short);
+  weekly-before = b .weekly-before;
+  regular-before = b .regular-before;
+  weekly = b .weekly;
+  regular = b .regular;
+}
+
+weekly-better : {x y : State} (restWeek s t : Bool) (end : ℕ) → one t ≤ one s → Better x y → Better (afterWeekly restWeek s end x) (afterWeekly restWeek t end y)
+weekly-better true s t end le b = record {
+  week = b .week;
+  ended = le-refl _;
+  short = zero-le;
+  weekly-before = b .weekly-before;
+  regular-before = b .regular-before;
+  weekly = b .weekly;
+  regular = b .regular;
+}
+weekly-better false s t end le b = record {
+  week = b .week;
+  ended = le-refl _;
+  short = zero-le;
+  weekly-before = b .weekly-before;
+  regular-before = b .regular-before;
+  weekly = least weeklyAtLeast _ _ (omega (arith, b .weekly));
+  regular = least regularAtLeast _ _ (omega (arith, b .regular));
+}
+
+-- less given as compensation leaves a debt that is no worse
+debt-mono : (s minutes w a b : ℕ) → a ≤ b → leastNet (Weekly Regular) + b ≤ minutes → Milder s (debtOf minutes a w) (debtOf minutes b w)
+unfolding debtOf
+debt-mono s minutes w a b le net = go (leb (regularMinutes + a) minutes) (leb (regularMinutes + b) minutes) refl refl
+  where
+    go : (t u : Bool) → leb (regularMinutes + a) minutes ≡ t → leb (regularMinutes + b) minutes ≡ u
+        → Milder s (pick t 0 ((w + weeksToCompensate) * debtUnit + (regularMinutes + a - minutes)))
+        (pick u 0 ((w + weeksToCompensate) * debtUnit + (regularMinutes + b - minutes)))
+    go true u e f = none refl
+    go false true e f = absurd (omega (arith, leb-false (regularMinutes + a) minutes e, leb-true (regularMinutes + b) minutes f))
+    go false false e f = some (omega arith) (omega arith) (omega arith)
+
+module _ (c : Course) where
+  -- what follows can do at least as much from what is at least as good
+  abbrev pub Mono : (State → List ℕ → Type 0) → Type 0
+  Mono K = (x y : State) (o p : List ℕ) → Better x y → Debts (c .judged) o p → K y p → K x o
+
+  module _ (K : State → List ℕ → Type 0) (mono : Mono K) (j : ℕ) {x y : State} (better : Better x y) where
+    daily-mono : (a b : ℕ) (o p : List ℕ) → a ≤ b → Debts (c .judged) o p → ReadDaily c K j y b p → ReadDaily c K j x a o
+    daily-mono a b o p le d h =
+        let e = brief-mono c j a b le in
+        record {
+          net = omega (arith, h .net);
+          few = omega (arith, h .few, e, better .short);
+          then = mono _ _ o p (daily-better (brief c j a) (brief c j b) e better) d (h .then);
+        }
+
+    weekly-mono : (a b : ℕ) (o p : List ℕ) → a ≤ b → Debts (c .judged) o p → ReadWeekly c K j y b p → ReadWeekly c K j x a o
+    weekly-mono a b o p le d h = record {
+      net = omega (arith, h .net);
+      week = h .week;
+      from = h .from;
+      upto = h .upto;
+      then =
+          advance-mono (restWeek c)
+          (λ there. K (afterWeekly (restWeek c (h .week)) (leb (regularMinutes + a) (lengthAt c j)) (at (c .ends) j) there) (set o j (debtOf (lengthAt c j) a (h .week))))
+          (λ there. K (afterWeekly (restWeek c (h .week)) (leb (regularMinutes + b) (lengthAt c j)) (at (c .ends) j) there) (set p j (debtOf (lengthAt c j) b (h .week))))
+          (h .week - x .week) better
+          (λ x′ y′ b′. mono _ _ _ _ (weekly-better (restWeek c (h .week)) _ _ (at (c .ends) j) regular b′) (set-both (c .judged) j d (debt-mono (c .judged) (lengthAt c j) (h .week) a b le (h .net))))
+          (subst (λ (n : ℕ). After (advance (restWeek c) (h .week - n) y) (λ there. K (afterWeekly (restWeek c (h .week)) (leb (regularMinutes + b) (lengthAt c j)) (at (c .ends) j) there) (set p j (debtOf (lengthAt c j) b (h .week))))) (sym (better .week)) (h .then));
+    }
+      where
+        regular : one (leb (regularMinutes + b) (lengthAt c j)) ≤ one (leb (regularMinutes + a) (lengthAt c j))
+        regular =
+            one-mono _ _
+            (λ t. le-leb (regularMinutes + a) (lengthAt c j) (let u = leb-true (regularMinutes + b) (lengthAt c j) t in omega arith))
+
+    reads-mono : (a b : ℕ) (o p : List ℕ) → a ≤ b → Debts (c .judged) o p → Reads c K j y b p → Reads c K j x a o
+    reads-mono a b o p le d (inl h) = inl (daily-mono a b o p le d h)
+    reads-mono a b o p le d (inr h) = inr (weekly-mono a b o p le d h)
+
+    pub tries-by : (o p : List ℕ) → Debts (c .judged) o p → Tries c K j y p → Tries c K j x o
+    tries-by o p d h =
+        pays-mono (c .judged) (Reads c K j x) (Reads c K j y) (lengthAt c j) reads-mono j 0 (at (c .promised) j) (at (c .promised) j) (le-refl _) d h
+
+-- ---- the laws
+regular-better : (st : State) (restWeek short : Bool) (end : ℕ) → Small st → st .ended ≤ end → Better (afterWeekly restWeek true end st) (afterDaily short st)
+regular-better st true short end h le = record {
+  week = refl;
+  ended = le;
+  short = zero-le;
+  weekly-before = le-refl _;
+  regular-before = le-refl _;
+  weekly = le-refl _;
+  regular = le-refl _;
+}
+regular-better st false short end h le = record {
+  week = refl;
+  ended = le;
+  short = zero-le;
+  weekly-before = le-refl _;
+  regular-before = le-refl _;
+  weekly = omega (arith, h .weekly);
+  regular = omega (arith, h .regular);
+}
+
+module _ (c : Course) (lies : Lies c) where
+  pub completable-mono : (n j : ℕ) (x y : State) (o p : List ℕ) → n + j ≡ count c → Better x y → Debts (c .judged) o p
+      → Completable c n j y p → Completable c n j x o
+  unfolding Completable
+  completable-mono zero j x y o p e b d h = (
+    (
+      omega (arith, h .0 .0, b .ended),
+      advance-mono (restWeek c) (λ _. Unit) (λ _. Unit) (weekOf (c .judged) - x .week) b (λ _ _ _ u. u)
+          (subst (λ (w : ℕ). After (advance (restWeek c) (weekOf (c .judged) - w) y) (λ _. Unit)) (sym (b .week)) (h .0 .1)),
+    ),
+    λ l. h .1 (overdue-mono (c .judged) (c .judged + 1) (le-refl _) d l),
+  )
+  completable-mono (suc n) j x y o p e b d h = (
+    omega (arith, h .0, b .ended),
+    λ l. h .1 (overdue-mono (c .judged) (at (c .ends) j) (let u = lies .judged j (omega arith) in omega arith) d l),
+    advance-mono (restWeek c) (λ here. Tries c (Completable c n (suc j)) j here o) (λ here. Tries c (Completable c n (suc j)) j here p)
+        (weekOf (at (c .starts) j) - x .week) b
+        (λ x′ y′ b′. tries-by c (Completable c n (suc j)) (λ x″ y″ o′ p′. completable-mono n (suc j) x″ y″ o′ p′ (omega arith)) j b′ o p d)
+        (subst (λ (w : ℕ). After (advance (restWeek c) (weekOf (at (c .starts) j) - w) y) (λ here. Tries c (Completable c n (suc j)) j here p)) (sym (b .week)) (h .2)),
+  )
+
+  pub tries-mono : (n j : ℕ) (x y : State) (o p : List ℕ) → n + suc j ≡ count c → Better x y → Debts (c .judged) o p
+      → Tries c (Completable c n (suc j)) j y p → Tries c (Completable c n (suc j)) j x o
+  tries-mono n j x y o p e b d h = tries-by c (Completable c n (suc j)) (λ x′ y′ o′ p′. completable-mono n (suc j) x′ y′ o′ p′ e) j b o p d h
+
+  -- a rest that can be a regular weekly rest, in the week in which it starts, need not be daily
+  pub regular-by : (K : State → List ℕ → Type 0) → Mono c K → (j : ℕ) (here : State) (load : ℕ) (owed : List ℕ) → AtRest c j here
+      → regularMinutes + load ≤ lengthAt c j → ReadDaily c K j here load owed → ReadWeekly c K j here load owed
+  unfolding advance debtOf
+  regular-by K mono j here load owed r fits h =
+      let proper = lies .proper j (r .within) in
+      let w = weekOf (at (c .starts) j) in
+      let still : 0 ≡ w - here .week = omega (arith, r .week) in
+      let yes : true ≡ leb (regularMinutes + load) (lengthAt c j) = sym (le-leb (regularMinutes + load) (lengthAt c j) fits) in
+      record {
+        net = omega (arith, fits);
+        week = w;
+        from = omega arith;
+        upto = omega (arith, proper);
+        then =
+            subst (λ (m : ℕ). After (advance (restWeek c) m here) (λ there. K (afterWeekly (restWeek c w) (leb (regularMinutes + load) (lengthAt c j)) (at (c .ends) j) there) (set owed j (debtOf (lengthAt c j) load w)))) still
+            (subst (λ (t : Bool). K (afterWeekly (restWeek c w) t (at (c .ends) j) here) (set owed j (pick t 0 ((w + weeksToCompensate) * debtUnit + (regularMinutes + load - lengthAt c j))))) yes
+            (mono _ _ _ owed (regular-better here (restWeek c w) (brief c j load) (at (c .ends) j) (r .small) (omega (arith, proper, r .ended)))
+            (set-left (c .judged) j 0 (debts-self (c .judged) owed) (none refl)) (h .then)));
+      }
+
+  pub regular-instead : (n j : ℕ) (here : State) (load : ℕ) (owed : List ℕ) → n + suc j ≡ count c → AtRest c j here → regularMinutes + load ≤ lengthAt c j
+      → ReadDaily c (Completable c n (suc j)) j here load owed → ReadWeekly c (Completable c n (suc j)) j here load owed
+  regular-instead n j here load owed e r fits h =
+      regular-by (Completable c n (suc j)) (λ x y o p. completable-mono n (suc j) x y o p e) j here load owed r fits h
+
+  -- a debt that is due after S needs nothing
+  module _ (n j : ℕ) (st : State) (owed : List ℕ) (i d : ℕ) (e : n + j ≡ count c) (after : c .judged < dueOf d) where
+    pub forget : Completable c n j st (set owed i d) → Completable c n j st (set owed i 0)
+    forget h = completable-mono n j st st _ _ e (better-self st) (set-both (c .judged) i (debts-self (c .judged) owed) (none refl)) h
+
+    pub recall : Completable c n j st (set owed i 0) → Completable c n j st (set owed i d)
+    recall h = completable-mono n j st st _ _ e (better-self st) (set-both (c .judged) i (debts-self (c .judged) owed) (free after)) h
+
+-- ---- the states that are reached
+-- of compensating out of a rest, what is asked in the end
+pub record Chosen (F : ℕ → List ℕ → Type 0) (owed : List ℕ) : Type 0 where
+  pub load : ℕ
+  pub left : List ℕ
+  pub long : length left ≡ length owed
+  pub asked : F load left
+
+pub chosen : (F : ℕ → List ℕ → Type 0) (minutes m i load : ℕ) (owed : List ℕ) → Pays F minutes m i load owed → Chosen F owed
+unfolding Pays
+chosen F minutes zero i load owed h = record { load = load; left = owed; long = refl; asked = h }
+chosen F minutes (suc m) i load owed (inl h) =
+    let q = chosen F minutes m (i + 1) (load + amountOf (at owed i)) (set owed i 0) (h .2) in
+    record { load = q .load; left = q .left; long = q .long ∙ length-set owed i 0; asked = q .asked }
+chosen F minutes (suc m) i load owed (inr h) = chosen F minutes m (i + 1) load owed h
+
+after-constant : (X : Type 0) (b : Brought) → After b (λ _. X) → X
+after-constant X Broken h = absurd h
+after-constant X (To st) h = h
+
+pub daily-small : (t : Bool) {here : State} → Small here → here .short + one t ≤ shortenedAtMost → Small (afterDaily t here)
+daily-small t h few = record {
+  short = few;
+  weekly-before = h .weekly-before;
+  regular-before = h .regular-before;
+  weekly = h .weekly;
+  regular = h .regular;
+}
+
+pub weekly-small : (restWeek t : Bool) (end : ℕ) {there : State} → Small there → Small (afterWeekly restWeek t end there)
+weekly-small true t end h = record {
+  short = zero-le;
+  weekly-before = h .weekly-before;
+  regular-before = h .regular-before;
+  weekly = h .weekly;
+  regular = h .regular;
+}
+weekly-small false t end h = record {
+  short = zero-le;
+  weekly-before = h .weekly-before;
+  regular-before = h .regular-before;
+  weekly = omega arith;
+  regular = omega arith;
+}
+
+module _ (c : Course) (lies : Lies c) where
+  -- a rest ends before each later one starts
+  later-from : (m j : ℕ) → j + suc m < count c → at (c .ends) j ≤ at (c .starts) (j + suc m)
+  later-from zero j h = let e : suc j ≡ j + 1 = omega arith in subst (λ (i : ℕ). at (c .ends) j ≤ at (c .starts) i) e (lies .ordered j (omega arith))
+  later-from (suc m) j h =
+      let a = later-from m j (omega arith) in
+      let b = lies .proper (j + suc m) (omega arith) in
+      let d = lies .ordered (j + suc m) (omega arith) in
+      let e : suc (j + suc m) ≡ j + suc (suc m) = omega arith in
+      subst (λ (i : ℕ). at (c .ends) j ≤ at (c .starts) i) e (omega (arith, a, b, d))
+
+  pub later : (j i : ℕ) → j < i → i < count c → at (c .ends) j ≤ at (c .starts) i
+  later j i l h = let e : j + suc (i - suc j) ≡ i = omega arith in subst (λ (x : ℕ). at (c .ends) j ≤ at (c .starts) x) e (later-from (i - suc j) j (omega arith))
+
+  pub arrives : {j : ℕ} {st here : State} → j < count c → Stands c j st → Carried (restWeek c) (weekOf (at (c .starts) j) - st .week) st here → AtRest c j here
+  arrives {j} l h k = record {
+    within = l;
+    small = k .small;
+    week = omega (arith, k .week, h .week j (le-refl _) l);
+    ended = omega (arith, k .ended, h .ended j (le-refl _) l);
+  }
+
+  pub daily-stands : (j : ℕ) (t : Bool) {here : State} → AtRest c j here → here .short + one t ≤ shortenedAtMost → Stands c (suc j) (afterDaily t here)
+  daily-stands j t h few =
+      let p = lies .proper j (h .within) in
+      record {
+        short = few;
+        ended = λ i l k. omega (arith, h .ended, later j i l k, p);
+        week = λ i l k. omega (arith, h .week, later j i l k, p);
+        week-judged = omega (arith, h .week, lies .judged j (h .within), p);
+      }
+
+  -- the week reached is the one in which the rest is counted
+  pub counted-week : (j w : ℕ) {here there : State} → AtRest c j here → at (c .starts) j < weekStart (w + 1) → Carried (restWeek c) (w - here .week) here there → there .week ≡ w
+  counted-week j w h from k = omega (arith, h .week, k .week)
+
+  pub weekly-stands : (j w : ℕ) (rest t : Bool) {here there : State} → AtRest c j here → at (c .starts) j < weekStart (w + 1) → weekStart w < at (c .ends) j
+      → Carried (restWeek c) (w - here .week) here there → Stands c (suc j) (afterWeekly rest t (at (c .ends) j) there)
+  weekly-stands j w rest t h from upto k =
+      let e = counted-week j w h from k in
+      record {
+        short = zero-le;
+        ended = λ i l m. later j i l m;
+        week = λ i l m. omega (arith, later j i l m);
+        week-judged = omega (arith, lies .judged j (h .within));
+      }
+
+  -- a state from which the rests from index j on can be completed
+  pub record Onward (n j : ℕ) (long : ℕ) : Type 0 where
+    pub state : State
+    pub owed : List ℕ
+    pub as-long : length owed ≡ long
+    pub stands : Stands c j state
+    pub small : Small state
+    pub can : Completable c n j state owed
+
+  reached : (n j long : ℕ) (here : State) (load : ℕ) (owed : List ℕ) → length owed ≡ long → AtRest c j here → Reads c (Completable c n (suc j)) j here load owed
+      → Onward n (suc j) long
+  reached n j long here load owed e r (inl h) = record {
+    state = afterDaily (brief c j load) here;
+    owed = owed;
+    as-long = e;
+    stands = daily-stands j (brief c j load) r (h .few);
+    small = daily-small (brief c j load) (r .small) (h .few);
+    can = h .then;
+  }
+  reached n j long here load owed e r (inr h) =
+      let next = afterWeekly (restWeek c (h .week)) (leb (regularMinutes + load) (lengthAt c j)) (at (c .ends) j) in
+      let left = set owed j (debtOf (lengthAt c j) load (h .week)) in
+      after-constant (Onward n (suc j) long) (advance (restWeek c) (h .week - here .week) here)
+      (advanced (restWeek c) (λ _. Onward n (suc j) long) (λ there. Completable c n (suc j) (next there) left) (h .week - here .week) (r .small)
+      (λ there k q. record {
+        state = next there;
+        owed = left;
+        as-long = length-set owed j (debtOf (lengthAt c j) load (h .week)) ∙ e;
+        stands = weekly-stands j (h .week) (restWeek c (h .week)) (leb (regularMinutes + load) (lengthAt c j)) r (h .from) (h .upto) k;
+        small = weekly-small (restWeek c (h .week)) (leb (regularMinutes + load) (lengthAt c j)) (at (c .ends) j) (k .small);
+        can = q;
+      })
+      (h .then))
+
+  pub onward : (n j : ℕ) (st : State) (owed : List ℕ) → suc n + j ≡ count c → Stands c j st → Small st → Completable c (suc n) j st owed
+      → Onward n (suc j) (length owed)
+  unfolding Completable
+  onward n j st owed e stands small h =
+      let w = weekOf (at (c .starts) j) - st .week in
+      after-constant (Onward n (suc j) (length owed)) (advance (restWeek c) w st)
+      (advanced (restWeek c) (λ _. Onward n (suc j) (length owed)) (λ here. Tries c (Completable c n (suc j)) j here owed) w small
+      (λ here k q.
+      let r = arrives (omega arith) stands k in
+      let x = chosen (Reads c (Completable c n (suc j)) j here) (lengthAt c j) j 0 (at (c .promised) j) owed q in
+      reached n j (length owed) here (x .load) (x .left) (x .long) r (x .asked))
+      (h .2))
+
+  -- the best state before a rest is at least as good as any state there
+  best-better : {j : ℕ} {here : State} → AtRest c j here → Better (bestState (at (c .starts) j)) here
+  best-better h = record {
+    week = sym (h .week);
+    ended = h .ended;
+    short = zero-le;
+    weekly-before = h .small .weekly-before;
+    regular-before = h .small .regular-before;
+    weekly = h .small .weekly;
+    regular = h .small .regular;
+  }
+
+  nothing-overdue : (o : List ℕ) (t : ℕ) → Zeros o → Overdue o t → ⊥
+  unfolding Overdue
+  nothing-overdue o t z h = omega (arith, h .1, z (h .0))
+
+  best-can : (n j : ℕ) (st : State) (owed zeros : List ℕ) → suc n + j ≡ count c → Stands c j st → Small st → length zeros ≡ length owed → Zeros zeros
+      → Completable c (suc n) j st owed → Completable c (suc n) j (bestState (at (c .starts) j)) zeros
+  unfolding Completable advance
+  best-can n j st owed zeros e stands small long z h =
+      let t = at (c .starts) j in
+      let w = weekOf t - st .week in
+      let still : 0 ≡ weekOf t - weekOf t = omega arith in (
+        omega arith,
+        nothing-overdue zeros (at (c .ends) j) z,
+        subst (λ (m : ℕ). After (advance (restWeek c) m (bestState t)) (λ here. Tries c (Completable c n (suc j)) j here zeros)) still
+            (after-constant (Tries c (Completable c n (suc j)) j (bestState t) zeros) (advance (restWeek c) w st)
+            (advanced (restWeek c) (λ _. Tries c (Completable c n (suc j)) j (bestState t) zeros) (λ here. Tries c (Completable c n (suc j)) j here owed) w small
+            (λ here k q.
+            tries-mono c lies n j (bestState t) here zeros owed (omega arith) (best-better (arrives (omega arith) stands k)) (zeros-least (c .judged) zeros owed long z) q)
+            (h .2))),
+      )
+
+  -- from each later rest on, the best state before it can complete what is left
+  pub from-back : (n j : ℕ) (st : State) (owed : List ℕ) → n + j ≡ count c → Stands c j st → Small st → Completable c n j st owed
+      → (i : ℕ) → j ≤ i → i < count c → (zeros : List ℕ) → length zeros ≡ length owed → Zeros zeros
+      → Completable c (count c - i) i (bestState (at (c .starts) i)) zeros
+  from-back zero j st owed e stands small h i l k zeros long z = absurd (omega arith)
+  from-back (suc n) j st owed e stands small h i l k zeros long z =
+      let o = onward n j st owed e stands small h in
+      go (eq-or-lt-of-le l)
+      (λ q. from-back n (suc j) (o .state) (o .owed) (omega arith) (o .stands) (o .small) (o .can) i q k zeros (long ∙ sym (o .as-long)) z)
+    where
+      go : (j ≡ i) ⊎ (j < i) → (suc j ≤ i → Completable c (count c - i) i (bestState (at (c .starts) i)) zeros)
+          → Completable c (count c - i) i (bestState (at (c .starts) i)) zeros
+      go (inl q) f =
+          let m : suc n ≡ count c - j = omega arith in
+          subst (λ (x : ℕ). Completable c (count c - x) x (bestState (at (c .starts) x)) zeros) q
+          (subst (λ (x : ℕ). Completable c x j (bestState (at (c .starts) j)) zeros) m (best-can n j st owed zeros e stands small long z h))
+      go (inr q) f = f (omega arith)
