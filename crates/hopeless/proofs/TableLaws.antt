@@ -1,0 +1,292 @@
+-- Laws of the table of hopeless states: what a store leaves as it was, and what it writes. Assumes nothing.
+use mathlib.Core.Path.{_≡_, refl, sym, ap, subst, _∙_}
+use mathlib.Core.Logic.{_⊎_, inl, inr, ⊎-elim}
+use mathlib.Core.Bool.{Bool, true, false}
+use mathlib.Core.List.{List, [], _∷_}
+use Prim.Native.Nat.{ℕ, zero, suc, _+_, _-_, _*_, _/_, _%_, _≤_, _<_}
+use native.Mathlib.Nat.{eq-or-lt-of-le, le-refl}
+use native.Mathlib.Omega.{arith}
+use lib.Dec.{ltb, eqb}
+use lib.ListN.{length, getD, set, length-set, List·getD-eq-default}
+use lib.Seq.{getD-set-same, getD-set-other}
+use borrow.Author.Tests.{lt-ltb, eqb-true, eqb-false}
+use Rattle.recording.specs.Tests.{one}
+use Rattle.recording.proofs.TestLaws.{less-or-not}
+use Rattle.completion.specs.declared.State.{State}
+use Rattle.completion.specs.Completable.{at, debtUnit, dueOf}
+use Rattle.completion.specs.Better.{Milder}
+use Rattle.hopeless.specs.Table.{ringSize, stateWords, debtsAtMost, entryWords, levelWords, levelAt, entryAt, debtsOf, debtorPlace, debtPlace, debtorOf, debtIn, InUse, Covered, Listed, Holds, Entry, old, new, Remembered, Empty, owing, writtenFrom, wordsOf, stated, Put, PutAll}
+
+pub same-or-not : (a b : ℕ) → (a ≡ b) ⊎ (a ≡ b → ⊥)
+same-or-not a b = go (eqb a b) refl
+  where
+    go : (t : Bool) → eqb a b ≡ t → (a ≡ b) ⊎ (a ≡ b → ⊥)
+    go true e = inl (eqb-true a b e)
+    go false e = inr (eqb-false a b e)
+
+-- ---- a word stored
+pub same : (t : List ℕ) (i a : ℕ) → i < length t → at (set t i a) i ≡ a
+same t i a l = getD-set-same t i a 0 l
+
+pub skip : (t : List ℕ) (i x a : ℕ) → (x ≡ i → ⊥) → at (set t i a) x ≡ at t x
+skip t i x a n = getD-set-other t i x a 0 n
+
+pub at-end : (xs : List ℕ) (i : ℕ) → length xs ≤ i → at xs i ≡ 0
+at-end xs i l = List·getD-eq-default xs 0 l
+
+-- ---- levels emptied from the last on: those from i on, below k
+pub record EmptyFrom (t : List ℕ) (i k : ℕ) : Type 0 where
+  pub each : (x : ℕ) → i ≤ x → x < k → at t (levelAt x) ≡ 0
+
+pub empty-start : (t : List ℕ) (k : ℕ) → EmptyFrom t k k
+empty-start t k = record { each = λ x a b. absurd (omega arith) }
+
+pub empty-on : {t : List ℕ} {i k : ℕ} → 0 < i → levelAt (i - 1) < length t → EmptyFrom t i k → EmptyFrom (set t (levelAt (i - 1)) 0) (i - 1) k
+empty-on {t} {i} {k} p room before = record { each = λ x a b. go x b (eq-or-lt-of-le a) }
+  where
+    go : (x : ℕ) → x < k → (i - 1 ≡ x) ⊎ (i - 1 < x) → at (set t (levelAt (i - 1)) 0) (levelAt x) ≡ 0
+    go x b (inl e) = subst (λ (y : ℕ). at (set t (levelAt (i - 1)) 0) (levelAt y) ≡ 0) e (same t (levelAt (i - 1)) 0 room)
+    go x b (inr l) = skip t (levelAt (i - 1)) (levelAt x) 0 (λ e. omega (arith, e, l)) ∙ before .each x (omega arith) b
+
+pub empty-all : {t : List ℕ} {i k : ℕ} → i ≤ 0 → EmptyFrom t i k → Empty t k
+empty-all z e = λ x l. e .each x (omega arith) l
+
+-- ---- words stored one after the other
+pub written-other : (ws t : List ℕ) (p k x : ℕ) → (x < p + k) ⊎ (p + k + length ws ≤ x) → at (writtenFrom t p k ws) x ≡ at t x
+unfolding writtenFrom
+written-other [] t p k x h = refl
+written-other (w ∷ ws) t p k x (inl l) = written-other ws (set t (p + k) w) p (k + 1) x (inl (omega arith)) ∙ skip t (p + k) x w (λ e. omega arith)
+written-other (w ∷ ws) t p k x (inr l) = written-other ws (set t (p + k) w) p (k + 1) x (inr (omega arith)) ∙ skip t (p + k) x w (λ e. omega arith)
+
+pub written-at : (ws t : List ℕ) (p k d x : ℕ) → p + k + length ws ≤ length t → d < length ws → x ≡ p + k + d → at (writtenFrom t p k ws) x ≡ getD ws d 0
+unfolding writtenFrom
+written-at [] t p k d x room l e = absurd (omega arith)
+written-at (w ∷ ws) t p k zero x room l e =
+    let f : p + k ≡ x = omega arith in
+    subst (λ (y : ℕ). at (writtenFrom (set t (p + k) w) p (k + 1) ws) y ≡ w) f
+    (written-other ws (set t (p + k) w) p (k + 1) (p + k) (inl (omega arith)) ∙ same t (p + k) w (omega arith))
+written-at (w ∷ ws) t p k (suc d) x room l e =
+    written-at ws (set t (p + k) w) p (k + 1) d x (simp length-set (omega arith)) (omega arith) (omega arith)
+
+written-length : (ws t : List ℕ) (p k : ℕ) → length (writtenFrom t p k ws) ≡ length t
+unfolding writtenFrom
+written-length [] t p k = refl
+written-length (w ∷ ws) t p k = written-length ws (set t (p + k) w) p (k + 1) ∙ length-set t (p + k) w
+
+-- ---- a state's words
+module _ (t : List ℕ) (p : ℕ) (st : State) (n : ℕ) (room : p + entryWords ≤ length t) where
+  pub stated-length : length (stated t p st n) ≡ length t
+  stated-length = written-length (wordsOf st n) (set t p (st .ended)) p 1 ∙ length-set t p (st .ended)
+
+  pub stated-other : (x : ℕ) → (x < p) ⊎ (p + stateWords ≤ x) → at (stated t p st n) x ≡ at t x
+  stated-other x (inl l) = written-other (wordsOf st n) (set t p (st .ended)) p 1 x (inl (omega arith)) ∙ skip t p x (st .ended) (λ e. omega arith)
+  stated-other x (inr l) = written-other (wordsOf st n) (set t p (st .ended)) p 1 x (inr (omega arith)) ∙ skip t p x (st .ended) (λ e. omega arith)
+
+  pub stated-first : at (stated t p st n) p ≡ st .ended
+  stated-first = written-other (wordsOf st n) (set t p (st .ended)) p 1 p (inl (omega arith)) ∙ same t p (st .ended) (omega arith)
+
+  pub stated-at : (d : ℕ) (x : ℕ) → d < length (wordsOf st n) → x ≡ p + 1 + d → at (stated t p st n) x ≡ getD (wordsOf st n) d 0
+  stated-at d x l e = written-at (wordsOf st n) (set t p (st .ended)) p 1 d x (simp length-set (omega arith)) l e
+
+-- ---- how many debts there are
+pub owing-on : (owed : List ℕ) (i : ℕ) → owing owed (i + 1) ≡ owing owed i + one (ltb 0 (at owed i))
+unfolding owing
+owing-on owed i = let e : suc i ≡ i + 1 = omega arith in subst (λ (n : ℕ). owing owed n ≡ owing owed i + one (ltb 0 (at owed i))) e refl
+
+pub owing-up : (owed : List ℕ) (i n : ℕ) → i ≤ n → owing owed i ≤ owing owed n
+unfolding owing
+owing-up owed i zero l = let e : zero ≡ i = omega arith in subst (λ (x : ℕ). owing owed x ≤ owing owed zero) e (le-refl _)
+owing-up owed i (suc n) l = go (eq-or-lt-of-le l) (owing-up owed i n)
+  where
+    go : (i ≡ suc n) ⊎ (i < suc n) → (i ≤ n → owing owed i ≤ owing owed n) → owing owed i ≤ owing owed (suc n)
+    go (inl e) up = subst (λ (x : ℕ). owing owed x ≤ owing owed (suc n)) (sym e) (le-refl _)
+    go (inr h) up = omega (arith, up (omega arith))
+
+-- where i owes there is one debt more
+pub owing-more : (owed : List ℕ) (i n : ℕ) → i < n → 0 < at owed i → owing owed i < owing owed n
+owing-more owed i n l h = omega (arith, owing-up owed (i + 1) n (omega arith), owing-on owed i, ap one (lt-ltb 0 (at owed i) h))
+
+pub owing-next : (owed : List ℕ) (i n r : ℕ) → n ≡ owing owed i → r ≡ one (ltb 0 (at owed i)) → n + r ≡ owing owed (i + 1)
+owing-next owed i n r e f = omega (arith, e, f, owing-on owed i)
+
+pub owing-all : (owed : List ℕ) (i n : ℕ) → i ≤ length owed → length owed ≤ i → n ≡ owing owed i → n ≡ owing owed (length owed)
+owing-all owed i n a b e = let f : i ≡ length owed = omega arith in subst (λ (x : ℕ). n ≡ owing owed x) f e
+
+-- ---- debts compared
+pub no-later : (a b : ℕ) → a / debtUnit ≤ b / debtUnit → dueOf a ≤ dueOf b
+no-later a b l = omega arith
+
+pub covered-start : (t owed : List ℕ) (p : ℕ) → Covered t owed p 0
+covered-start t owed p = record { each = λ s d l. absurd (omega arith) }
+
+pub covered-on : {t owed : List ℕ} {p d : ℕ} → ((s : ℕ) → Milder s (debtIn t p d) (at owed (debtorOf t p d))) → Covered t owed p d → Covered t owed p (d + 1)
+covered-on {t} {owed} {p} {d} this before = record { each = λ s x l. go s x (eq-or-lt-of-le (let k : x ≤ d = omega arith in k)) }
+  where
+    go : (s x : ℕ) → (x ≡ d) ⊎ (x < d) → Milder s (debtIn t p x) (at owed (debtorOf t p x))
+    go s x (inl e) = subst (λ (y : ℕ). Milder s (debtIn t p y) (at owed (debtorOf t p y))) (sym e) (this s)
+    go s x (inr l) = before .each s x l
+
+pub covered-all : {t owed : List ℕ} {p d n : ℕ} → n ≤ d → Covered t owed p d → Covered t owed p n
+covered-all l c = record { each = λ s x h. c .each s x (omega arith) }
+
+-- ---- the debts of an entry
+pub put-none : (t : List ℕ) (p d i debt : ℕ) → debt ≡ 0 → Put t t p d i debt d
+put-none t p d i debt z = record {
+  next = subst (λ (x : ℕ). d ≡ d + one (ltb 0 x)) (sym z) (omega arith);
+  other = λ x _ _. refl;
+  debtor = λ h. absurd (omega arith);
+  owes = λ h. absurd (omega arith);
+}
+
+pub put-one : (t : List ℕ) (p d i debt : ℕ) → p + entryWords ≤ length t → d < debtsAtMost → 0 < debt
+    → Put t (set (set t (debtorPlace p d) i) (debtPlace p d) debt) p d i debt (d + 1)
+put-one t p d i debt room few h = record {
+  next = let e : one (ltb 0 debt) ≡ 1 = ap one (lt-ltb 0 debt h) in omega arith;
+  other = λ x a b. skip (set t (debtorPlace p d) i) (debtPlace p d) x debt (b h) ∙ skip t (debtorPlace p d) x i (a h);
+  debtor = λ _. skip (set t (debtorPlace p d) i) (debtPlace p d) (debtorPlace p d) debt (λ e. omega arith) ∙ same t (debtorPlace p d) i (omega arith);
+  owes = λ _. same (set t (debtorPlace p d) i) (debtPlace p d) debt (simp length-set (omega arith));
+}
+
+pub put-start : (t : List ℕ) (p : ℕ) (owed : List ℕ) → PutAll t t p owed 0 0
+unfolding owing
+put-start t p owed = record { count = refl; below = λ x _. refl; above = λ x _. refl; listed = λ i l h. absurd (omega arith) }
+
+module _ {t t₁ t₂ owed : List ℕ} {p i d r : ℕ} (few : 0 < at owed i → d < debtsAtMost) (put : Put t₁ t₂ p d i (at owed i) r) (before : PutAll t t₁ p owed i d) where
+  step : (x : ℕ) → (0 < at owed i → x ≡ debtorPlace p d → ⊥) → (0 < at owed i → x ≡ debtPlace p d → ⊥) → at t₂ x ≡ at t₁ x
+  step = put .other
+
+  earlier : (y : ℕ) → Listed t₁ p d owed y → Listed t₂ p r owed y
+  earlier y q = record {
+    place = q .place;
+    below = omega (arith, q .below, put .next);
+    debtor = step (debtorPlace p (q .place)) (λ h e. omega (arith, q .below, few h, e)) (λ h e. omega (arith, q .below, few h, e)) ∙ q .debtor;
+    debt = step (debtPlace p (q .place)) (λ h e. omega (arith, q .below, few h, e)) (λ h e. omega (arith, q .below, few h, e)) ∙ q .debt;
+  }
+
+  this : 0 < at owed i → Listed t₂ p r owed i
+  this h = record {
+    place = d;
+    below = omega (arith, put .next, ap one (lt-ltb 0 (at owed i) h));
+    debtor = put .debtor h;
+    debt = put .owes h;
+  }
+
+  pub put-on : PutAll t t₂ p owed (i + 1) r
+  put-on = record {
+    count = put .next ∙ ap (λ (x : ℕ). x + one (ltb 0 (at owed i))) (before .count) ∙ sym (owing-on owed i);
+    below = λ x l. step x (λ h e. omega (arith, l, e)) (λ h e. omega (arith, l, e)) ∙ before .below x l;
+    above = λ x l. step x (λ h e. omega (arith, l, e, few h)) (λ h e. omega (arith, l, e, few h)) ∙ before .above x l;
+    listed = λ y l h. go y h (eq-or-lt-of-le (let k : y ≤ i = omega arith in k));
+  }
+    where
+      go : (y : ℕ) → 0 < at owed y → (y ≡ i) ⊎ (y < i) → Listed t₂ p r owed y
+      go y h (inl e) = subst (λ (x : ℕ). Listed t₂ p r owed x) (sym e) (this (subst (λ (x : ℕ). 0 < at owed x) e h))
+      go y h (inr l) = earlier y (before .listed y l h)
+
+module _ {t t₁ owed : List ℕ} {p i d : ℕ} (before : PutAll t t₁ p owed i d) (few : owing owed (length owed) ≤ debtsAtMost) where
+  pub put-few : i ≤ length owed → d ≤ debtsAtMost
+  put-few l = omega (arith, before .count, owing-up owed i (length owed) l)
+
+  pub put-room : i < length owed → 0 < at owed i → d < debtsAtMost
+  put-room l h = omega (arith, before .count, owing-more owed i (length owed) l h)
+
+pub put-end : {t t₁ owed : List ℕ} {p i d : ℕ} → i ≤ length owed → length owed ≤ i → PutAll t t₁ p owed i d → PutAll t t₁ p owed (length owed) d
+put-end {t} {t₁} {owed} {p} {i} {d} a b h = let e : i ≡ length owed = omega arith in subst (λ (x : ℕ). PutAll t t₁ p owed x d) e h
+
+pub listed-all : {t t′ owed : List ℕ} {p r : ℕ} → PutAll t t′ p owed (length owed) r → (i : ℕ) → 0 < at owed i → Listed t′ p r owed i
+listed-all {owed = owed} a i h = ⊎-elim (λ l. a .listed i l h) (λ l. absurd (omega (arith, h, at-end owed i l))) (less-or-not i (length owed))
+
+-- ---- a state stored
+pub unchanged : (t : List ℕ) (j : ℕ) (st : State) (owed : List ℕ) → Remembered t t j st owed
+unchanged t j st owed = record { entries = λ i e u. old u (λ x _ _. refl) }
+
+-- n is the level's word before, m after
+module _
+    (t t₁ owed : List ℕ)
+    (j n m d : ℕ)
+    (st : State)
+    (room : levelWords * (j + 1) ≤ length t)
+    (size : length t₁ ≡ length t)
+    (word : at t (levelAt j) ≡ n)
+    (few : d ≤ debtsAtMost)
+    (more : m ≤ n + 1)
+    (debts : PutAll t t₁ (entryAt j (n % ringSize)) owed (length owed) d)
+  where
+    abbrev place : ℕ
+    place = entryAt j (n % ringSize)
+
+    abbrev t₂ : List ℕ
+    t₂ = stated t₁ place st d
+
+    abbrev t₃ : List ℕ
+    t₃ = set t₂ (levelAt j) m
+
+    room₁ : place + entryWords ≤ length t₁
+    room₁ = omega arith
+
+    outside : (x : ℕ) → (x < place) ⊎ (place + entryWords ≤ x) → (x ≡ levelAt j → ⊥) → at t₃ x ≡ at t x
+    outside x (inl l) n = skip t₂ (levelAt j) x m n ∙ stated-other t₁ place st d room₁ x (inl l) ∙ debts .below x (omega arith)
+    outside x (inr l) n = skip t₂ (levelAt j) x m n ∙ stated-other t₁ place st d room₁ x (inr (omega arith)) ∙ debts .above x l
+
+    -- another level
+    elsewhere : (i e : ℕ) → (i ≡ j → ⊥) → InUse t₃ i e → Entry t t₃ j st owed i e
+    elsewhere i e other u = old
+        (record { within = u .within; stored = subst (λ (x : ℕ). e < x) (outside (levelAt i) (apart (levelAt i) (omega arith) (omega arith)) (λ h. other (omega arith))) (u .stored) })
+        (λ x a b. outside x (apart x (omega (arith, a)) (omega (arith, b, u .within))) (λ h. other (omega (arith, h, a, b, u .within))))
+      where
+        apart : (x : ℕ) → levelAt i ≤ x → x < levelAt (i + 1) → (x < place) ⊎ (place + entryWords ≤ x)
+        apart x a b = go (less-or-not i j)
+          where
+            go : (i < j) ⊎ (j ≤ i) → (x < place) ⊎ (place + entryWords ≤ x)
+            go (inl l) = inl (omega arith)
+            go (inr l) = inr (omega (arith, other))
+
+    -- this level, another entry
+    beside : (e : ℕ) → (e ≡ n % ringSize → ⊥) → InUse t₃ j e → Entry t t₃ j st owed j e
+    beside e other u = old
+        (record { within = u .within; stored = rw word (omega (arith, other, u .within, below)) })
+        (λ x a b. outside x (apart x a b (less-or-not e (n % ringSize))) (λ h. omega (arith, h, a)))
+      where
+        below : e < m
+        below = let h : at t₃ (levelAt j) ≡ m = same t₂ (levelAt j) m (omega (arith, stated-length t₁ place st d room₁)) in subst (λ (x : ℕ). e < x) h (u .stored)
+
+        apart : (x : ℕ) → entryAt j e ≤ x → x < entryAt j e + entryWords → (e < n % ringSize) ⊎ (n % ringSize ≤ e) → (x < place) ⊎ (place + entryWords ≤ x)
+        apart x a b (inl l) = inl (omega arith)
+        apart x a b (inr l) = inr (omega (arith, other))
+
+    word-at : (k x : ℕ) → k < length (wordsOf st d) → x ≡ place + 1 + k → at t₃ x ≡ getD (wordsOf st d) k 0
+    word-at k x l e = skip t₂ (levelAt j) x m (λ h. omega (arith, h, e)) ∙ stated-at t₁ place st d room₁ k x l e
+
+    holds : Holds t₃ place st owed
+    holds = record {
+      ended = skip t₂ (levelAt j) place m (λ h. omega (arith, h)) ∙ stated-first t₁ place st d room₁;
+      short = word-at 0 (place + 1) (omega arith) (omega arith);
+      weekly-before = word-at 1 (place + 2) (omega arith) (omega arith);
+      regular-before = word-at 2 (place + 3) (omega arith) (omega arith);
+      weekly = word-at 3 (place + 4) (omega arith) (omega arith);
+      regular = word-at 4 (place + 5) (omega arith) (omega arith);
+      few = omega (arith, few, word-at 5 (place + 6) (omega arith) (omega arith));
+      debts = λ i h. still i (listed-all debts i h);
+    }
+      where
+        kept : (x : ℕ) → place + stateWords ≤ x → at t₃ x ≡ at t₁ x
+        kept x l = skip t₂ (levelAt j) x m (λ h. omega (arith, h, l)) ∙ stated-other t₁ place st d room₁ x (inr l)
+
+        still : (i : ℕ) → Listed t₁ place d owed i → Listed t₃ place (debtsOf t₃ place) owed i
+        still i q = record {
+          place = q .place;
+          below = subst (λ (x : ℕ). q .place < x) (sym (word-at 5 (place + 6) (omega arith) (omega arith))) (q .below);
+          debtor = kept (debtorPlace place (q .place)) (omega arith) ∙ q .debtor;
+          debt = kept (debtPlace place (q .place)) (omega arith) ∙ q .debt;
+        }
+
+    pub stored : Remembered t t₃ j st owed
+    stored = record { entries = λ i e u. go i e u (same-or-not i j) }
+      where
+        here : (e : ℕ) → InUse t₃ j e → (e ≡ n % ringSize) ⊎ (e ≡ n % ringSize → ⊥) → Entry t t₃ j st owed j e
+        here e u (inl q) = new refl (subst (λ (x : ℕ). Holds t₃ (entryAt j x) st owed) (sym q) holds)
+        here e u (inr q) = beside e q u
+
+        go : (i e : ℕ) → InUse t₃ i e → (i ≡ j) ⊎ (i ≡ j → ⊥) → Entry t t₃ j st owed i e
+        go i e u (inl q) = subst (λ (x : ℕ). InUse t₃ x e → Entry t t₃ j st owed x e) (sym q) (λ v. here e v (same-or-not e (n % ringSize))) u
+        go i e u (inr q) = elsewhere i e q u

@@ -1,0 +1,56 @@
+-- `hopeless::put_debts` meets its contract. Assumes nothing.
+use mathlib.Core.Path.{_≡_, refl, _∙_}
+use native.Mathlib.Omega.{arith}
+use lib.ListN.{length}
+use borrow.Author.Needs.{needs}
+use Prim.Native.Nat.{_-_, _≤_}
+use Rattle.hopeless.specs.Table.{PutAll}
+use Rattle.hopeless.proofs.TableLaws.{put-start, put-on, put-few, put-room, put-end}
+use Rattle.hopeless.proofs.put_debts.Statement.{statement}
+use Rattle.hopeless.proofs.put_debts.Tie as tie
+
+abbrev Inv-loop : tie.InvT-loop
+Inv-loop table₀ owed p d₀ i₀ table d i = (i ≤ length owed) × (length table ≡ length table₀) × PutAll table₀ table p owed i d
+
+abbrev μ-loop : tie.MeasureT-loop
+μ-loop table₀ owed p d₀ i₀ table d i = length owed - i
+
+loop-holds : tie.Need-loop-holds Inv-loop μ-loop
+loop-holds c = (omega arith, refl, put-start _ _ _)
+
+put-debt-requires : tie.Need-put-debt-requires Inv-loop μ-loop
+put-debt-requires c κs = (
+  omega (arith, (c .before .before .before .before .before .before) .pre .0, c .before .before .before .loop .inv .1),
+  omega (arith, (c .before .before .before .before .before .before) .pre .1, c .before .before .loop-test .taken),
+  put-few (c .before .before .before .loop .inv .2) ((c .before .before .before .before .before .before) .pre .2) (c .before .before .before .loop .inv .0),
+  put-room (c .before .before .before .loop .inv .2) ((c .before .before .before .before .before .before) .pre .2) (c .before .before .loop-test .taken),
+)
+
+loop-again : tie.Need-loop-again Inv-loop μ-loop
+loop-again c = (
+  omega (arith, c .before .before .before .before .before .loop-test .taken),
+  c .before .before .put-debt .kept .0 ∙ c .before .before .before .before .before .before .loop .inv .1,
+  put-on (put-room (c .before .before .before .before .before .before .loop .inv .2) ((c .before .before .before .before .before .before .before .before .before) .pre .2) (c .before .before .before .before .before .loop-test .taken)) (c .before .before .put-debt .ensures) (c .before .before .before .before .before .before .loop .inv .2),
+)
+
+same-length : tie.Need-same-length Inv-loop μ-loop
+same-length c = c .before .loop .inv .1
+
+returns : tie.Need-returns Inv-loop μ-loop
+returns c = put-end (c .before .loop .inv .0) (c .loop-test .left) (c .before .loop .inv .2)
+
+pub put-debts-spec : {M : Type 1} → statement M
+put-debts-spec =
+    tie.close
+    (tie.spec
+    Inv-loop
+    μ-loop
+    loop-holds
+    (λ c. search needs)
+    (λ c. search needs)
+    put-debt-requires
+    (λ c. search needs)
+    (λ c. search needs)
+    loop-again
+    same-length
+    returns)

@@ -1,0 +1,141 @@
+-- A table of states that cannot be completed, in one slice. Nobody has to believe it: the public contracts do not speak of it.
+-- A level for each long rest: a word that says how many states were stored there, then a ring of entries, the oldest overwritten next.
+-- Assumes nothing.
+use mathlib.Core.Path.{_≡_}
+use mathlib.Core.List.{List, [], _∷_}
+use Prim.Native.Nat.{ℕ, zero, suc, _+_, _*_, _≤_, _<_}
+use lib.Dec.{ltb}
+use lib.ListN.{set}
+use Rattle.recording.specs.Tests.{one}
+use Rattle.completion.specs.declared.State.{State}
+use Rattle.completion.specs.Completable.{at}
+use Rattle.completion.specs.Better.{Milder}
+
+-- the entries of a level; an entry's words of the state and the number of its debts, its debtors, their debts
+abbrev pub ringSize : ℕ
+ringSize = 32
+
+abbrev pub stateWords : ℕ
+stateWords = 7
+
+abbrev pub debtsAtMost : ℕ
+debtsAtMost = 8
+
+abbrev pub entryWords : ℕ
+entryWords = stateWords + 2 * debtsAtMost
+
+abbrev pub levelWords : ℕ
+levelWords = 1 + ringSize * entryWords
+
+-- where the level j begins, and its entry e
+abbrev pub levelAt : ℕ → ℕ
+levelAt j = levelWords * j
+
+abbrev pub entryAt : ℕ → ℕ → ℕ
+entryAt j e = levelAt j + 1 + entryWords * e
+
+-- of the entry at p: how many debts it has, where the debtor of index d and its debt stand, and these themselves
+abbrev pub debtsOf : List ℕ → ℕ → ℕ
+debtsOf t p = at t (p + 6)
+
+abbrev pub debtorPlace : ℕ → ℕ → ℕ
+debtorPlace p d = p + stateWords + d
+
+abbrev pub debtPlace : ℕ → ℕ → ℕ
+debtPlace p d = p + (stateWords + debtsAtMost) + d
+
+abbrev pub debtorOf : List ℕ → ℕ → ℕ → ℕ
+debtorOf t p d = at t (debtorPlace p d)
+
+abbrev pub debtIn : List ℕ → ℕ → ℕ → ℕ
+debtIn t p d = at t (debtPlace p d)
+
+-- the entry e of level j is in use
+pub record InUse (t : List ℕ) (j e : ℕ) : Type 0 where
+  pub within : e < ringSize
+  pub stored : e < at t (levelAt j)
+
+-- the entry at p is at least as good as the state with what is owed
+pub record Beats (t : List ℕ) (p : ℕ) (st : State) (owed : List ℕ) : Type 0 where
+  pub ended : st .ended ≤ at t p
+  pub short : at t (p + 1) ≤ st .short
+  pub weekly-before : st .before .weekly ≤ at t (p + 2)
+  pub regular-before : st .before .regular ≤ at t (p + 3)
+  pub weekly : st .current .weekly ≤ at t (p + 4)
+  pub regular : st .current .regular ≤ at t (p + 5)
+  pub debts : (s d : ℕ) → d < debtsOf t p → Milder s (debtIn t p d) (at owed (debtorOf t p d))
+
+-- an entry of level j in use is
+pub record Known (t : List ℕ) (j : ℕ) (st : State) (owed : List ℕ) : Type 0 where
+  pub entry : ℕ
+  pub used : InUse t j entry
+  pub beats : Beats t (entryAt j entry) st owed
+
+-- what i owes stands in the entry at p, among its first n debts
+pub record Listed (t : List ℕ) (p n : ℕ) (owed : List ℕ) (i : ℕ) : Type 0 where
+  pub place : ℕ
+  pub below : place < n
+  pub debtor : debtorOf t p place ≡ i
+  pub debt : debtIn t p place ≡ at owed i
+
+-- the entry at p holds the state and what is owed
+pub record Holds (t : List ℕ) (p : ℕ) (st : State) (owed : List ℕ) : Type 0 where
+  pub ended : at t p ≡ st .ended
+  pub short : at t (p + 1) ≡ st .short
+  pub weekly-before : at t (p + 2) ≡ st .before .weekly
+  pub regular-before : at t (p + 3) ≡ st .before .regular
+  pub weekly : at t (p + 4) ≡ st .current .weekly
+  pub regular : at t (p + 5) ≡ st .current .regular
+  pub few : debtsOf t p ≤ debtsAtMost
+  pub debts : (i : ℕ) → 0 < at owed i → Listed t p (debtsOf t p) owed i
+
+-- the words of the entry at p are as they were
+abbrev pub SameEntry : List ℕ → List ℕ → ℕ → Type 0
+SameEntry t t′ p = (x : ℕ) → p ≤ x → x < p + entryWords → at t′ x ≡ at t x
+
+-- an entry in use after a state was stored at level j: it was in use and is as it was, or it holds that state
+pub data Entry (t t′ : List ℕ) (j : ℕ) (st : State) (owed : List ℕ) (i e : ℕ) : Type 0 where
+  old : InUse t i e → SameEntry t t′ (entryAt i e) → Entry t t′ j st owed i e
+  new : i ≡ j → Holds t′ (entryAt i e) st owed → Entry t t′ j st owed i e
+
+pub record Remembered (t t′ : List ℕ) (j : ℕ) (st : State) (owed : List ℕ) : Type 0 where
+  pub entries : (i e : ℕ) → InUse t′ i e → Entry t t′ j st owed i e
+
+-- the first k levels are empty
+abbrev pub Empty : List ℕ → ℕ → Type 0
+Empty t k = (i : ℕ) → i < k → at t (levelAt i) ≡ 0
+
+-- each of the first n debts of the entry at p is milder than what its debtor owes
+pub record Covered (t owed : List ℕ) (p n : ℕ) : Type 0 where
+  pub each : (s d : ℕ) → d < n → Milder s (debtIn t p d) (at owed (debtorOf t p d))
+
+-- how many of the first n debts there are
+unfoldable pub owing : List ℕ → ℕ → ℕ
+owing owed zero = 0
+owing owed (suc n) = owing owed n + one (ltb 0 (at owed n))
+
+-- words written from index p + k on
+unfoldable pub writtenFrom : List ℕ → ℕ → ℕ → List ℕ → List ℕ
+writtenFrom t p k [] = t
+writtenFrom t p k (w ∷ ws) = writtenFrom (set t (p + k) w) p (k + 1) ws
+
+-- the words of a state with n debts after its first, and all of them written into the entry at p
+abbrev pub wordsOf : State → ℕ → List ℕ
+wordsOf st n = st .short ∷ st .before .weekly ∷ st .before .regular ∷ st .current .weekly ∷ st .current .regular ∷ n ∷ []
+
+abbrev pub stated : List ℕ → ℕ → State → ℕ → List ℕ
+stated t p st n = writtenFrom (set t p (st .ended)) p 1 (wordsOf st n)
+
+-- the debt of i, if there is one, was written as that of index d of the entry at p, and r is the next index
+pub record Put (t t′ : List ℕ) (p d i debt r : ℕ) : Type 0 where
+  pub next : r ≡ d + one (ltb 0 debt)
+  pub other : (x : ℕ) → (0 < debt → x ≡ debtorPlace p d → ⊥) → (0 < debt → x ≡ debtPlace p d → ⊥) → at t′ x ≡ at t x
+  pub debtor : 0 < debt → debtorOf t′ p d ≡ i
+  pub owes : 0 < debt → debtIn t′ p d ≡ debt
+
+-- what is owed by the first n was written into the entry at p, as r debts
+pub record PutAll (t t′ : List ℕ) (p : ℕ) (owed : List ℕ) (n r : ℕ) : Type 0 where
+  pub count : r ≡ owing owed n
+  pub below : (x : ℕ) → x < p + stateWords → at t′ x ≡ at t x
+  pub above : (x : ℕ) → p + entryWords ≤ x → at t′ x ≡ at t x
+  pub listed : (i : ℕ) → i < n → 0 < at owed i → Listed t′ p r owed i
