@@ -1,0 +1,68 @@
+-- What the search for a lawful reading answers. Nobody has to believe it: proofs/ shows that its answers are those of the question.
+-- Assumes nothing.
+use mathlib.Core.Path.{_≡_}
+use mathlib.Core.Bool.{Bool, true, false}
+use mathlib.Core.List.{List}
+use Prim.Native.Nat.{ℕ, _+_, _-_, _*_, _≤_, _<_}
+use lib.Dec.{ltb, eqb}
+use lib.ListN.{length}
+use Rattle.recording.specs.Tests.{_and_}
+use Rattle.recording.specs.Rests.{longRestsAtMost}
+use Rattle.recording.specs.Operations.{totalAtMost}
+use Rattle.recording.specs.Weeks.{weekOf}
+use Rattle.completion.specs.declared.State.{State}
+use Rattle.completion.specs.Completable.{Course, at, count, Tries, Completable, Lies, Stands}
+use Rattle.completion.specs.Better.{Small, bestState}
+use Rattle.hopeless.specs.Table.{levelWords, debtsAtMost, entryAt, debtsOf, InUse, Known}
+
+-- r says whether P holds; what is owed is as it was; and S holds of the table
+pub record Found (P : Type 0) (r : Bool) (owed owed′ : List ℕ) (S : Type 0) : Type 0 where
+  pub yes : r ≡ true → P
+  pub no : r ≡ false → P → ⊥
+  pub same : owed′ ≡ owed
+  pub sound : S
+
+-- the same, where only a no says something
+pub record Asked (P : Type 0) (r : Bool) (owed owed′ : List ℕ) (S : Type 0) : Type 0 where
+  pub no : r ≡ false → P → ⊥
+  pub same : owed′ ≡ owed
+  pub sound : S
+
+abbrev pub courseOf : List ℕ → List ℕ → List ℕ → ℕ → Course
+courseOf starts ends promised s = record { starts = starts; ends = ends; promised = promised; judged = s }
+
+module _ (c : Course) where
+  -- what is asked of the rests after that of index j
+  abbrev pub Later : ℕ → State → List ℕ → Type 0
+  Later j = Completable c (count c - (j + 1)) (j + 1)
+
+  -- each entry in use has few enough debts, and each state that it beats is hopeless
+  pub record Sound (table : List ℕ) : Type 0 where
+    pub few : (j e : ℕ) → j < count c → InUse table j e → debtsOf table (entryAt j e) ≤ debtsAtMost
+    pub hopeless : (j : ℕ) (here : State) (owed : List ℕ) → j < count c → here .week ≡ weekOf (at (c .starts) j) → length owed ≡ count c
+        → Known table j here owed → Tries c (Later j) j here owed → ⊥
+
+  -- the long rests lie in order within the limits, and there is room for what is owed and for the table
+  pub record Lent (owed table : List ℕ) : Type 0 where
+    pub lies : Lies c
+    pub promised-too : length (c .promised) ≡ count c
+    pub owed-too : length owed ≡ count c
+    pub few : count c ≤ longRestsAtMost
+    pub judged : c .judged ≤ totalAtMost
+    pub promised-low : (i : ℕ) → at (c .promised) i ≤ totalAtMost
+    pub room : levelWords * count c ≤ length table
+
+  -- a state before the rest of index j, or after the last rest
+  pub record Before (j : ℕ) (st : State) : Type 0 where
+    pub within : j ≤ count c
+    pub stands : Stands c j st
+    pub small : Small st
+    pub ended : st .ended ≤ c .judged
+
+  -- from each rest on, the best state before it can complete what is left
+  abbrev pub FromEach : List ℕ → Type 0
+  FromEach owed = (i : ℕ) → i < count c → Completable c (count c - i) i (bestState (at (c .starts) i)) owed
+
+-- the rest before that of index i starts in the same week
+abbrev pub laterOfWeek : List ℕ → ℕ → Bool
+laterOfWeek starts i = ltb 0 i and eqb (weekOf (at starts (i - 1))) (weekOf (at starts i))
