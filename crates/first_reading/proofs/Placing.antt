@@ -1,0 +1,505 @@
+-- Laws of the functions that write the first reading: what a promise leaves room for, candidates in order, and the bytes written so far.
+-- Assumes nothing.
+use mathlib.Core.Path.{_≡_, refl, sym, ap, subst, _∙_}
+use mathlib.Core.Logic.{_⊎_, inl, inr, ⊎-elim}
+use mathlib.Core.Bool.{Bool, true, false, false≢true, true≢false}
+use mathlib.Core.List.{List, [], _∷_, _++_, append-assoc}
+use Prim.Native.Nat.{ℕ, zero, suc, _+_, _-_, _*_, _≤_, _<_}
+use native.Mathlib.Nat.{le-refl}
+use native.Mathlib.Omega.{arith}
+use lib.Dec.{leb, ltb}
+use lib.ListN.{length, set, take, replicate, length-set, length-append, length-take, length-replicate}
+use lib.Seq.{getD-set-same, set-set, set-getD}
+use borrow.Author.Tests.{leb-true, leb-false, ltb-true, ltb-false}
+use Rattle.recording.specs.Weeks.{weekStart, weekOf}
+use Rattle.recording.specs.Rests.{longRestsAtMost}
+use Rattle.recording.specs.Operations.{totalAtMost}
+use Rattle.recording.proofs.TestLaws.{less-or-not}
+use Rattle.rules.specs.Reading.{Entry, regularMinutes, compensationOf, entryBytes, entries}
+use Rattle.rules.specs.ReadingRules.{leastNet, weeksToCompensate}
+use Rattle.rules.specs.declared.Kind.the-variants.{Daily, Weekly}
+use Rattle.rules.specs.declared.Standing.the-variants.{Regular}
+use Rattle.rules.proofs.FirstLaws.{bytes-length}
+use Rattle.reading.specs.Items.{paid, Zeros}
+use Rattle.reading.proofs.LaterLaws.{zeros-at}
+use Rattle.completion.specs.declared.State.{State}
+use Rattle.completion.specs.declared.Brought.{Brought}
+use Rattle.completion.specs.declared.Brought.the-variants.{Broken, To}
+use Rattle.completion.specs.States.{startState, advance, After, afterDaily, afterWeekly}
+use Rattle.completion.specs.Completable.{Course, at, count, restWeek, lengthAt, amountOf, debtOf, Pays, brief, Reads, Tries, Completable, Lies, Stands}
+use Rattle.completion.specs.Better.{AtRest}
+use Rattle.completion.proofs.Heads.{arrives, after}
+use Rattle.completion.proofs.Monotone.{daily-stands}
+use Rattle.completion.proofs.Payments.{set-other}
+use Rattle.steps.specs.Steps.{Says}
+use Rattle.hopeless.specs.Table.{levelWords}
+use Rattle.search.specs.Search.{Found, courseOf, Later, Lent, Before}
+use Rattle.first_reading.specs.First.{Least, restsOnly}
+use Rattle.first_reading.proofs.Choosing.{with-promised, lies-with, carrier-low}
+use Rattle.first_reading.specs.Choices.{loadAt, reductionAt, promising, CarriedBy, afterCounted, GoesWeekly, NotPast, FirstWeekly, LeastFrom, Ahead, withEntry, Placed, Told, FirstOf, Sized, Room, Carries, GoesWith}
+
+-- ---- each rest that is left is long enough for what is promised out of it
+record Paying (F : ℕ → List ℕ → Type 0) (load : ℕ) : Type 0 where
+  total : ℕ
+  left : List ℕ
+  more : load ≤ total
+  asked : F total left
+
+paying : (F : ℕ → List ℕ → Type 0) (minutes m i load : ℕ) (owed : List ℕ) → Pays F minutes m i load owed → Paying F load
+unfolding Pays
+paying F minutes zero i load owed h = record { total = load; left = owed; more = le-refl _; asked = h }
+paying F minutes (suc m) i load owed (inl h) =
+    let q = paying F minutes m (i + 1) (load + amountOf (at owed i)) (set owed i 0) (h .2) in
+    record { total = q .total; left = q .left; more = omega (arith, q .more); asked = q .asked }
+paying F minutes (suc m) i load owed (inr h) = paying F minutes m (i + 1) load owed h
+
+module _ (c : Course) where
+  abbrev LongEnough : ℕ → Type 0
+  LongEnough y = leastNet Daily + at (c .promised) y ≤ lengthAt c y
+
+  here-or-later : (j y : ℕ) → j ≤ y → LongEnough j → (suc j ≤ y → LongEnough y) → LongEnough y
+  here-or-later j y l now then = ⊎-elim then (λ h. let e : j ≡ y = omega arith in subst LongEnough e now) (less-or-not j y)
+
+  long-on : (j : ℕ) (here : State) (load y : ℕ) (K : State → List ℕ → Type 0) (owed : List ℕ) → at (c .promised) j ≤ load → j ≤ y
+      → ((st : State) (o : List ℕ) → suc j ≤ y → K st o → LongEnough y) → Reads c K j here load owed → LongEnough y
+  long-on j here load y K owed more l ih (inl d) =
+      here-or-later j y l (omega (arith, d .net)) (λ h. ih (afterDaily (brief c j load) here) owed h (d .then))
+  long-on j here load y K owed more l ih (inr d) =
+      let next : State → State = afterWeekly (restWeek c (d .week)) (leb (regularMinutes + load) (lengthAt c j)) (at (c .ends) j) in
+      let owes : List ℕ = set owed j (debtOf (lengthAt c j) load (d .week)) in
+      let t = arrives (advance (restWeek c) (d .week - here .week) here) (λ there. K (next there) owes) (d .then) in
+      here-or-later j y l (omega (arith, d .net)) (λ h. ih (next (t .state)) owes h (t .holds))
+
+  long-enough : (n j : ℕ) (st : State) (owed : List ℕ) (y : ℕ) → j ≤ y → y < n + j → Completable c n j st owed → LongEnough y
+  unfolding Completable
+  long-enough zero j st owed y l m h = absurd (omega arith)
+  long-enough (suc n) j st owed y l m h =
+      let t = arrives (advance (restWeek c) (weekOf (at (c .starts) j) - st .week) st) (λ here. Tries c (Completable c n (suc j)) j here owed) (h .2) in
+      let p = paying (Reads c (Completable c n (suc j)) j (t .state)) (lengthAt c j) j 0 (at (c .promised) j) owed (t .holds) in
+      long-on j (t .state) (p .total) y (Completable c n (suc j)) (p .left) (p .more) l
+      (λ st′ o k g. long-enough n (suc j) st′ o y k (omega arith) g) (p .asked)
+
+-- ---- promises
+pub before-with : (c : Course) (p : List ℕ) {j : ℕ} {st : State} → Before c j st → Before (with-promised c p) j st
+before-with c p h = record {
+  within = h .within;
+  stands = record { short = h .stands .short; ended = h .stands .ended; week = h .stands .week; week-judged = h .stands .week-judged };
+  small = h .small;
+  ended = h .ended;
+}
+
+pub paid-length : (p : List ℕ) (x d : ℕ) → length (paid p x d) ≡ length p
+paid-length p zero d = refl
+paid-length p (suc i) d = length-set p i _
+
+pub sized-of : {c : Course} {o t : List ℕ} → Lent c o t → Sized c
+sized-of h = record {
+  lies = h .lies;
+  promised-too = h .promised-too;
+  few = h .few;
+  judged = h .judged;
+  promised-low = h .promised-low;
+}
+
+pub lent-of : {c d : Course} {o o′ t t′ : List ℕ} → Sized d → count d ≡ count c → Lent c o t → length o′ ≡ length o → length t′ ≡ length t → Lent d o′ t′
+lent-of {c} {d} s k h e f = record {
+  lies = s .lies;
+  promised-too = s .promised-too;
+  owed-too = e ∙ h .owed-too ∙ sym k;
+  few = s .few;
+  judged = s .judged;
+  promised-low = s .promised-low;
+  room = omega (arith, h .room, f, k);
+}
+
+pub lent-same : {c : Course} {p o o′ t t′ : List ℕ} → p ≡ c .promised → length o′ ≡ length o → length t′ ≡ length t → Lent c o t
+    → Lent (with-promised c p) o′ t′
+lent-same {c} {p} {o} {o′} {t} {t′} q e f h =
+    subst (λ (x : List ℕ). Lent (with-promised c x) o′ t′) (sym q) (lent-of (sized-of h) refl h e f)
+
+-- what was asked of slices that are as they were
+pub goes-same : {c : Course} {j w x : ℕ} {next : State} {p o o′ : List ℕ} → p ≡ c .promised → o′ ≡ o → GoesWith (with-promised c p) j w next o′ x
+    → GoesWith c j w next o x
+goes-same {c} {j} {w} {x} {next} {p} {o} {o′} q e g =
+    subst (λ (l : List ℕ). GoesWith c j w next l x) e (subst (λ (l : List ℕ). GoesWith (with-promised c l) j w next o′ x) q g)
+
+pub goes-then : {c : Course} {j w x : ℕ} {next : State} {p o o′ : List ℕ} → p ≡ c .promised → o′ ≡ o → GoesWith c j w next o x
+    → GoesWith (with-promised c p) j w next o′ x
+goes-then {c} {j} {w} {x} {next} {p} {o} {o′} q e g =
+    subst (λ (l : List ℕ). GoesWith (with-promised c l) j w next o′ x) (sym q) (subst (λ (l : List ℕ). GoesWith c j w next l x) (sym e) g)
+
+pub first-same : {c : Course} {j w x : ℕ} {here : State} {p o o′ : List ℕ} → p ≡ c .promised → o′ ≡ o
+    → FirstOf (GoesWeekly (with-promised c p) j here o′ w) (count c) x → FirstOf (GoesWeekly c j here o w) (count c) x
+first-same {c} {j} {w} {x} {here} {p} {o} {o′} q e f =
+    subst (λ (l : List ℕ). FirstOf (GoesWeekly c j here l w) (count c) x) e
+    (subst (λ (l : List ℕ). FirstOf (GoesWeekly (with-promised c l) j here o′ w) (count c) x) q f)
+
+-- ---- a state that is left as it is
+pub before-here : (c : Course) (lies : Lies c) (j : ℕ) (here : State) → AtRest c j here → Before c (j + 1) here
+before-here c lies j here h =
+    let e : suc j ≡ j + 1 = omega arith in
+    let d = daily-stands c lies j false h (omega (arith, h .small .short)) in
+    record {
+      within = omega (arith, h .within);
+      stands = subst (λ (i : ℕ). Stands c i here) e (record { short = h .small .short; ended = d .ended; week = d .week; week-judged = d .week-judged });
+      small = h .small;
+      ended = omega (arith, h .ended, lies .proper j (h .within), lies .judged j (h .within));
+    }
+
+pub before-on : {c : Course} {j : ℕ} {st : State} → j < count c → Before c j st → Before c (j + 1) st
+before-on l h = record {
+  within = omega (arith, l);
+  stands = record {
+    short = h .stands .short;
+    ended = λ i k m. h .stands .ended i (omega (arith, k)) m;
+    week = λ i k m. h .stands .week i (omega (arith, k)) m;
+    week-judged = h .stands .week-judged;
+  };
+  small = h .small;
+  ended = h .ended;
+}
+
+module _ (c : Course) (j : ℕ) where
+  paid-low : Sized c → (x : ℕ) → x ≤ count c → Room c j x → (i : ℕ) → at (paid (c .promised) x (reductionAt c j)) i ≤ totalAtMost
+  paid-low s zero l r i = s .promised-low i
+  paid-low s (suc y) l r i = by (less-or-not y i)
+    where
+      v : ℕ
+      v = at (c .promised) y + reductionAt c j
+
+      other : (i ≡ y → ⊥) → at (set (c .promised) y (at (c .promised) y + reductionAt c j)) i ≤ totalAtMost
+      other n = subst (λ (m : ℕ). m ≤ totalAtMost) (sym (set-other (c .promised) y i _ n)) (s .promised-low i)
+
+      same : at (set (c .promised) y (at (c .promised) y + reductionAt c j)) y ≤ totalAtMost
+      same =
+          let e : at (set (c .promised) y (at (c .promised) y + reductionAt c j)) y ≡ at (c .promised) y + reductionAt c j =
+          getD-set-same (c .promised) y (at (c .promised) y + reductionAt c j) 0 (omega (arith, s .promised-too)) in
+          omega (arith, e, r .room y refl, s .lies .judged y (omega arith), s .judged)
+
+      by : (y < i) ⊎ (i ≤ y) → at (set (c .promised) y (at (c .promised) y + reductionAt c j)) i ≤ totalAtMost
+      by (inl h) = other (λ q. omega arith)
+      by (inr h) =
+          ⊎-elim (λ k. other (λ q. omega arith))
+          (λ k. let e : y ≡ i = omega arith in subst (λ (m : ℕ). at (set (c .promised) y (at (c .promised) y + reductionAt c j)) m ≤ totalAtMost) e same)
+          (less-or-not i y)
+
+  pub sized-with : Sized c → (x : ℕ) → x ≤ count c → Room c j x → Sized (promising c j x)
+  sized-with s x l r = record {
+    lies = lies-with c _ (s .lies);
+    promised-too = paid-length (c .promised) x (reductionAt c j) ∙ s .promised-too;
+    few = s .few;
+    judged = s .judged;
+    promised-low = paid-low s x l r;
+  }
+
+  -- what can be gone on with has room
+  room-by : (w : ℕ) (next : State) (owed : List ℕ) (x : ℕ) → length (c .promised) ≡ count c → CarriedBy c j w x → Later (promising c j x) j next owed
+      → Room c j x
+  room-by w next owed x long (CarriedBy.alone z h) g = record { room = λ i q. absurd (omega (arith, z, q)) }
+  room-by w next owed x long (CarriedBy.later i z l m u d) g =
+      let e : at (promising c j x .promised) i ≡ at (c .promised) i + reductionAt c j =
+      ap (λ (y : ℕ). at (paid (c .promised) y (reductionAt c j)) i) z ∙ getD-set-same (c .promised) i _ 0 (omega (arith, long)) in
+      let h : leastNet Daily + at (promising c j x .promised) i ≤ lengthAt c i =
+      long-enough (promising c j x) (count c - (j + 1)) (j + 1) next owed i (omega arith) (omega arith) g in
+      let r : leastNet Daily + (at (c .promised) i + reductionAt c j) ≤ lengthAt c i = omega (arith, h, e) in
+      record {
+        room = λ i′ q.
+            let k : i ≡ i′ = omega (arith, z, q) in
+            subst (λ (y : ℕ). leastNet Daily + (at (c .promised) y + reductionAt c j) ≤ lengthAt c y) k r;
+      }
+
+  pub room-with : (w : ℕ) (next : State) (owed : List ℕ) (x : ℕ) → length (c .promised) ≡ count c → GoesWith c j w next owed x → Room c j x
+  room-with w next owed x long g = room-by w next owed x long (g .carried) (g .then)
+
+  pub room-weekly : (w : ℕ) (here : State) (owed : List ℕ) (x : ℕ) → length (c .promised) ≡ count c → GoesWeekly c j here owed w x → Room c j x
+  room-weekly w here owed x long g =
+      let t = arrives (advance (restWeek c) (w - here .week) here) (λ there. Later (promising c j x) j (afterCounted c j w there) owed) (g .then) in
+      room-by w (afterCounted c j w (t .state)) owed x long (g .carried) (t .holds)
+
+  -- ---- carriers in order
+  carrier-past : {w x : ℕ} → CarriedBy c j w x → 0 < x → j + 2 ≤ x
+  carrier-past (CarriedBy.alone z h) p = absurd (omega arith)
+  carrier-past (CarriedBy.later i z l m u d) p = omega arith
+
+  pub none-below : {w : ℕ} {next : State} {owed : List ℕ} (x r : ℕ) → ((x ≡ 0) × (r ≡ j + 2)) ⊎ ((0 < x) × (r ≡ x + 1))
+      → (GoesWith c j w next owed x → ⊥) → ((y : ℕ) → y < x → GoesWith c j w next owed y → ⊥) → (y : ℕ) → y < r → GoesWith c j w next owed y → ⊥
+  none-below {w} {next} {owed} x r q nay old y l g = by q (less-or-not y x)
+    where
+      at-x : y ≡ x → ⊥
+      at-x e = nay (subst (λ (v : ℕ). GoesWith c j w next owed v) e g)
+
+      by : ((x ≡ 0) × (r ≡ j + 2)) ⊎ ((0 < x) × (r ≡ x + 1)) → (y < x) ⊎ (x ≤ y) → ⊥
+      by q (inl h) = old y h g
+      by (inr q) (inr h) = at-x (omega (arith, q .0, q .1))
+      by (inl q) (inr h) = ⊎-elim (λ p. let v = carrier-past (g .carried) p in omega (arith, v, q .1)) (λ p. at-x (omega (arith, q .0))) (less-or-not 0 y)
+
+  -- the state after the rest, by its week
+  module _ (w : ℕ) (here there next : State) (owed : List ℕ) (counted : advance (restWeek c) (w - here .week) here ≡ To there)
+      (e : next ≡ afterCounted c j w there) where
+    pub from-with : (x : ℕ) → leastNet (Weekly Regular) + loadAt c j ≤ lengthAt c j → at (c .starts) j < weekStart (w + 1) → weekStart w < at (c .ends) j
+        → GoesWith c j w next owed x → GoesWeekly c j here owed w x
+    from-with x net from upto g = record {
+      net = net;
+      from = from;
+      upto = upto;
+      carried = g .carried;
+      then = after _ counted (subst (λ (st : State). Later (promising c j x) j st owed) e (g .then));
+    }
+
+    pub to-with : (x : ℕ) → GoesWeekly c j here owed w x → GoesWith c j w next owed x
+    to-with x g = record {
+      carried = g .carried;
+      then =
+          subst (λ (st : State). Later (promising c j x) j st owed) (sym e)
+          (subst (λ (b : Brought). After b (λ y. Later (promising c j x) j (afterCounted c j w y) owed)) counted (g .then));
+    }
+
+  pub not-counted : (w : ℕ) (here : State) (owed : List ℕ) (x : ℕ) → advance (restWeek c) (w - here .week) here ≡ Broken → GoesWeekly c j here owed w x → ⊥
+  not-counted w here owed x e g = subst (λ (b : Brought). After b (λ y. Later (promising c j x) j (afterCounted c j w y) owed)) e (g .then)
+
+  -- ---- weeks in order
+  pub none-before : {here : State} {owed : List ℕ} (w x : ℕ) → FirstOf (GoesWeekly c j here owed w) (count c) x → count c < x
+      → ((v y : ℕ) → v < w → GoesWeekly c j here owed v y → ⊥) → (v y : ℕ) → v < w + 1 → GoesWeekly c j here owed v y → ⊥
+  none-before {here} {owed} w x f past old v y l g =
+      ⊎-elim (λ h. old v y h g)
+      (λ h. let e : v ≡ w = omega arith in
+      let k = f .first y (subst (λ (u : ℕ). GoesWeekly c j here owed u y) e g) in
+      omega (arith, k, carrier-low c j v y (g .carried)))
+      (less-or-not v w)
+
+  pub first-here : {here : State} {owed : List ℕ} (w x : ℕ) → FirstOf (GoesWeekly c j here owed w) (count c) x → x ≤ count c
+      → ((v y : ℕ) → v < w → GoesWeekly c j here owed v y → ⊥) → FirstWeekly c j here owed w x
+  first-here {here} {owed} w x f l old = record {
+    goes = λ h. f .goes h;
+    found = λ v y g. l;
+    first = λ v y g.
+        ⊎-elim (λ h. absurd (old v y h g))
+        (λ h. ⊎-elim NotPast.sooner
+        (λ k. let e : v ≡ w = omega arith in NotPast.same (sym e) (f .first y (subst (λ (u : ℕ). GoesWeekly c j here owed u y) e g))) (less-or-not w v))
+        (less-or-not v w);
+  }
+
+  pub none-at-all : {here : State} {owed : List ℕ} (w : ℕ) → at (c .ends) j ≤ weekStart w → ((v y : ℕ) → v < w → GoesWeekly c j here owed v y → ⊥)
+      → FirstWeekly c j here owed w (count c + 1)
+  none-at-all {here} {owed} w past old = record {
+    goes = λ h. absurd (omega arith);
+    found = λ v y g. absurd (none v y g);
+    first = λ v y g. absurd (none v y g);
+  }
+    where
+      none : (v y : ℕ) → GoesWeekly c j here owed v y → ⊥
+      none v y g = old v y (omega (arith, g .upto)) g
+
+-- ---- answers
+pub told : {P S : Type 0} {r : Bool} {o o′ : List ℕ} → Found P r o o′ S → Told P r o o′
+told h = record { yes = h .yes; no = h .no; same = h .same }
+
+pub told-no : {P : Type 0} {o : List ℕ} → (P → ⊥) → Told P false o o
+told-no n = record { yes = λ h. absurd (false≢true h); no = λ _ p. n p; same = refl }
+
+pub told-as : {P Q : Type 0} {r : Bool} {o o′ : List ℕ} → (P → Q) → (Q → P) → Told P r o o′ → Told Q r o o′
+told-as f g h = record { yes = λ e. f (h .yes e); no = λ e q. h .no e (g q); same = h .same }
+
+-- ---- whether a rest can be the carrier
+module _ (c : Course) (j w x : ℕ) where
+  abbrev due : ℕ
+  due = weekStart (w + weeksToCompensate)
+
+  pub carries-none : x ≡ 0 → reductionAt c j ≡ 0 → Says (Carries c j w x) true
+  carries-none z r = record {
+    yes = λ _. record { carried = CarriedBy.alone z (inl (omega (arith, r))); fits = record { room = λ i q. absurd (omega (arith, z, q)) } };
+    no = λ h. absurd (true≢false h);
+  }
+
+  pub carries-late : x ≡ 0 → (reductionAt c j ≡ 0 → ⊥) → Says (Carries c j w x) (ltb (c .judged) due)
+  carries-late z r = record {
+    yes = λ h. record { carried = CarriedBy.alone z (inr (ltb-true (c .judged) due h)); fits = record { room = λ i q. absurd (omega (arith, z, q)) } };
+    no = λ h k. by h (k .carried);
+  }
+    where
+      by : ltb (c .judged) due ≡ false → CarriedBy c j w x → ⊥
+      by h (CarriedBy.alone e (inl q)) = r (omega arith)
+      by h (CarriedBy.alone e (inr q)) = let g = ltb-false (c .judged) due h in omega (arith, g, q)
+      by h (CarriedBy.later i e l m u d) = omega (arith, e, z)
+
+  pub carries-regular : (x ≡ 0 → ⊥) → reductionAt c j ≡ 0 → Carries c j w x → ⊥
+  carries-regular n r k = by (k .carried)
+    where
+      by : CarriedBy c j w x → ⊥
+      by (CarriedBy.alone e h) = n e
+      by (CarriedBy.later i e l m u d) = omega (arith, r, u)
+
+  pub carries-past : (x ≡ 0 → ⊥) → due < at (c .ends) (x - 1) → Carries c j w x → ⊥
+  carries-past n p k = by (k .carried)
+    where
+      by : CarriedBy c j w x → ⊥
+      by (CarriedBy.alone e h) = n e
+      by (CarriedBy.later i e l m u d) = let q : x - 1 ≡ i = omega (arith, e) in let v = ap (at (c .ends)) q in omega (arith, v, d, p)
+
+  pub carries-fits : (x ≡ 0 → ⊥) → (reductionAt c j ≡ 0 → ⊥) → j + 1 < x → x ≤ count c → at (c .ends) (x - 1) ≤ due
+      → (less : ℕ) → less ≡ reductionAt c j → Says (Carries c j w x) (leb (leastNet Daily + (at (c .promised) (x - 1) + less)) (at (c .ends) (x - 1) - at (c .starts) (x - 1)))
+  carries-fits n r l m d less e = record {
+    yes = λ h. record {
+      carried = CarriedBy.later (x - 1) (omega (arith, l)) (omega (arith, l)) (omega (arith, l, m)) (omega arith) d;
+      fits = record {
+        room = λ i q.
+            let v : x - 1 ≡ i = omega (arith, q) in
+            let g = leb-true (leastNet Daily + (at (c .promised) (x - 1) + less)) (at (c .ends) (x - 1) - at (c .starts) (x - 1)) h in
+            subst (λ (y : ℕ). leastNet Daily + (at (c .promised) y + reductionAt c j) ≤ lengthAt c y) v (omega (arith, g, e));
+      };
+    };
+    no = λ h k.
+        let g = leb-false (leastNet Daily + (at (c .promised) (x - 1) + less)) (at (c .ends) (x - 1) - at (c .starts) (x - 1)) h in
+        let v = k .fits .room (x - 1) (omega (arith, l)) in
+        omega (arith, g, v, e);
+  }
+
+-- ---- a promise is made and taken back
+pub paid-none : (p : List ℕ) (x d : ℕ) → x ≡ 0 → paid p x d ≡ p
+paid-none p x d e = ap (λ (y : ℕ). paid p y d) e
+
+pub paid-some : (p : List ℕ) (x d : ℕ) → (x ≡ 0 → ⊥) → paid p x d ≡ set p (x - 1) (at p (x - 1) + d)
+paid-some p zero d n = absurd (n refl)
+paid-some p (suc i) d n = let e : i ≡ suc i - 1 = omega arith in ap (λ (y : ℕ). set p y (at p y + d)) e
+
+pub paid-fits : (p : List ℕ) (x d most : ℕ) → (x ≡ 0 → ⊥) → x ≤ length p → ((i : ℕ) → at (paid p x d) i ≤ most) → at p (x - 1) + d ≤ most
+paid-fits p x d most n l h =
+    let e : at (paid p x d) (x - 1) ≡ at p (x - 1) + d =
+    ap (λ (q : List ℕ). at q (x - 1)) (paid-some p x d n) ∙ getD-set-same p (x - 1) (at p (x - 1) + d) 0 (omega (arith, l, n)) in
+    omega (arith, e, h (x - 1))
+
+pub taken-back : (p last : List ℕ) (i v : ℕ) → last ≡ set p i v → set last i (at p i) ≡ p
+taken-back p last i v e = ap (λ (l : List ℕ). set l i (at p i)) e ∙ set-set p i v (at p i) ∙ set-getD p i 0
+
+-- ---- the bytes written so far
+pub record Progress (c : Course) (f reading : List ℕ) (j : ℕ) (st : State) : Type 0 where
+  pub front : List ℕ
+  pub left : List ℕ
+  pub back : List ℕ
+  pub past : List Entry
+  pub whole : f ≡ front ++ left
+  pub written : reading ≡ front ++ back
+  pub long : length front ≡ entryBytes * j
+  pub ahead : Ahead c j st past left
+
+pub progress-start : (c : Course) (f reading : List ℕ) (st : State) → Least (restsOnly (c .starts) (c .ends) (c .judged)) f
+    → Zeros (c .promised) → st ≡ startState (restWeek c 0) → Progress c f reading 0 st
+unfolding entries compensationOf
+progress-start c f reading st l z e = record {
+  front = [];
+  left = f;
+  back = reading;
+  past = [];
+  whole = refl;
+  written = refl;
+  long = refl;
+  ahead = record {
+    left = count c;
+    counts = omega arith;
+    least =
+        subst (λ (s : State). LeastFrom c (count c) 0 s [] f) (sym e)
+        (record { bytes = l .bytes; keeps = l .keeps; first = l .first });
+    loads = λ i h. z i;
+  };
+}
+
+set-past : (front ys : List ℕ) (n i v : ℕ) → n ≡ length front + i → set (front ++ ys) n v ≡ front ++ set ys i v
+set-past [] ys n i v e = let q : n ≡ i = omega arith in ap (λ (m : ℕ). set ys m v) q
+set-past (x ∷ front) ys zero i v e = absurd (omega arith)
+set-past (x ∷ front) ys (suc n) i v e = ap (λ (l : List ℕ). x ∷ l) (set-past front ys n i v (omega arith))
+
+record ThreeMore (front back : List ℕ) (j a b d : ℕ) : Type 0 where
+  later : List ℕ
+  now-reads : withEntry (front ++ back) j a b d ≡ front ++ (a ∷ b ∷ d ∷ later)
+
+three-more : (front back : List ℕ) (j n a b d : ℕ) → length front ≡ entryBytes * j → length back ≡ entryBytes * suc n → ThreeMore front back j a b d
+three-more front [] j n a b d h g = absurd (omega arith)
+three-more front (p ∷ []) j n a b d h g = absurd (omega arith)
+three-more front (p ∷ q ∷ []) j n a b d h g = absurd (omega arith)
+three-more front (p ∷ q ∷ r ∷ later) j n a b d h g = record {
+  later = later;
+  now-reads =
+      ap (λ (l : List ℕ). set (set l (entryBytes * j + 1) b) (entryBytes * j + 2) d)
+      (set-past front (p ∷ q ∷ r ∷ later) (entryBytes * j) 0 a (omega arith))
+      ∙ ap (λ (l : List ℕ). set l (entryBytes * j + 2) d) (set-past front (a ∷ q ∷ r ∷ later) (entryBytes * j + 1) 1 b (omega arith))
+      ∙ set-past front (a ∷ b ∷ r ∷ later) (entryBytes * j + 2) 2 d (omega arith);
+}
+
+pub progress-on : (c d : Course) (f reading reading′ : List ℕ) (j : ℕ) (st next : State) → length reading ≡ entryBytes * count c → j < count c
+    → ((past : List Entry) (left : List ℕ) → Ahead c j st past left → Placed d j next past left reading reading′)
+    → Progress c f reading j st → Progress d f reading′ (j + 1) next
+progress-on c d f reading reading′ j st next size inside step p =
+    let q = step (p .past) (p .left) (p .ahead) in
+    let m : length reading ≡ length (p .front) + length (p .back) = ap length (p .written) ∙ length-append (p .front) (p .back) in
+    let t = three-more (p .front) (p .back) j (count c - suc j) (q .kind) (q .week) (q .carrier) (p .long) (omega (arith, m, p .long, size)) in
+    let entered : List ℕ = q .kind ∷ q .week ∷ q .carrier ∷ [] in
+    let e : suc j ≡ j + 1 = omega arith in
+    record {
+      front = p .front ++ entered;
+      left = q .rest;
+      back = t .later;
+      past = q .entry ∷ p .past;
+      whole = p .whole ∙ ap (λ (l : List ℕ). p .front ++ l) (q .begins) ∙ sym (append-assoc (p .front) entered (q .rest));
+      written =
+          q .written ∙ ap (λ (l : List ℕ). withEntry l j (q .kind) (q .week) (q .carrier)) (p .written) ∙ t .now-reads
+          ∙ sym (append-assoc (p .front) entered (t .later));
+      long = length-append (p .front) entered ∙ omega (arith, p .long);
+      ahead = subst (λ (i : ℕ). Ahead d i next (q .entry ∷ p .past) (q .rest)) e (q .ahead);
+    }
+
+nothing : (l : List ℕ) → length l ≡ 0 → l ≡ []
+nothing [] e = refl
+nothing (x ∷ l) e = absurd (omega arith)
+
+pub progress-end : (c : Course) (f reading : List ℕ) (j : ℕ) (st : State) → length reading ≡ entryBytes * count c → count c ≤ j
+    → Progress c f reading j st → reading ≡ f
+progress-end c f reading j st size all p =
+    let m : length reading ≡ length (p .front) + length (p .back) = ap length (p .written) ∙ length-append (p .front) (p .back) in
+    let b : p .back ≡ [] = nothing (p .back) (omega (arith, m, size, p .long, p .ahead .counts)) in
+    let h : length (p .left) ≡ entryBytes * p .ahead .left = bytes-length (entryBytes * p .ahead .left) (p .left) (p .ahead .least .bytes) in
+    let l : p .left ≡ [] = nothing (p .left) (omega (arith, h, p .ahead .counts)) in
+    p .written ∙ ap (λ (x : List ℕ). p .front ++ x) (b ∙ sym l) ∙ sym (p .whole)
+
+-- ---- a state brought on, or not
+pub broken-not-to : {b a : Brought} {there : State} → b ≡ a → b ≡ Broken → a ≡ To there → ⊥
+broken-not-to {b} {a} {there} e f g = let z : _≡_ {A = ℕ} 0 1 = cc in omega arith
+
+pub to-same : {b a : Brought} {here there : State} → b ≡ a → b ≡ To here → a ≡ To there → here ≡ there
+to-same e f g = cc
+
+pub counted-state : (c : Course) (j w : ℕ) (rest : Bool) (there next : State)
+    → next ≡ afterWeekly rest (leb (regularMinutes + loadAt c j) (lengthAt c j)) (at (c .ends) j) there → rest ≡ restWeek c w → next ≡ afterCounted c j w there
+counted-state c j w rest there next e r =
+    e ∙ ap (λ (b : Bool). afterWeekly b (leb (regularMinutes + loadAt c j) (lengthAt c j)) (at (c .ends) j) there) r
+
+pub at-rest-with : (c : Course) (p : List ℕ) {j : ℕ} {here : State} → AtRest c j here → AtRest (with-promised c p) j here
+at-rest-with c p h = record { within = h .within; small = h .small; week = h .week; ended = h .ended }
+
+-- ---- before anything is promised or owed
+zeros-take : (k : ℕ) (l : List ℕ) → Zeros l → Zeros (take k l)
+zeros-take zero l z i = refl
+zeros-take (suc k) [] z i = refl
+zeros-take (suc k) (x ∷ l) z zero = z 0
+zeros-take (suc k) (x ∷ l) z (suc i) = zeros-take k l (λ y. z (suc y)) i
+
+-- as many zeros as there are rests, of the most there can be
+abbrev pub noneOf : ℕ → List ℕ
+noneOf k = take k (replicate longRestsAtMost 0)
+
+pub none-size : (k : ℕ) → k ≤ longRestsAtMost → length (noneOf k) ≡ k
+none-size k l = rw (length-take, length-replicate) (omega arith)
+
+pub none-zeros : (k : ℕ) → Zeros (noneOf k)
+none-zeros k = zeros-take k (replicate longRestsAtMost 0) (zeros-at longRestsAtMost)
+
+pub lent-start : (starts ends : List ℕ) (s : ℕ) → Lies (restsOnly starts ends s) → length starts ≤ longRestsAtMost → s ≤ totalAtMost
+    → Lent (courseOf starts ends (noneOf (length starts)) s) (noneOf (length starts)) (replicate (levelWords * longRestsAtMost) 0)
+lent-start starts ends s l few judged = record {
+  lies = lies-with (restsOnly starts ends s) (noneOf (length starts)) l;
+  promised-too = none-size (length starts) few;
+  owed-too = none-size (length starts) few;
+  few = few;
+  judged = judged;
+  promised-low = λ i. omega (arith, none-zeros (length starts) i);
+  room = rw (length-replicate {A = ℕ} (levelWords * longRestsAtMost) 0) (omega (arith, few));
+}

@@ -1,0 +1,90 @@
+-- `first_reading::carries` meets its contract. Assumes nothing.
+use mathlib.Core.Path.{sym, _∙_}
+use Prim.Native.Nat.{_-_}
+use native.Mathlib.Omega.{arith}
+use denote.Ref.{now}
+use Rattle.steps.proofs.StepLaws.{says-no}
+use Rattle.search.specs.Search.{courseOf}
+use Rattle.first_reading.proofs.Placing.{carries-none, carries-late, carries-regular, carries-past, carries-fits}
+use borrow.Author.Needs.{needs}
+use Rattle.first_reading.proofs.carries.Statement.{statement}
+use Rattle.first_reading.proofs.carries.Tie as tie
+
+add-due : tie.Need-add-due
+add-due c = let s = (c .before .before .before) in omega (arith, s .pre .2, s .pre .0 .lies .judged (s .args .j) (s .pre .1), s .pre .0 .judged)
+
+mul-due : tie.Need-mul-due
+mul-due c = let s = (c .before .before .before) in omega (arith, s .pre .2, s .pre .0 .lies .judged (s .args .j) (s .pre .1), s .pre .0 .judged)
+
+sub-reduction : tie.Need-sub-reduction
+sub-reduction c = let s = (c .before .before .before .before .before) in omega (arith, s .pre .0 .lies .proper (s .args .j) (s .pre .1))
+
+reduction-requires : tie.Need-reduction-requires
+reduction-requires c κs = let s = (c .before .before .before .before .before .before) in omega (arith, s .pre .0 .promised-low (s .args .j))
+
+returns : tie.Need-returns
+returns c =
+    let s = (c .before .before .before .before .before .before .before .before .before) in let k = courseOf (now (s .args .starts)) (now (s .args .ends)) (now (s .args .promised)) (s .args .s) in
+    carries-none k (s .args .j) (s .args .w) (s .args .x) (c .before .if1 .taken) (sym (c .before .before .reduction .ensures) ∙ c .if2 .taken)
+
+returns-2 : tie.Need-returns-2
+returns-2 c =
+    let s = (c .before .before .before .before .before .before .before .before .before) in let k = courseOf (now (s .args .starts)) (now (s .args .ends)) (now (s .args .promised)) (s .args .s) in
+    carries-late k (s .args .j) (s .args .w) (s .args .x) (c .before .if1 .taken) (λ z. c .if2 .left (c .before .before .reduction .ensures ∙ z))
+
+returns-3 : tie.Need-returns-3
+returns-3 c =
+    let s = (c .before .before .before .before .before .before .before .before .before) in let k = courseOf (now (s .args .starts)) (now (s .args .ends)) (now (s .args .promised)) (s .args .s) in
+    says-no (carries-regular k (s .args .j) (s .args .w) (s .args .x) (c .before .if1 .left) (sym (c .before .before .reduction .ensures) ∙ c .if3 .taken))
+
+returns-4 : tie.Need-returns-4
+returns-4 c =
+    let s = (c .before .before .before .before .before .before .before .before .before .before .before) in let k = courseOf (now (s .args .starts)) (now (s .args .ends)) (now (s .args .promised)) (s .args .s) in
+    says-no (carries-past k (s .args .j) (s .args .w) (s .args .x) (c .before .before .before .if1 .left) (c .if4 .taken))
+
+add-result : tie.Need-add-result
+add-result c = let s = (c .before .before .before .before .before .before .before .before .before .before .before .before) in omega (arith, s .pre .0 .promised-low (s .args .x - 1), s .pre .0 .promised-low (s .args .j), c .before .before .before .before .before .reduction .ensures)
+
+add-result-2 : tie.Need-add-result-2
+add-result-2 c = let s = (c .before .before .before .before .before .before .before .before .before .before .before .before) in omega (arith, s .pre .0 .promised-low (s .args .x - 1), s .pre .0 .promised-low (s .args .j), c .before .before .before .before .before .reduction .ensures)
+
+sub-result : tie.Need-sub-result
+sub-result c = let s = (c .before .before .before .before .before .before .before .before .before .before .before .before .before .before) in omega (arith, s .pre .0 .lies .proper (s .args .x - 1) (omega (arith, s .pre .3, c .before .before .before .before .before .before .if1 .left)))
+
+returns-5 : tie.Need-returns-5
+returns-5 c =
+    let s = (c .before .before .before .before .before .before .before .before .before .before .before .before .before .before) in let k = courseOf (now (s .args .starts)) (now (s .args .ends)) (now (s .args .promised)) (s .args .s) in
+    carries-fits k (s .args .j) (s .args .w) (s .args .x) (c .before .before .before .before .before .before .if1 .left) (λ z. c .before .before .before .before .before .if3 .left (c .before .before .before .before .before .before .before .reduction .ensures ∙ z)) (s .pre .4 (omega (arith, c .before .before .before .before .before .before .if1 .left)))
+    (s .pre .3) (c .before .before .before .if4 .left) (c .before .before .before .before .before .before .before .reduction .result) (c .before .before .before .before .before .before .before .reduction .ensures)
+
+pub carries-spec : {M : Type 1} → statement M
+carries-spec =
+    tie.close
+    (tie.spec
+    add-due
+    mul-due
+    (λ c. search needs)
+    (λ c. search needs)
+    (λ c. search needs)
+    (λ c. search needs)
+    sub-reduction
+    (λ c. search needs)
+    (λ c. search needs)
+    reduction-requires
+    returns
+    returns-2
+    returns-3
+    (λ c. search needs)
+    (λ c. search needs)
+    (λ c. search needs)
+    returns-4
+    (λ c. search needs)
+    (λ c. search needs)
+    add-result
+    add-result-2
+    (λ c. search needs)
+    (λ c. search needs)
+    (λ c. search needs)
+    (λ c. search needs)
+    sub-result
+    returns-5)
