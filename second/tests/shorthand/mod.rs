@@ -3,6 +3,7 @@
 
 #![allow(dead_code)]
 
+use second::reading::Entry;
 use second::recording::{word, Activity, Span};
 use second::verdict::{verdict, Verdict};
 
@@ -84,4 +85,51 @@ pub fn assert_breach(shorthand: &str, minute: i64, article: u8) {
         Err((minute, article)),
         "{shorthand}"
     );
+}
+
+/// Weeks with one weekly rest each of so many minutes, from an hour after the
+/// week's start, and no minute to spare in any daily rest: between two weekly
+/// rests three have 540 minutes, so that none of the others, of 660, may be
+/// shortened. Work in each week's first and last minute.
+pub fn tight_weeks(rests: &[u32]) -> String {
+    let week = |&rest: &u32| {
+        let left = 10_080 - 60 - rest - 3 * 1_320;
+        let days = tight_days(left as usize / 1_380);
+        format!("w60 r{rest} {days}w{} ", left % 1_380)
+    };
+    rests.iter().map(week).collect()
+}
+
+/// Three daily rests of 540 minutes, then so many of 660.
+pub fn tight_days(count: usize) -> String {
+    times(3, "w780 r540") + &times(count, "w720 r660")
+}
+
+/// So many days with a daily rest of eleven hours, then these runs.
+pub fn days(count: usize, then: &str) -> String {
+    times(count, "w780 r660") + then + " "
+}
+
+/// The minutes of rest of figure 6 of source document 000, week by week: "The
+/// first week has a 44 hour weekly rest period, and all the following weeks
+/// have 45 hour weekly rest periods except for the penultimate one, which has a
+/// 24 hour weekly rest period." With six weeks it is figure 2.
+pub fn general_figure(weeks: usize) -> Vec<u32> {
+    let mut hours = vec![45; weeks];
+    hours[0] = 44;
+    hours[weeks - 2] = 24;
+    hours.iter().map(|hours| 60 * hours).collect()
+}
+
+/// Figure 5, a reading of figure 2: each week's rest counts in it, the third
+/// pays the first one's hour, and this rest the third one's.
+pub fn attempt(carrier: u8) -> Vec<Entry> {
+    let weekly = [1, 7, 13, 19, 25, 32];
+    let mut entries = vec![Entry::daily(); 37];
+    for (week, number) in weekly.into_iter().enumerate() {
+        entries[number - 1] = Entry::weekly(week as u8, 0);
+    }
+    entries[weekly[0] - 1].carrier = weekly[2] as u8;
+    entries[weekly[2] - 1].carrier = carrier;
+    entries
 }

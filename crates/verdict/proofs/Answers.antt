@@ -1,0 +1,144 @@
+-- What the verdict answers at each return. Assumes nothing.
+use mathlib.Core.Path.{_≡_, refl, sym, ap, subst, _∙_}
+use mathlib.Core.Bool.{Bool, true, false, not}
+use mathlib.Core.List.{List, [], _∷_, _++_}
+use mathlib.Core.Option.{Option, none, some}
+use Prim.Native.Nat.{ℕ, zero, suc, _+_, _*_, _≤_, _<_}
+use native.Mathlib.Omega.{arith}
+use lib.Dec.{ltb}
+use lib.ListN.{length, take, drop}
+use lib.Seq.{length-take-le, take-length}
+use borrow.Author.Tests.{lt-ltb, le-ltb}
+use Rattle.recording.specs.Answers.{Answer, refused, answered, andThen, refuseIf, filled}
+use Rattle.recording.specs.Words.{minutesOf}
+use Rattle.recording.specs.Rests.{longRests, longRestsAtMost}
+use Rattle.recording.specs.Operations.{totalAtMost, measureOf, measured}
+use Rattle.recording.specs.declared.Measure.{Measure}
+use Rattle.recording.proofs.TestLaws.{clash}
+use Rattle.recording.proofs.LongRests.{few-rests}
+use Rattle.recording.proofs.Listing.{Measured, measured-is}
+use Rattle.rules.specs.Reading.{entryBytes, readingSize}
+use Rattle.rules.specs.Order.{Bytes}
+use Rattle.rules.specs.Verdict.{prefix, isNone, firstLawful, Verdict, pass, breach, verdict}
+use Rattle.rules.specs.Operations.{judged, Outcome, passed, breached, outcomeOf, outcome, readingAfter}
+use Rattle.rules.proofs.Breach.{first-sound, verdict-pass, some-first}
+use Rattle.verdict.specs.Verdicts.{HasReading, Finding, unbroken, broken, findingOf, found}
+use Rattle.verdict.proofs.Lawfulness.{to-has}
+
+-- a first lawful reading, where the answer says that there is one
+first-is : (ms : List ℕ) → true ≡ not (isNone (firstLawful ms)) → (f : List ℕ) × (firstLawful ms ≡ some f)
+first-is ms e = at (firstLawful ms) refl e
+  where
+    at : (o : Option (List ℕ)) → firstLawful ms ≡ o → true ≡ not (isNone o) → (f : List ℕ) × (firstLawful ms ≡ some f)
+    at none q e = clash true refl e
+    at (some f) q e = (f, q)
+
+pub none-is : (ms : List ℕ) → false ≡ not (isNone (firstLawful ms)) → HasReading ms → ⊥
+none-is ms e h = clash true refl (sym (e ∙ ap not (some-first ms (to-has h))))
+
+bytes-length : (n : ℕ) (r : List ℕ) → Bytes n r → length r ≡ n
+bytes-length zero [] b = refl
+bytes-length zero (x ∷ r) b = absurd b
+bytes-length (suc n) [] b = absurd b
+bytes-length (suc n) (x ∷ r) b = ap suc (bytes-length n r (b .1))
+
+-- a breach, as the finding of a verdict
+abbrev minuteIn : Finding → ℕ
+minuteIn unbroken = 0
+minuteIn (broken m a) = m
+
+abbrev articleIn : Finding → ℕ
+articleIn unbroken = 0
+articleIn (broken m a) = a
+
+abbrev IsBroken : Finding → Type 0
+IsBroken unbroken = ⊥
+IsBroken (broken m a) = Unit {0}
+
+breach-found : (v : Verdict) {m a : ℕ} → broken m a ≡ findingOf v → breach m a ≡ v
+breach-found (pass r) e = absurd (subst IsBroken e tt)
+breach-found (breach m a) e = λ i. breach (minuteIn (e i)) (articleIn (e i))
+
+module _ (ws : List ℕ) where
+  pub found-refused : {n : ℕ} → measured ws ≡ refused n → refused n ≡ found ws
+  found-refused q = sym (ap (λ (a : Answer Measure). andThen a (λ _. answered (findingOf (verdict (minutesOf ws))))) q)
+
+  module _ {k : Measure} (q : measured ws ≡ answered k) where
+    is : k ≡ measureOf (minutesOf ws)
+    is = measured-is ws q .is
+
+    pub within : length (minutesOf ws) ≤ totalAtMost
+    within = measured-is ws q .within
+
+    pub total-is : k .total ≡ length (minutesOf ws)
+    total-is = ap (λ (x : Measure). x .total) is
+
+    count-is : k .count ≡ length (longRests (minutesOf ws))
+    count-is = ap (λ (x : Measure). x .count) is
+
+    pub count-few : k .count ≤ longRestsAtMost
+    count-few = omega (arith, count-is, few-rests (minutesOf ws) within)
+
+    whole : prefix (k .total) (minutesOf ws) ≡ minutesOf ws
+    whole = ap (λ (n : ℕ). take n (minutesOf ws)) total-is ∙ take-length (minutesOf ws)
+
+    -- the answer on the stretch of the total is that on the whole
+    pub answer-whole : {r : Bool} → r ≡ not (isNone (firstLawful (prefix (k .total) (minutesOf ws)))) → r ≡ not (isNone (firstLawful (minutesOf ws)))
+    answer-whole e = e ∙ ap (λ (l : List ℕ). not (isNone (firstLawful l))) whole
+
+    found-is : found ws ≡ answered (findingOf (verdict (minutesOf ws)))
+    found-is = ap (λ (a : Answer Measure). andThen a (λ _. answered (findingOf (verdict (minutesOf ws))))) q
+
+    pub found-pass : true ≡ not (isNone (firstLawful (minutesOf ws))) → answered unbroken ≡ found ws
+    found-pass e =
+        let f = first-is (minutesOf ws) e in
+        sym (found-is ∙ ap (λ (v : Verdict). answered (findingOf v)) (verdict-pass (minutesOf ws) (f .0) (f .1)))
+
+    pub found-breach : {m a : ℕ} → broken m a ≡ findingOf (verdict (minutesOf ws)) → answered (broken m a) ≡ found ws
+    found-breach e = ap answered e ∙ sym found-is
+
+-- ---- the verdict and its buffer
+module _ (ws old : List ℕ) where
+  pub record Told (answer : Answer Outcome) (new : List ℕ) : Type 0 where
+    pub result : answer ≡ outcome (judged ws (length old))
+    pub buffer : new ≡ readingAfter (judged ws (length old)) old
+
+  told : {j : Answer Verdict} → judged ws (length old) ≡ j → {answer : Answer Outcome} {new : List ℕ} → answer ≡ outcome j → new ≡ readingAfter j old → Told answer new
+  told e a b = record { result = a ∙ ap outcome (sym e); buffer = b ∙ ap (λ (x : Answer Verdict). readingAfter x old) (sym e) }
+
+  pub told-refused : {n : ℕ} → measured ws ≡ refused n → Told (refused n) old
+  unfolding judged
+  told-refused {n} q = told {j = refused n} (rw q refl) refl refl
+
+  module _ {k : Measure} (q : measured ws ≡ answered k) where
+    pub told-short : length old < entryBytes * k .count → Told (refused 4) old
+    unfolding judged
+    told-short h = told {j = refused 4} (rw (q, lt-ltb (length old) (entryBytes * k .count) h) refl) refl refl
+
+    module _ (h : entryBytes * k .count ≤ length old) where
+      judged-is : judged ws (length old) ≡ answered (verdict (minutesOf ws))
+      unfolding judged
+      judged-is = rw (q, le-ltb (length old) (entryBytes * k .count) h) refl
+
+      pub told-breach : {m a : ℕ} → broken m a ≡ findingOf (verdict (minutesOf ws)) → Told (answered (breached m a)) old
+      told-breach e = told (judged-is ∙ ap answered (sym (breach-found (verdict (minutesOf ws)) e))) refl refl
+
+      size-is : entryBytes * k .count ≡ readingSize (minutesOf ws)
+      unfolding readingSize
+      size-is = ap (λ (n : ℕ). entryBytes * n) (count-is ws q)
+
+      pub front-size : entryBytes * k .count ≡ length (take (entryBytes * k .count) old)
+      front-size = sym (length-take-le (entryBytes * k .count) old h)
+
+      pub front-reading : length (take (entryBytes * k .count) old) ≡ readingSize (minutesOf ws)
+      front-reading = sym front-size ∙ size-is
+
+      pub told-pass : {new : List ℕ} → true ≡ not (isNone (firstLawful (minutesOf ws)))
+          → ((f : List ℕ) → firstLawful (minutesOf ws) ≡ some f → new ≡ f)
+          → Told (answered (passed (entryBytes * k .count))) (new ++ drop (entryBytes * k .count) old)
+      told-pass {new} e w =
+          let f = first-is (minutesOf ws) e in
+          let n : length (f .0) ≡ entryBytes * k .count = bytes-length _ (f .0) (first-sound (minutesOf ws) (f .1) .bytes) ∙ sym size-is in
+          told (judged-is ∙ ap answered (verdict-pass (minutesOf ws) (f .0) (f .1)))
+          (ap (λ (x : ℕ). answered (passed x)) (sym n))
+          (ap (λ (l : List ℕ). l ++ drop (entryBytes * k .count) old) (w (f .0) (f .1)) ∙ ap (λ (x : ℕ). f .0 ++ drop x old) (sym n))

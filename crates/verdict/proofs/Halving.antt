@@ -1,0 +1,151 @@
+-- The least stretch without a lawful reading, found by halving; and the breach that follows. Assumes nothing.
+use mathlib.Core.Path.{_≡_, refl, sym, ap, subst, _∙_}
+use mathlib.Core.Logic.{_⊎_, inl, inr}
+use mathlib.Core.Bool.{Bool, true, false}
+use mathlib.Core.List.{List}
+use Prim.Native.Nat.{ℕ, zero, suc, _+_, _-_, _*_, _/_, _≤_, _<_}
+use native.Mathlib.Omega.{arith}
+use lib.ListN.{length, take}
+use lib.Seq.{take-length}
+use Rattle.rules.specs.Fixed.{fixedTest}
+use Rattle.rules.specs.Verdict.{prefix, firstLawful, breachMinute, article, Verdict, breach, verdict}
+use Rattle.rules.proofs.Breach.{HasLawful, prefix-lawful, Breach, breach-is, breach-after, only-breach, is-none}
+use Rattle.fixed.specs.Account.{accountFrom, opening}
+use Rattle.fixed.specs.declared.Break.{Break}
+use Rattle.fixed.proofs.AccountRight.{First, unbroken, broken as broken-at, account-right, first-least}
+use Rattle.recording.proofs.TestLaws.{less-or-not}
+use Rattle.verdict.specs.Verdicts.{HasReading, Readable, Bound, Finding, broken, findingOf}
+use Rattle.verdict.proofs.Lawfulness.{fixed-first, to-has, from-has}
+
+-- between a stretch with a lawful reading and one without
+pub record Halving (ms : List ℕ) (low high : ℕ) : Type 0 where
+  pub order : low < high
+  pub within : high ≤ length ms
+  pub fixed : (m : ℕ) → m < high → fixedTest (prefix m ms) ≡ 0
+  pub with-one : HasReading (prefix low ms)
+  pub without : HasReading (prefix high ms) → ⊥
+
+module _ (ms : List ℕ) where
+  pub no-whole : (m : ℕ) → (HasReading (prefix m ms) → ⊥) → HasLawful ms → ⊥
+  no-whole m n h = n (from-has (prefix-lawful m ms h))
+
+  -- the empty stretch has a lawful reading
+  empty-has : (HasLawful ms → ⊥) → HasReading (prefix 0 ms)
+  empty-has n =
+      let b = breach-is ms n in
+      let p = breach-after ms n in
+      from-has (b .shorter 0 (omega (arith, p .1)))
+
+  above-none : (m : ℕ) → (HasReading (prefix m ms) → ⊥) → 0 < m
+  above-none zero n = absurd (n (empty-has (no-whole 0 n)))
+  above-none (suc m) n = omega arith
+
+  pub start-halving : {bound : ℕ} → Bound ms bound → Halving ms 0 bound
+  start-halving {bound} b =
+      record {
+        order = above-none bound (b .broken);
+        within = b .within;
+        fixed = b .fixed;
+        with-one = empty-has (no-whole bound (b .broken));
+        without = b .broken;
+      }
+
+module _ {ms : List ℕ} {low high middle : ℕ} (h : Halving ms low high) {r : Bool} (a : Readable (prefix middle ms) r) (above : low < middle) (below : middle < high) where
+  pub halve-up : r ≡ true → Halving ms middle high
+  halve-up t = record { order = below; within = h .within; fixed = h .fixed; with-one = a .yes t (h .fixed middle below); without = h .without }
+
+  pub halve-down : r ≡ false → Halving ms low middle
+  halve-down t = record {
+    order = above;
+    within = omega (arith, h .within);
+    fixed = λ m l. h .fixed m (omega arith);
+    with-one = h .with-one;
+    without = a .no t;
+  }
+
+pub halved : {ms : List ℕ} {low high : ℕ} → Halving ms low high → high - low ≤ 1 → high ≡ breachMinute ms
+halved {ms} {low} {high} h l =
+    let e : suc low ≡ high = omega (arith, h .order) in
+    let w : suc low ≤ length ms = omega (arith, h .within) in
+    sym (only-breach ms low w (to-has (h .with-one)) (λ k. h .without (subst (λ (m : ℕ). HasReading (prefix m ms)) e (from-has k))) ∙ e)
+
+-- ---- the breach
+module _ (ms : List ℕ) (n : HasReading ms → ⊥) where
+  abbrev first : Break
+  first = accountFrom opening ms .first
+
+  no-lawful : HasLawful ms → ⊥
+  no-lawful h = n (from-has h)
+
+  finding : {m a : ℕ} → m ≡ breachMinute ms → a ≡ article (prefix m ms) → broken m a ≡ findingOf (verdict ms)
+  unfolding verdict
+  finding {m} {a} e f = rw (is-none ms no-lawful, f, sym e) refl
+
+  pub bound-whole : first .rule ≡ 0 → Bound ms (length ms)
+  bound-whole z = record {
+    within = omega arith;
+    fixed = λ m l. first-least ms .none-broken z m;
+    broken = λ h. n (subst HasReading (take-length ms) h);
+  }
+
+  first-within : {f : Break} → First ms f → (f .rule ≡ 0 → ⊥) → f .at ≤ length ms
+  first-within (unbroken z e) r = absurd (r z)
+  first-within (broken-at n e h p q r) z = omega arith
+
+  pub bound-fixed : (first .rule ≡ 0 → ⊥) → Bound ms (first .at)
+  bound-fixed r = record {
+    within = first-within (account-right ms .first) r;
+    fixed = first-least ms .before r;
+    broken = λ h. r (sym (first-least ms .there r) ∙ fixed-first (prefix (first .at) ms) (h .0) (h .2));
+  }
+
+  -- the article: 6 below the first breach of a fixed rule, there that rule
+  no-rule : (m : ℕ) → fixedTest (prefix m ms) ≡ 0 → 6 ≡ article (prefix m ms)
+  unfolding article
+  no-rule m e = rw e refl
+
+  some-rule : (m r : ℕ) → fixedTest (prefix m ms) ≡ r → (r ≡ 0 → ⊥) → r ≡ article (prefix m ms)
+  unfolding article
+  some-rule m zero e z = absurd (z refl)
+  some-rule m (suc r) e z = rw e refl
+
+  pub breach-unfixed : {m : ℕ} → m ≡ breachMinute ms → first .rule ≡ 0 → broken m 6 ≡ findingOf (verdict ms)
+  breach-unfixed {m} e z = finding e (no-rule m (first-least ms .none-broken z m))
+
+  pub breach-below : {m : ℕ} → m ≡ breachMinute ms → (first .rule ≡ 0 → ⊥) → m < first .at → broken m 6 ≡ findingOf (verdict ms)
+  breach-below {m} e z l = finding e (no-rule m (first-least ms .before z m l))
+
+  pub breach-there : {m : ℕ} → m ≡ breachMinute ms → (first .rule ≡ 0 → ⊥) → first .at ≤ m → broken m (first .rule) ≡ findingOf (verdict ms)
+  breach-there {m} e z l =
+      let b = breach-is ms no-lawful in
+      let q : m ≡ first .at = at-first b e z l in
+      finding e (some-rule m (first .rule) (ap (λ (x : ℕ). fixedTest (prefix x ms)) q ∙ first-least ms .there z) z)
+    where
+      -- the stretch that breaks a fixed rule has no lawful reading, so the breach is no later
+      at-first : {m : ℕ} → Breach ms (breachMinute ms) → m ≡ breachMinute ms → (first .rule ≡ 0 → ⊥) → first .at ≤ m → m ≡ first .at
+      at-first {m} b e z l = no-later (less-or-not (first .at) (breachMinute ms))
+        where
+          no-later : (first .at < breachMinute ms) ⊎ (breachMinute ms ≤ first .at) → m ≡ first .at
+          no-later (inl h) = absurd (bound-fixed z .broken (from-has (b .shorter (first .at) h)))
+          no-later (inr h) = omega arith
+
+  -- the same, of the first breach as the code has it
+  module _ {f : Break} (q : f ≡ first) where
+    pub least-in-whole : {total : ℕ} → total ≡ length ms → f .rule ≡ 0 → Bound ms total
+    least-in-whole e z = subst (Bound ms) (sym e) (bound-whole (sym (ap (λ (b : Break). b .rule) q) ∙ z))
+
+    broken-first : (f .rule ≡ 0 → ⊥) → first .rule ≡ 0 → ⊥
+    broken-first z e = z (ap (λ (b : Break). b .rule) q ∙ e)
+
+    pub least-in-fixed : (f .rule ≡ 0 → ⊥) → Bound ms (f .at)
+    least-in-fixed z = subst (λ (b : Break). Bound ms (b .at)) (sym q) (bound-fixed (broken-first z))
+
+    pub breach-whole : {m : ℕ} → f .rule ≡ 0 → m ≡ breachMinute ms → broken m 6 ≡ findingOf (verdict ms)
+    breach-whole z e = breach-unfixed e (sym (ap (λ (b : Break). b .rule) q) ∙ z)
+
+    pub breach-under : {m : ℕ} → (f .rule ≡ 0 → ⊥) → m ≡ breachMinute ms → m < f .at → broken m 6 ≡ findingOf (verdict ms)
+    breach-under {m} z e l = breach-below e (broken-first z) (subst (λ (b : Break). m < b .at) q l)
+
+    pub breach-here : {m : ℕ} → (f .rule ≡ 0 → ⊥) → m ≡ breachMinute ms → f .at ≤ m → broken m (f .rule) ≡ findingOf (verdict ms)
+    breach-here {m} z e l =
+        ap (λ (b : Break). broken m (b .rule)) q ∙ breach-there e (broken-first z) (subst (λ (b : Break). b .at ≤ m) q l)

@@ -1,0 +1,274 @@
+-- A reading of a recording's long rests that keeps rules 6 to 11 is a lawful one, where the fixed rules hold. Assumes nothing.
+use mathlib.Core.Path.{_≡_, refl, sym, ap, subst, _∙_}
+use mathlib.Core.Logic.{_⊎_, inl, inr}
+use mathlib.Core.Bool.{Bool, true, false, not}
+use mathlib.Core.List.{List, [], _∷_, map}
+use mathlib.Core.Option.{Option, none, some}
+use Prim.Native.Nat.{ℕ, zero, suc, _+_, _*_, _≤_, _<_, min}
+use native.Mathlib.Nat.{le-refl, le-trans}
+use native.Mathlib.Omega.{arith}
+use lib.Dec.{eqb}
+use lib.ListN.{length, getD, take, replicate, length-map, length-replicate, getD-replicate, List·getD-eq-default, length-take}
+use lib.Seq.{length-take-le, getD-take, take-length}
+use borrow.Author.Tests.{eqb-true, eq-eqb}
+use Rattle.recording.specs.Tests.{pick}
+use Rattle.recording.specs.Words.{minutesOf}
+use Rattle.recording.specs.Rests.{longRestMinutes, lengthOf, judgedEnd, longRests, longRestsAtMost}
+use Rattle.recording.specs.Operations.{totalAtMost}
+use Rattle.recording.specs.declared.Span.{Span}
+use Rattle.recording.proofs.TestLaws.{less-or-not}
+use Rattle.recording.proofs.Walks.{judged-within}
+use Rattle.recording.proofs.LongRests.{Ordered, none as no-rest, next, rests-ordered, few-rests}
+use Rattle.rules.specs.Broken.{ifNone}
+use Rattle.rules.specs.Fixed.{fixedTest}
+use Rattle.rules.specs.Reading.{Entry, entryBytes, readingSize, compensationOf, entriesFrom, entries}
+use Rattle.rules.specs.ReadingRules.{laterTest, readingTest}
+use Rattle.rules.specs.Order.{byteValues, Bytes, NotAfter}
+use Rattle.rules.specs.Verdict.{lawful, prefix, isNone, firstLawful}
+use Rattle.rules.proofs.RestWeekLaws.{insideRest, reading-by-rests}
+use Rattle.rules.proofs.Breach.{Lawful, HasLawful, first-sound, first-least, is-none, some-first}
+use Rattle.reading.specs.Items.{spansFrom, spansIn, restWeeks, Zeros}
+use Rattle.reading.proofs.LaterLaws.{nowhere, map-at, spans-are, if-zero}
+use Rattle.completion.specs.States.{startState}
+use Rattle.completion.specs.Runs.{Kept}
+use Rattle.completion.specs.Completable.{Course, at, count, spansOf, restWeek, Completable, Lies}
+use Rattle.completion.proofs.Carriers.{extend, extended}
+use Rattle.completion.proofs.RunLaws.{later-kept, kept-later}
+use Rattle.search.specs.Search.{Found, courseOf, Sound, Lent}
+use Rattle.hopeless.specs.Table.{levelWords}
+use Rattle.first_reading.specs.First.{KeptBy, Least, restsOnly}
+use Rattle.verdict.specs.Verdicts.{Cut, Some, HasReading, Readable}
+use Rattle.verdict.specs.declared.Rests.{Rests}
+
+-- ---- the front of an array of zeros
+module _ (n k : ℕ) (h : k ≤ n) where
+  abbrev noughts : List ℕ
+  noughts = replicate n 0
+
+  pub front-size : length {A = ℕ} (take k noughts) ≡ k
+  front-size = length-take-le {A = ℕ} k noughts (rw (length-replicate {A = ℕ} n 0) h)
+
+  pub front-zeros : Zeros (take k noughts)
+  front-zeros i = zero-front i (less-or-not i k)
+    where
+      zero-front : (i : ℕ) → (i < k) ⊎ (k ≤ i) → _≡_ {A = ℕ} (getD (take k noughts) i 0) 0
+      zero-front i (inl l) = getD-take k noughts i 0 l ∙ getD-replicate n i 0 0 (omega arith)
+      zero-front i (inr l) = List·getD-eq-default (take k noughts) 0 {n = i} (rw front-size l)
+
+-- room for the table of as many rests as there can be
+pub table-room : levelWords * longRestsAtMost ≤ length {A = ℕ} (replicate (levelWords * longRestsAtMost) 0)
+table-room = rw (length-replicate {A = ℕ} (levelWords * longRestsAtMost) 0) (le-refl _)
+
+-- ---- the search's answer on long rests of which nothing is promised
+module _ (starts ends promised owed : List ℕ) (s : ℕ) (lies : Lies (restsOnly starts ends s)) (few : length starts ≤ longRestsAtMost) (bound : s ≤ totalAtMost)
+    (none-promised : Zeros promised) (size : length owed ≡ length starts) (none-owed : Zeros owed) where
+  abbrev c : Course
+  c = courseOf starts ends promised s
+
+  lies-too : Lies (courseOf starts ends promised s)
+  lies-too = record { ends-too = lies .ends-too; proper = lies .proper; ordered = lies .ordered; judged = lies .judged }
+
+  all : length starts + 0 ≡ length starts
+  all = omega arith
+
+  pub lent : (table : List ℕ) → length promised ≡ length starts → levelWords * longRestsAtMost ≤ length table → Lent (courseOf starts ends promised s) owed table
+  lent table e room = record {
+    lies = lies-too;
+    promised-too = e;
+    owed-too = size;
+    few = few;
+    judged = bound;
+    promised-low = λ i. let z = none-promised i in omega arith;
+    room = omega (arith, few, room);
+  }
+
+  pub some-reading : {r : Bool} {owed′ table : List ℕ}
+      → Found (Completable (courseOf starts ends promised s) (count (courseOf starts ends promised s)) 0 (startState (restWeek (courseOf starts ends promised s) 0)) owed) r owed owed′
+      (Sound (courseOf starts ends promised s) table)
+      → Some (restsOnly starts ends s) r
+  unfolding entries compensationOf
+  some-reading a =
+      record {
+        yes = λ t. extend (courseOf starts ends promised s) lies-too (omega arith) bound (length starts) 0 _ owed [] all size none-owed (λ i h. none-promised i) (a .yes t);
+        no = λ t bytes k. a .no t (extended (courseOf starts ends promised s) lies-too (omega arith) bound (length starts) 0 _ owed [] all size none-owed (λ i h. none-promised i) bytes k);
+      }
+
+-- ---- the long rests of a recording, in two lists
+abbrev pub restsIn : List ℕ → Course
+restsIn ms = restsOnly (map (λ (r : Span). r .start) (longRests ms)) (map (λ (r : Span). r .end) (longRests ms)) (judgedEnd ms)
+
+module _ (rs : List Span) where
+  abbrev starts : List ℕ
+  starts = map (λ (r : Span). r .start) rs
+
+  abbrev ends : List ℕ
+  ends = map (λ (r : Span). r .end) rs
+
+  size : length starts ≡ length rs
+  size = length-map rs (λ (r : Span). r .start)
+
+  spans-back : spansIn starts ends (length starts) ≡ rs
+  spans-back =
+      ap (spansFrom starts ends 0) size
+      ∙ spans-are starts ends rs 0
+      (λ j h. ap (λ (n : ℕ). getD starts n 0) (let e : 0 + j ≡ j = omega arith in e) ∙ map-at (λ r. r .start) rs j nowhere h)
+      (λ j h. ap (λ (n : ℕ). getD ends n 0) (let e : 0 + j ≡ j = omega arith in e) ∙ map-at (λ r. r .end) rs j nowhere h)
+
+record Neighbours (to from : ℕ) (rs : List Span) (i : ℕ) : Type 0 where
+  from-on : from ≤ getD rs i nowhere .start
+  proper : getD rs i nowhere .start < getD rs i nowhere .end
+  over : getD rs i nowhere .end ≤ to
+  before-next : suc i < length rs → getD rs i nowhere .end ≤ getD rs (suc i) nowhere .start
+
+neighbours : {to from : ℕ} {rs : List Span} → Ordered to from rs → (i : ℕ) → i < length rs → Neighbours to from rs i
+neighbours no-rest i h = absurd (omega arith)
+neighbours {to} {from} (next {r = r} {rs = rs} l n e o) zero h =
+    record { from-on = l; proper = omega arith; over = omega arith; before-next = λ g. after (neighbours o 0 (omega arith)) }
+  where
+    after : Neighbours to (suc (r .end)) rs 0 → r .end ≤ getD rs 0 nowhere .start
+    after q = omega (arith, q .from-on)
+neighbours {to} {from} (next {r = r} {rs = rs} l n e o) (suc i) h =
+    let q = neighbours o i (omega arith) in
+    record { from-on = omega (arith, q .from-on); proper = q .proper; over = q .over; before-next = λ g. q .before-next (omega arith) }
+
+pub lies-in : (ms : List ℕ) → Lies (restsIn ms)
+lies-in ms =
+    record {
+      ends-too = length-map (longRests ms) (λ (r : Span). r .end) ∙ sym (size (longRests ms));
+      proper = λ i h. rw (at-start i (there i h), at-end i (there i h)) (neighbours (rests-ordered ms) i (there i h) .proper);
+      ordered = λ i h. rw (at-end i (before i h), at-start (suc i) (there (suc i) h)) (neighbours (rests-ordered ms) i (before i h) .before-next (there (suc i) h));
+      judged = λ i h. rw (at-end i (there i h)) (neighbours (rests-ordered ms) i (there i h) .over);
+    }
+  where
+    there : (i : ℕ) → i < count (restsIn ms) → i < length (longRests ms)
+    there i h = rw (size (longRests ms)) at h
+
+    before : (i : ℕ) → suc i < count (restsIn ms) → i < length (longRests ms)
+    before i h = let g = there (suc i) h in omega arith
+
+    at-start : (i : ℕ) → i < length (longRests ms) → getD (starts (longRests ms)) i 0 ≡ getD (longRests ms) i nowhere .start
+    at-start i h = map-at (λ r. r .start) (longRests ms) i nowhere h
+
+    at-end : (i : ℕ) → i < length (longRests ms) → getD (ends (longRests ms)) i 0 ≡ getD (longRests ms) i nowhere .end
+    at-end i h = map-at (λ r. r .end) (longRests ms) i nowhere h
+
+-- ---- lawful, and kept
+module _ (ms : List ℕ) where
+  abbrev KeptThere : List Span → List ℕ → Type 0
+  KeptThere rs bytes = Kept (restWeeks rs) (judgedEnd ms) rs (startState (restWeeks rs 0)) (entries rs bytes)
+
+  pub lawful-kept : (bytes : List ℕ) → lawful ms bytes ≡ true → KeptBy (restsIn ms) bytes
+  unfolding lawful
+  lawful-kept bytes t =
+      let z : readingTest ms bytes ≡ 0 = eqb-true (readingTest ms bytes) 0 t in
+      let k : KeptThere (longRests ms) bytes =
+      later-kept (restWeeks (longRests ms)) (judgedEnd ms) (longRests ms) bytes (rests-ordered ms) (later-none (fixedTest ms) _ (sym (reading-by-rests ms bytes) ∙ z)) in
+      subst (λ (rs : List Span). KeptThere rs bytes) (sym (spans-back (longRests ms))) k
+    where
+      later-none : (n x : ℕ) → ifNone n x ≡ 0 → x ≡ 0
+      later-none zero x e = e
+      later-none (suc n) x e = absurd (omega arith)
+
+  pub kept-lawful : fixedTest ms ≡ 0 → (bytes : List ℕ) → KeptBy (restsIn ms) bytes → lawful ms bytes ≡ true
+  unfolding lawful
+  kept-lawful f bytes k =
+      let k′ : KeptThere (longRests ms) bytes = subst (λ (rs : List Span). KeptThere rs bytes) (spans-back (longRests ms)) k in
+      let z = kept-later (restWeeks (longRests ms)) (judgedEnd ms) (longRests ms) bytes (rests-ordered ms) k′ in
+      eq-eqb (readingTest ms bytes) 0 (reading-by-rests ms bytes ∙ if-zero (fixedTest ms) _ f ∙ z)
+
+  pub fixed-first : (bytes : List ℕ) → lawful ms bytes ≡ true → fixedTest ms ≡ 0
+  unfolding lawful readingTest
+  fixed-first bytes t = fixed-none (fixedTest ms) _ (eqb-true (readingTest ms bytes) 0 t)
+    where
+      fixed-none : (n x : ℕ) → ifNone n x ≡ 0 → n ≡ 0
+      fixed-none zero x e = refl
+      fixed-none (suc n) x e = absurd (omega arith)
+
+  as-many : (bytes : List ℕ) → Bytes (readingSize ms) bytes → Bytes (entryBytes * count (restsIn ms)) bytes
+  unfolding readingSize
+  as-many bytes b = subst (λ (n : ℕ). Bytes (entryBytes * n) bytes) (sym (size (longRests ms))) b
+
+  as-few : (bytes : List ℕ) → Bytes (entryBytes * count (restsIn ms)) bytes → Bytes (readingSize ms) bytes
+  unfolding readingSize
+  as-few bytes b = subst (λ (n : ℕ). Bytes (entryBytes * n) bytes) (size (longRests ms)) b
+
+  pub least : {f : List ℕ} → firstLawful ms ≡ some f → Least (restsIn ms) f
+  least {f} e =
+      let l = first-sound ms e in
+      record {
+        bytes = as-many f (l .bytes);
+        keeps = lawful-kept f (l .keeps);
+        first = λ t b k. first-least ms e (record { bytes = as-few t b; keeps = kept-lawful (fixed-first f (l .keeps)) t k });
+      }
+
+  pub readable : {r : Bool} → Some (restsIn ms) r → Readable ms r
+  readable a =
+      record {
+        yes = λ t f. let i = a .yes t in (i .0, as-few (i .0) (i .1), kept-lawful f (i .0) (i .2));
+        no = λ t h. a .no t (h .0) (lawful-kept (h .0) (h .2));
+      }
+
+-- ---- the answer whether there is a lawful reading
+pub to-has : {ms : List ℕ} → HasReading ms → HasLawful ms
+to-has (r, b, k) = (r, record { bytes = b; keeps = k })
+
+pub from-has : {ms : List ℕ} → HasLawful ms → HasReading ms
+from-has (r, l) = (r, l .bytes, l .keeps)
+
+pub has-none : (ms : List ℕ) → (fixedTest ms ≡ 0 → ⊥) → false ≡ not (isNone (firstLawful ms))
+has-none ms f = sym (ap (λ (o : Option (List ℕ)). not (isNone o)) (is-none ms (λ h. f (fixed-first ms (h .0) (h .1 .keeps)))))
+
+module _ (ms : List ℕ) {r : Bool} (a : Readable ms r) where
+  pub has-it : fixedTest ms ≡ 0 → r ≡ not (isNone (firstLawful ms))
+  has-it f = at r refl
+    where
+      at : (t : Bool) → r ≡ t → t ≡ not (isNone (firstLawful ms))
+      at true e = sym (ap not (some-first ms (to-has (a .yes e f))))
+      at false e = sym (ap (λ (o : Option (List ℕ)). not (isNone o)) (is-none ms (λ h. a .no e (from-has h))))
+
+-- ---- the rests of a stretch, as one walk leaves them in two slices
+module _ (ws : List ℕ) (m : ℕ) (within : length (minutesOf ws) ≤ totalAtMost) {r : Rests} {starts ends : List ℕ} (q : Cut ws m r starts ends) where
+  abbrev stretch : List ℕ
+  stretch = prefix m (minutesOf ws)
+
+  abbrev lentRests : Course
+  lentRests = restsOnly (take (r .count) starts) (take (r .count) ends) (r .judged)
+
+  course-is : lentRests ≡ restsIn (prefix m (minutesOf ws))
+  course-is = λ i. restsOnly (q .begun i) (q .ended i) (q .judged i)
+
+  pub starts-size : r .count ≡ length (take (r .count) starts)
+  starts-size = q .count ∙ sym (length-map (longRests stretch) (λ (x : Span). x .start)) ∙ sym (ap length (q .begun))
+
+  pub ends-size : r .count ≡ length (take (r .count) ends)
+  ends-size = q .count ∙ sym (length-map (longRests stretch) (λ (x : Span). x .end)) ∙ sym (ap length (q .ended))
+
+  pub rests-lie : Lies lentRests
+  rests-lie = subst Lies (sym course-is) (lies-in stretch)
+
+  pub rests-few : length (take (r .count) starts) ≤ longRestsAtMost
+  rests-few = omega (arith, q .few, starts-size)
+
+  pub judged-low : r .judged ≤ totalAtMost
+  judged-low =
+      let e : length (take m (minutesOf ws)) ≡ min m (length (minutesOf ws)) = length-take m (minutesOf ws) in
+      omega (arith, q .judged, judged-within stretch, e, within)
+
+  pub stretch-readable : {t : Bool} → Some lentRests t → Readable stretch t
+  stretch-readable {t} a = readable stretch (subst (λ (c : Course). Some c t) course-is a)
+
+  pub stretch-least : {f : List ℕ} → firstLawful stretch ≡ some f → Least lentRests f
+  stretch-least {f} e = subst (λ (c : Course). Least c f) (sym course-is) (least stretch e)
+
+  -- where the stretch is the whole
+  module _ (e : m ≡ length (minutesOf ws)) where
+    whole : stretch ≡ minutesOf ws
+    whole = ap (λ (n : ℕ). take n (minutesOf ws)) e ∙ take-length (minutesOf ws)
+
+    pub reading-size : {n : ℕ} → n ≡ readingSize (minutesOf ws) → n ≡ entryBytes * length (take (r .count) starts)
+    unfolding readingSize
+    reading-size h =
+        h ∙ ap (λ (n : ℕ). entryBytes * n) (sym (ap (λ (l : List ℕ). length (longRests l)) whole) ∙ sym (q .count) ∙ starts-size)
+
+    pub first-least-there : {f : List ℕ} → firstLawful (minutesOf ws) ≡ some f → Least lentRests f
+    first-least-there h = stretch-least (ap firstLawful whole ∙ h)

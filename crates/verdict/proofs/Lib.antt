@@ -1,0 +1,4 @@
+pub mod Stretches
+pub mod Lawfulness
+pub mod Halving
+pub mod Answers

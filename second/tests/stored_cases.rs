@@ -1,0 +1,213 @@
+//! The stored output of the case program over the verified verdict
+//! (crates/verdict_cases), line by line. The recordings are said again here,
+//! and this program answers for them.
+
+mod shorthand;
+
+use second::reading::{self, bytes, entries, Entry};
+use second::verdict::{verdict, Verdict};
+use shorthand::{attempt, days, general_figure, tight_days, tight_weeks, times, words};
+
+const STORED: &str = include_str!("../../crates/verdict_cases/stdout");
+
+/// The lines so far.
+#[derive(Default)]
+struct Lines(String);
+
+impl Lines {
+    fn push(&mut self, name: &str, answer: &str) {
+        self.0 += &format!("{name}: {answer}\n");
+    }
+
+    fn case(&mut self, name: &str, shorthand: &str) {
+        let mut reading = [9; 669];
+        let (answer, written) = answered(&words(shorthand), &mut reading);
+        self.push(name, &(answer + &shown(&reading[..written])));
+    }
+
+    fn runs(&mut self, shorthand: &str) {
+        self.case(shorthand, shorthand);
+    }
+
+    fn weeks(&mut self, name: &str, rests: &[u32]) {
+        self.case(name, &tight_weeks(rests));
+    }
+
+    fn tested(&mut self, name: &str, shorthand: &str, reading: &[Entry]) {
+        let rule = reading::test(&words(shorthand), &bytes(reading)).expect("no refusal");
+        self.push(name, &format!("rule {rule}"));
+    }
+
+    fn lent(&mut self, shorthand: &str, lent: usize) {
+        let mut reading = [9; 9];
+        let (answer, _) = answered(&words(shorthand), &mut reading[..lent]);
+        let name = format!("{shorthand} into {lent}");
+        self.push(&name, &format!("{answer},{}", shown(&reading)));
+    }
+}
+
+/// The verdict, and the count of bytes that a pass writes.
+fn answered(words: &[u32], reading: &mut [u8]) -> (String, usize) {
+    let articles = ["7", "6.1", "6.2", "6.3", "8.2", "8"];
+    match verdict(words, reading) {
+        Ok(Verdict::Pass { written }) => ("pass".into(), written),
+        Ok(Verdict::Breach { minute, article }) => {
+            let article = articles[usize::from(article) - 1];
+            (format!("breach {minute}, {article}"), 0)
+        }
+        Err(refusal) => (format!("refused {}", refusal.number()), 0),
+    }
+}
+
+/// A letter for a daily rest, all three bytes for any other entry.
+fn shown(reading: &[u8]) -> String {
+    let entry = |entry: &Entry| match entry.bytes() {
+        [0, 0, 0] => " d".into(),
+        [kind, week, carrier] => format!(" {kind}/{week}/{carrier}"),
+    };
+    entries(reading).iter().map(entry).collect()
+}
+
+fn edges(lines: &mut Lines) {
+    lines.case("empty", "");
+    for shorthand in [
+        "d270",
+        "d271",
+        "d135 r15 d135 r30 d270",
+        "d135 r14 d135 r30 d270",
+        "d135 r30 d135 r15 d1",
+        "d270 a45 d1",
+        "w900",
+        "w901",
+        "w900 r539 w1",
+        "w900 r540 w1",
+    ] {
+        lines.runs(shorthand);
+    }
+    let short = |count| times(count, "w840 r600") + "w1";
+    lines.case("3 times (w840 r600), w1", &short(3));
+    lines.case("4 times (w840 r600), w1", &short(4));
+    let six_days = times(6, "w780 r660");
+    lines.case("6 times (w780 r660)", &six_days);
+    lines.case("6 times (w780 r660), w1", &(six_days + "w1"));
+}
+
+fn articles(lines: &mut Lines) {
+    let day = "d270 r45 d270 r660";
+    lines.runs("d270 r45 d270 r45 d60");
+    lines.runs("d270 r45 d270 r45 d61");
+    for last in ["d120", "d121"] {
+        let name = format!("6 times ({day}), {last}");
+        lines.case(&name, &(times(6, day) + last));
+    }
+    let two_weeks = times(4, day) + "d270 r45 d270 r4515 " + &times(5, day);
+    lines.case("5400 minutes of driving in two weeks", &two_weeks);
+    lines.case("5401 minutes of driving in two weeks", &(two_weeks + "d1"));
+    lines.runs("r20160 w1");
+}
+
+fn figures(lines: &mut Lines) {
+    let figure_1 = [
+        &days(4, "w60 r660 w720 r4080"),
+        &days(5, "w240 r4080"),
+        &days(4, "w240 r4080"),
+        &days(4, "w240 r4080"),
+        &days(5, "w60 r660 w720 r2700"),
+        &days(4, "w420"),
+    ];
+    lines.case("figure 1", &figure_1.map(String::as_str).concat());
+    let figure_2 = general_figure(6);
+    let with_sixth = |sixth| [&figure_2[..5], &[sixth]].concat();
+    lines.weeks("figure 2", &figure_2);
+    lines.weeks("figure 3, five weeks", &figure_2[..5]);
+    lines.weeks("figure 3", &with_sixth(4020));
+    lines.weeks("figure 3, 46 hours in the sixth week", &with_sixth(2760));
+    lines.weeks("figure 3, a minute less", &with_sixth(2759));
+    lines.weeks("figure 4, five weeks", &figure_2[1..]);
+    lines.weeks("figure 4", &[&figure_2[1..], &[3960]].concat());
+    for (payment, carrier) in [
+        ("the hour left", 0),
+        ("paid by the fourth week", 19),
+        ("paid by the fifth week", 25),
+        ("paid by the sixth week", 32),
+    ] {
+        let name = format!("figure 5, {payment}");
+        lines.tested(&name, &tight_weeks(&figure_2), &attempt(carrier));
+    }
+    let figure_6 = general_figure(12);
+    lines.weeks("figure 6, twelve weeks", &figure_6);
+    lines.weeks("figure 6 without the first week", &figure_6[1..]);
+    lines.weeks("figure 6 without the last week", &figure_6[..11]);
+    lines.weeks("figure 6, eleven weeks", &general_figure(11));
+    let spare = [
+        "w60 r2640 ",
+        &days(5, "w240 r2700"),
+        &days(5, "w180 r2700"),
+        &days(5, "w180 r2700"),
+        &days(5, "w180 r1440"),
+        &days(5, "w60 r660 w720 r2700"),
+        &days(5, "w120"),
+    ];
+    let name = "figure 2, daily rests with minutes to spare";
+    lines.case(name, &spare.concat());
+}
+
+fn weeks_and_debts(lines: &mut Lines) {
+    let before = [
+        days(5, "w180 r2700"),
+        days(5, "w480 r2700"),
+        days(4, "w480 r2700 w840"),
+    ];
+    lines.case("a Sunday rest for the week before", &before.concat());
+    let after = [
+        "w60 r2700 ",
+        &days(4, "w720 r2700"),
+        &days(5, "w60 r660 w480 r2700"),
+        &days(4, "w60 r660 w720"),
+    ];
+    lines.case("a Sunday rest for the week after", &after.concat());
+    lines.weeks("1440, paid from 3960", &[1440, 2700, 1440, 3960]);
+    lines.weeks("1440, paid from 3959", &[1440, 2700, 1440, 3959]);
+    lines.weeks("2699, paid from 2701", &[2699, 2700, 1440, 2701]);
+    lines.weeks("2699, due at S", &[2699, 2700, 1440, 2700]);
+    lines.weeks("2700", &[2700, 2700, 1440, 2700]);
+    let a_minute_less = tight_weeks(&[2699, 2700, 1440]) + "w60 r2700 " + &tight_days(2) + "w599";
+    lines.case("2699, due a minute after S", &a_minute_less);
+    let three = [
+        days(4, "w240 r2640"),
+        tight_days(3) + "w480 r2700 ",
+        tight_days(3) + "w480 r1440 ",
+        tight_days(2) + "w900 ",
+    ];
+    let fourth = |then| three.concat() + then;
+    lines.case("a carrier that ends at due", &fourth("r2760 w1"));
+    lines.case("a carrier that ends a minute late", &fourth("r2761 w1"));
+}
+
+fn refusals(lines: &mut Lines) {
+    lines.runs("w5 r0");
+    lines.runs("r0 w120961");
+    lines.runs("r60000 w60960");
+    lines.runs("r60000 w60961 r0");
+    lines.lent("w10 r600 w10 r600 w1", 5);
+    lines.lent("w10 r600 w10 r600 w1", 6);
+    lines.lent("w10 r600 w10 r600 w1", 9);
+    lines.lent("w10 r600 w901", 2);
+    lines.lent("w10 r600 w901", 3);
+    lines.lent("w10 r600 w0", 2);
+    lines.lent("w900", 0);
+}
+
+#[test]
+fn stored_answers() {
+    let mut lines = Lines::default();
+    edges(&mut lines);
+    articles(&mut lines);
+    figures(&mut lines);
+    weeks_and_debts(&mut lines);
+    refusals(&mut lines);
+    for (stored, answered) in STORED.lines().zip(lines.0.lines()) {
+        assert_eq!(stored, answered);
+    }
+    assert_eq!(STORED, lines.0);
+}
