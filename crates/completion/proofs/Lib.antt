@@ -1,6 +1,7 @@
 pub mod Heads
 pub mod Payments
 pub mod Carriers
+pub mod Matching
 pub mod Monotone
 pub mod Windows
 pub mod RunLaws

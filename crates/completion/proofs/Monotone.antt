@@ -26,16 +26,10 @@ use Rattle.completion.specs.declared.Brought.{Brought}
 use Rattle.completion.specs.declared.Brought.the-variants.{Broken, To}
 use Rattle.completion.specs.States.{pairKept, nextWeek, advance, After, afterDaily, afterWeekly}
 use Rattle.completion.specs.Completable.{Course, at, count, restWeek, lengthAt, debtUnit, amountOf, dueOf, debtOf, Overdue, Pays, brief, ReadDaily, ReadWeekly, Reads, Tries, Completable, Lies, Stands}
-use Rattle.completion.specs.Better.{Milder, none, free, some, Debts, Better, Small, AtRest, bestState}
+use Rattle.completion.specs.Better.{Milder, none, free, some, Debts, Within, Matched, Better, Small, AtRest, bestState}
+use Rattle.completion.proofs.Matching.{same-or-not, matched-on, matched-overdue, put-at, matched-pays}
 
 -- ---- debts
-same-or-not : (a b : ℕ) → (a ≡ b) ⊎ (a ≡ b → ⊥)
-same-or-not a b = go (eqb a b) refl
-  where
-    go : (t : Bool) → eqb a b ≡ t → (a ≡ b) ⊎ (a ≡ b → ⊥)
-    go true e = inl (eqb-true a b e)
-    go false e = inr (eqb-false a b e)
-
 module _ (s : ℕ) where
   pub milder-self : (a : ℕ) → Milder s a a
   milder-self a = go (eq-zero-or-pos a)
@@ -249,34 +243,66 @@ weekly-better false s t end le b = record {
   regular = least regularAtLeast _ _ (omega (arith, b .regular));
 }
 
--- less given as compensation leaves a debt that is no worse
-debt-mono : (s minutes w a b : ℕ) → a ≤ b → leastNet (Weekly Regular) + b ≤ minutes → Milder s (debtOf minutes a w) (debtOf minutes b w)
+-- less given as compensation leaves no debt, or one within the other
+debt-mono : (minutes w a b : ℕ) → a ≤ b → leastNet (Weekly Regular) + b ≤ minutes → (debtOf minutes a w ≡ 0) ⊎ Within (debtOf minutes a w) (debtOf minutes b w)
 unfolding debtOf
-debt-mono s minutes w a b le net = go (leb (regularMinutes + a) minutes) (leb (regularMinutes + b) minutes) refl refl
+debt-mono minutes w a b le net = go (leb (regularMinutes + a) minutes) (leb (regularMinutes + b) minutes) refl refl
   where
     go : (t u : Bool) → leb (regularMinutes + a) minutes ≡ t → leb (regularMinutes + b) minutes ≡ u
-        → Milder s (pick t 0 ((w + weeksToCompensate) * debtUnit + (regularMinutes + a - minutes)))
+        → (pick t 0 ((w + weeksToCompensate) * debtUnit + (regularMinutes + a - minutes)) ≡ 0)
+        ⊎ Within (pick t 0 ((w + weeksToCompensate) * debtUnit + (regularMinutes + a - minutes)))
         (pick u 0 ((w + weeksToCompensate) * debtUnit + (regularMinutes + b - minutes)))
-    go true u e f = none refl
+    go true u e f = inl refl
     go false true e f = absurd (omega (arith, leb-false (regularMinutes + a) minutes e, leb-true (regularMinutes + b) minutes f))
-    go false false e f = some (omega arith) (omega arith) (omega arith)
+    go false false e f = inr (record { owes = omega arith; less = omega arith; later = omega arith })
 
-module _ (c : Course) where
+-- ---- a comparison of debts that lasts
+-- R compares what is owed before the rest of an index. It lasts: when that rest owes nothing new or owes on both sides; where a debt is overdue, one is on
+-- the other side too; and what can be compensated for on the other side can be.
+pub record Lasting (c : Course) (R : ℕ → List ℕ → List ℕ → Type 0) : Type 1 where
+  pub on : (j : ℕ) {o p : List ℕ} → R j o p → R (suc j) o p
+  pub put : (j a b : ℕ) {o p : List ℕ} → j < count c → R j o p → (a ≡ 0) ⊎ Within a b → R (suc j) (set o j a) (set p j b)
+  pub overdue : (j t : ℕ) {o p : List ℕ} → t ≤ c .judged + 1 → R j o p → Overdue o t → Overdue p t
+  pub pays : (j : ℕ) (F G : ℕ → List ℕ → Type 0) (minutes : ℕ) → ((a b : ℕ) (o p : List ℕ) → a ≤ b → R j o p → G b p → F a o) → (a b : ℕ) {o p : List ℕ} → a ≤ b → R j o p
+      → Pays G minutes j 0 b p → Pays F minutes j 0 a o
+
+milder-of : (s : ℕ) {a b : ℕ} → (a ≡ 0) ⊎ Within a b → Milder s a b
+milder-of s (inl z) = none z
+milder-of s (inr w) = some (w .owes) (w .less) (w .later)
+
+-- debts compared by the rest that owes, and whatever rests owe them
+debts-last : (c : Course) → Lasting c (λ _. Debts (c .judged))
+debts-last c = record {
+  on = λ j d. d;
+  put = λ j a b _ d m. set-both (c .judged) j d (milder-of (c .judged) m);
+  overdue = λ j t le d. overdue-mono (c .judged) t le d;
+  pays = λ j F G minutes mono a b le d h. pays-mono (c .judged) F G minutes mono j 0 a b le d h;
+}
+
+pub matched-last : (c : Course) → Lasting c (Matched (count c))
+matched-last c = record {
+  on = λ j d. matched-on d;
+  put = λ j a b l d m. put-at d (suc j) j j a b (λ x h e. omega (arith, d .to-below x h)) (omega arith) (omega arith) (omega arith) l m;
+  overdue = λ j t le d. matched-overdue d t;
+  pays = λ j F G minutes mono a b le d h. matched-pays F G minutes mono j 0 a b le d h;
+}
+
+module _ (c : Course) {R : ℕ → List ℕ → List ℕ → Type 0} (lasting : Lasting c R) where
   -- what follows can do at least as much from what is at least as good
-  abbrev pub Mono : (State → List ℕ → Type 0) → Type 0
-  Mono K = (x y : State) (o p : List ℕ) → Better x y → Debts (c .judged) o p → K y p → K x o
+  abbrev pub MonoBy : ℕ → (State → List ℕ → Type 0) → Type 0
+  MonoBy j K = (x y : State) (o p : List ℕ) → Better x y → R j o p → K y p → K x o
 
-  module _ (K : State → List ℕ → Type 0) (mono : Mono K) (j : ℕ) {x y : State} (better : Better x y) where
-    daily-mono : (a b : ℕ) (o p : List ℕ) → a ≤ b → Debts (c .judged) o p → ReadDaily c K j y b p → ReadDaily c K j x a o
+  module _ (K : State → List ℕ → Type 0) (j : ℕ) (inside : j < count c) (mono : MonoBy (suc j) K) {x y : State} (better : Better x y) where
+    daily-mono : (a b : ℕ) (o p : List ℕ) → a ≤ b → R j o p → ReadDaily c K j y b p → ReadDaily c K j x a o
     daily-mono a b o p le d h =
         let e = brief-mono c j a b le in
         record {
           net = omega (arith, h .net);
           few = omega (arith, h .few, e, better .short);
-          then = mono _ _ o p (daily-better (brief c j a) (brief c j b) e better) d (h .then);
+          then = mono _ _ o p (daily-better (brief c j a) (brief c j b) e better) (lasting .on j d) (h .then);
         }
 
-    weekly-mono : (a b : ℕ) (o p : List ℕ) → a ≤ b → Debts (c .judged) o p → ReadWeekly c K j y b p → ReadWeekly c K j x a o
+    weekly-mono : (a b : ℕ) (o p : List ℕ) → a ≤ b → R j o p → ReadWeekly c K j y b p → ReadWeekly c K j x a o
     weekly-mono a b o p le d h = record {
       net = omega (arith, h .net);
       week = h .week;
@@ -287,7 +313,7 @@ module _ (c : Course) where
           (λ there. K (afterWeekly (restWeek c (h .week)) (leb (regularMinutes + a) (lengthAt c j)) (at (c .ends) j) there) (set o j (debtOf (lengthAt c j) a (h .week))))
           (λ there. K (afterWeekly (restWeek c (h .week)) (leb (regularMinutes + b) (lengthAt c j)) (at (c .ends) j) there) (set p j (debtOf (lengthAt c j) b (h .week))))
           (h .week - x .week) better
-          (λ x′ y′ b′. mono _ _ _ _ (weekly-better (restWeek c (h .week)) _ _ (at (c .ends) j) regular b′) (set-both (c .judged) j d (debt-mono (c .judged) (lengthAt c j) (h .week) a b le (h .net))))
+          (λ x′ y′ b′. mono _ _ _ _ (weekly-better (restWeek c (h .week)) _ _ (at (c .ends) j) regular b′) (lasting .put j _ _ inside d (debt-mono (lengthAt c j) (h .week) a b le (h .net))))
           (subst (λ (n : ℕ). After (advance (restWeek c) (h .week - n) y) (λ there. K (afterWeekly (restWeek c (h .week)) (leb (regularMinutes + b) (lengthAt c j)) (at (c .ends) j) there) (set p j (debtOf (lengthAt c j) b (h .week))))) (sym (better .week)) (h .then));
     }
       where
@@ -296,15 +322,38 @@ module _ (c : Course) where
             one-mono _ _
             (λ t. le-leb (regularMinutes + a) (lengthAt c j) (let u = leb-true (regularMinutes + b) (lengthAt c j) t in omega arith))
 
-    reads-mono : (a b : ℕ) (o p : List ℕ) → a ≤ b → Debts (c .judged) o p → Reads c K j y b p → Reads c K j x a o
-    reads-mono a b o p le d (inl h) = inl (daily-mono a b o p le d h)
-    reads-mono a b o p le d (inr h) = inr (weekly-mono a b o p le d h)
+    pub reads-by : (a b : ℕ) (o p : List ℕ) → a ≤ b → R j o p → Reads c K j y b p → Reads c K j x a o
+    reads-by a b o p le d (inl h) = inl (daily-mono a b o p le d h)
+    reads-by a b o p le d (inr h) = inr (weekly-mono a b o p le d h)
 
-    pub tries-by : (o p : List ℕ) → Debts (c .judged) o p → Tries c K j y p → Tries c K j x o
+    pub tries-by : (o p : List ℕ) → R j o p → Tries c K j y p → Tries c K j x o
     tries-by o p d h =
-        pays-mono (c .judged) (Reads c K j x) (Reads c K j y) (lengthAt c j) reads-mono j 0 (at (c .promised) j) (at (c .promised) j) (le-refl _) d h
+        lasting .pays j (Reads c K j x) (Reads c K j y) (lengthAt c j) reads-by (at (c .promised) j) (at (c .promised) j) (le-refl _) d h
+
+  pub completable-by : Lies c → (n j : ℕ) (x y : State) (o p : List ℕ) → n + j ≡ count c → Better x y → R j o p → Completable c n j y p → Completable c n j x o
+  unfolding Completable
+  completable-by lies zero j x y o p e b d h = (
+    (
+      omega (arith, h .0 .0, b .ended),
+      advance-mono (restWeek c) (λ _. Unit) (λ _. Unit) (weekOf (c .judged) - x .week) b (λ _ _ _ u. u)
+          (subst (λ (w : ℕ). After (advance (restWeek c) (weekOf (c .judged) - w) y) (λ _. Unit)) (sym (b .week)) (h .0 .1)),
+    ),
+    λ l. h .1 (lasting .overdue j (c .judged + 1) (le-refl _) d l),
+  )
+  completable-by lies (suc n) j x y o p e b d h = (
+    omega (arith, h .0, b .ended),
+    λ l. h .1 (lasting .overdue j (at (c .ends) j) (let u = lies .judged j (omega arith) in omega arith) d l),
+    advance-mono (restWeek c) (λ here. Tries c (Completable c n (suc j)) j here o) (λ here. Tries c (Completable c n (suc j)) j here p)
+        (weekOf (at (c .starts) j) - x .week) b
+        (λ x′ y′ b′. tries-by (Completable c n (suc j)) j (omega arith) (λ x″ y″ o′ p′. completable-by lies n (suc j) x″ y″ o′ p′ (omega arith)) b′ o p d)
+        (subst (λ (w : ℕ). After (advance (restWeek c) (weekOf (at (c .starts) j) - w) y) (λ here. Tries c (Completable c n (suc j)) j here p)) (sym (b .week)) (h .2)),
+  )
 
 -- ---- the laws
+-- the same, of debts compared by the rest that owes
+abbrev pub Mono : (c : Course) → (State → List ℕ → Type 0) → Type 0
+Mono c K = (x y : State) (o p : List ℕ) → Better x y → Debts (c .judged) o p → K y p → K x o
+
 regular-better : (st : State) (restWeek short : Bool) (end : ℕ) → Small st → st .ended ≤ end → Better (afterWeekly restWeek true end st) (afterDaily short st)
 regular-better st true short end h le = record {
   week = refl;
@@ -328,27 +377,12 @@ regular-better st false short end h le = record {
 module _ (c : Course) (lies : Lies c) where
   pub completable-mono : (n j : ℕ) (x y : State) (o p : List ℕ) → n + j ≡ count c → Better x y → Debts (c .judged) o p
       → Completable c n j y p → Completable c n j x o
-  unfolding Completable
-  completable-mono zero j x y o p e b d h = (
-    (
-      omega (arith, h .0 .0, b .ended),
-      advance-mono (restWeek c) (λ _. Unit) (λ _. Unit) (weekOf (c .judged) - x .week) b (λ _ _ _ u. u)
-          (subst (λ (w : ℕ). After (advance (restWeek c) (weekOf (c .judged) - w) y) (λ _. Unit)) (sym (b .week)) (h .0 .1)),
-    ),
-    λ l. h .1 (overdue-mono (c .judged) (c .judged + 1) (le-refl _) d l),
-  )
-  completable-mono (suc n) j x y o p e b d h = (
-    omega (arith, h .0, b .ended),
-    λ l. h .1 (overdue-mono (c .judged) (at (c .ends) j) (let u = lies .judged j (omega arith) in omega arith) d l),
-    advance-mono (restWeek c) (λ here. Tries c (Completable c n (suc j)) j here o) (λ here. Tries c (Completable c n (suc j)) j here p)
-        (weekOf (at (c .starts) j) - x .week) b
-        (λ x′ y′ b′. tries-by c (Completable c n (suc j)) (λ x″ y″ o′ p′. completable-mono n (suc j) x″ y″ o′ p′ (omega arith)) j b′ o p d)
-        (subst (λ (w : ℕ). After (advance (restWeek c) (weekOf (at (c .starts) j) - w) y) (λ here. Tries c (Completable c n (suc j)) j here p)) (sym (b .week)) (h .2)),
-  )
+  completable-mono = completable-by c (debts-last c) lies
 
   pub tries-mono : (n j : ℕ) (x y : State) (o p : List ℕ) → n + suc j ≡ count c → Better x y → Debts (c .judged) o p
       → Tries c (Completable c n (suc j)) j y p → Tries c (Completable c n (suc j)) j x o
-  tries-mono n j x y o p e b d h = tries-by c (Completable c n (suc j)) (λ x′ y′ o′ p′. completable-mono n (suc j) x′ y′ o′ p′ e) j b o p d h
+  tries-mono n j x y o p e b d h =
+      tries-by c (debts-last c) (Completable c n (suc j)) j (omega arith) (λ x′ y′ o′ p′. completable-mono n (suc j) x′ y′ o′ p′ e) b o p d h
 
   -- a rest that can be a regular weekly rest, in the week in which it starts, need not be daily
   pub regular-by : (K : State → List ℕ → Type 0) → Mono c K → (j : ℕ) (here : State) (load : ℕ) (owed : List ℕ) → AtRest c j here

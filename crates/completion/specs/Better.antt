@@ -22,6 +22,22 @@ pub record Debts (s : ℕ) (o p : List ℕ) : Type 0 where
   pub long : length o ≡ length p
   pub each : (i : ℕ) → Milder s (at o i) (at p i)
 
+-- there is a debt b that is no less than a debt a, and due no later
+pub record Within (a b : ℕ) : Type 0 where
+  pub owes : 0 < b
+  pub less : amountOf a ≤ amountOf b
+  pub later : dueOf b ≤ dueOf a
+
+-- each of the debts o lies within one of the debts p, whatever rests owe them, no two within the same; all of them, and those they lie within,
+-- are of rests before that of index j; the slots of p are k
+pub record Matched (k j : ℕ) (o p : List ℕ) : Type 0 where
+  pub long : length p ≡ k
+  pub to : ℕ → ℕ
+  pub below : (x : ℕ) → 0 < at o x → x < j
+  pub to-below : (x : ℕ) → 0 < at o x → to x < j
+  pub within : (x : ℕ) → 0 < at o x → Within (at o x) (at p (to x))
+  pub apart : (x y : ℕ) → 0 < at o x → 0 < at o y → to x ≡ to y → x ≡ y
+
 -- the state x is at least as good as the state y
 pub record Better (x y : State) : Type 0 where
   pub week : x .week ≡ y .week
