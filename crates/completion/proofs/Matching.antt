@@ -96,10 +96,13 @@ module _ (F : ℕ → List ℕ → Type 0) (minutes : ℕ) where
           let v = getD-set-other o i x 0 0 (λ e. n (sym e)) in
           let w : a + amountOf (at o x) + amountOf (at (set o x 0) i) ≡ a + amountOf (at o i) + amountOf (at (set o i 0) x)
           = ap (λ (z : ℕ). a + amountOf (at o x) + amountOf z) u ∙ swap a (amountOf (at o x)) (amountOf (at o i)) ∙ ap (λ (z : ℕ). a + amountOf (at o i) + amountOf z) (sym v) in
-          inl (cleared o x i (q .0) .1, less a (amountOf (at o x)) (amountOf (at o i)) (subst (λ (z : ℕ). leastNet Daily + (a + amountOf (at o x) + amountOf z) ≤ minutes) u (q .1)),
-          g n (subst (λ (z : ℕ). 0 < z) (sym v) owes) (subst (λ (z : ℕ). leastNet Daily + z ≤ minutes) w (q .1))
-          (subst (λ (z : ℕ). Pays F minutes m (i + 1) z (set (set o i 0) x 0)) w
-          (subst (Pays F minutes m (i + 1) (a + amountOf (at o x) + amountOf (at (set o x 0) i))) (set-comm o x i 0 0 (λ e. n (sym e))) (q .2))))
+          inl (
+            cleared o x i (q .0) .1,
+            less a (amountOf (at o x)) (amountOf (at o i)) (subst (λ (z : ℕ). leastNet Daily + (a + amountOf (at o x) + amountOf z) ≤ minutes) u (q .1)),
+            g n (subst (λ (z : ℕ). 0 < z) (sym v) owes) (subst (λ (z : ℕ). leastNet Daily + z ≤ minutes) w (q .1))
+                (subst (λ (z : ℕ). Pays F minutes m (i + 1) z (set (set o i 0) x 0)) w
+                (subst (Pays F minutes m (i + 1) (a + amountOf (at o x) + amountOf (at (set o x 0) i))) (set-comm o x i 0 0 (λ e. n (sym e))) (q .2))),
+          )
         where
           swap : (a b c : ℕ) → a + b + c ≡ a + c + b
           swap a b c = omega arith

@@ -4,7 +4,7 @@ use mathlib.Core.Path.{_≡_, refl, sym, ap, subst, _∙_}
 use mathlib.Core.Logic.{_⊎_, inl, inr, ⊎-elim}
 use mathlib.Core.Bool.{Bool, true, false, false≢true, true≢false}
 use mathlib.Core.List.{List, [], _∷_, _++_, append-assoc}
-use Prim.Native.Nat.{ℕ, zero, suc, _+_, _-_, _*_, _≤_, _<_}
+use Prim.Native.Nat.{ℕ, zero, suc, _+_, _-_, _*_, _≤_, _<_, zero-le}
 use native.Mathlib.Nat.{le-refl}
 use native.Mathlib.Omega.{arith}
 use lib.Dec.{leb, ltb}
@@ -34,6 +34,7 @@ use Rattle.completion.proofs.Payments.{set-other}
 use Rattle.steps.specs.Steps.{Says}
 use Rattle.hopeless.specs.Table.{levelWords}
 use Rattle.search.specs.Search.{Found, courseOf, Later, Lent, Before}
+use Rattle.search.proofs.Answers.{noneOf, none-size, none-zeros, reached-at}
 use Rattle.first_reading.specs.First.{Least, restsOnly}
 use Rattle.first_reading.proofs.Choosing.{with-promised, lies-with, carrier-low}
 use Rattle.first_reading.specs.Choices.{loadAt, reductionAt, promising, CarriedBy, afterCounted, GoesWeekly, NotPast, FirstWeekly, LeastFrom, Ahead, withEntry, Placed, Told, FirstOf, Sized, Room, Carries, GoesWith}
@@ -86,6 +87,7 @@ before-with c p h = record {
   stands = record { short = h .stands .short; ended = h .stands .ended; week = h .stands .week; week-judged = h .stands .week-judged };
   small = h .small;
   ended = h .ended;
+  reached = h .reached;
 }
 
 pub paid-length : (p : List ℕ) (x d : ℕ) → length (paid p x d) ≡ length p
@@ -101,18 +103,20 @@ sized-of h = record {
   promised-low = h .promised-low;
 }
 
-pub lent-of : {c d : Course} {o o′ t t′ : List ℕ} → Sized d → count d ≡ count c → Lent c o t → length o′ ≡ length o → length t′ ≡ length t → Lent d o′ t′
+pub lent-of : {c d : Course} {o o′ t t′ : List ℕ} → Sized d → count d ≡ count c → Lent c o t → o′ ≡ o → length t′ ≡ length t → Lent d o′ t′
 lent-of {c} {d} s k h e f = record {
   lies = s .lies;
   promised-too = s .promised-too;
-  owed-too = e ∙ h .owed-too ∙ sym k;
+  owed-too = ap length e ∙ h .owed-too ∙ sym k;
   few = s .few;
   judged = s .judged;
   promised-low = s .promised-low;
   room = omega (arith, h .room, f, k);
+  below = zero-le;
+  unused = λ x l. ap (λ (q : List ℕ). at q x) e ∙ h .unused x l;
 }
 
-pub lent-same : {c : Course} {p o o′ t t′ : List ℕ} → p ≡ c .promised → length o′ ≡ length o → length t′ ≡ length t → Lent c o t
+pub lent-same : {c : Course} {p o o′ t t′ : List ℕ} → p ≡ c .promised → o′ ≡ o → length t′ ≡ length t → Lent c o t
     → Lent (with-promised c p) o′ t′
 lent-same {c} {p} {o} {o′} {t} {t′} q e f h =
     subst (λ (x : List ℕ). Lent (with-promised c x) o′ t′) (sym q) (lent-of (sized-of h) refl h e f)
@@ -144,10 +148,11 @@ before-here c lies j here h =
       stands = subst (λ (i : ℕ). Stands c i here) e (record { short = h .small .short; ended = d .ended; week = d .week; week-judged = d .week-judged });
       small = h .small;
       ended = omega (arith, h .ended, lies .proper j (h .within), lies .judged j (h .within));
+      reached = λ _. reached-at c lies j (omega (arith, h .week));
     }
 
-pub before-on : {c : Course} {j : ℕ} {st : State} → j < count c → Before c j st → Before c (j + 1) st
-before-on l h = record {
+pub before-on : {c : Course} (lies : Lies c) {j : ℕ} {st : State} → j < count c → weekOf (at (c .starts) j) ≤ st .week → Before c j st → Before c (j + 1) st
+before-on {c} lies {j} l r h = record {
   within = omega (arith, l);
   stands = record {
     short = h .stands .short;
@@ -157,6 +162,7 @@ before-on l h = record {
   };
   small = h .small;
   ended = h .ended;
+  reached = λ _. reached-at c lies j r;
 }
 
 module _ (c : Course) (j : ℕ) where
@@ -476,22 +482,6 @@ pub at-rest-with : (c : Course) (p : List ℕ) {j : ℕ} {here : State} → AtRe
 at-rest-with c p h = record { within = h .within; small = h .small; week = h .week; ended = h .ended }
 
 -- ---- before anything is promised or owed
-zeros-take : (k : ℕ) (l : List ℕ) → Zeros l → Zeros (take k l)
-zeros-take zero l z i = refl
-zeros-take (suc k) [] z i = refl
-zeros-take (suc k) (x ∷ l) z zero = z 0
-zeros-take (suc k) (x ∷ l) z (suc i) = zeros-take k l (λ y. z (suc y)) i
-
--- as many zeros as there are rests, of the most there can be
-abbrev pub noneOf : ℕ → List ℕ
-noneOf k = take k (replicate longRestsAtMost 0)
-
-pub none-size : (k : ℕ) → k ≤ longRestsAtMost → length (noneOf k) ≡ k
-none-size k l = rw (length-take, length-replicate) (omega arith)
-
-pub none-zeros : (k : ℕ) → Zeros (noneOf k)
-none-zeros k = zeros-take k (replicate longRestsAtMost 0) (zeros-at longRestsAtMost)
-
 pub lent-start : (starts ends : List ℕ) (s : ℕ) → Lies (restsOnly starts ends s) → length starts ≤ longRestsAtMost → s ≤ totalAtMost
     → Lent (courseOf starts ends (noneOf (length starts)) s) (noneOf (length starts)) (replicate (levelWords * longRestsAtMost) 0)
 lent-start starts ends s l few judged = record {
@@ -502,4 +492,6 @@ lent-start starts ends s l few judged = record {
   judged = judged;
   promised-low = λ i. omega (arith, none-zeros (length starts) i);
   room = rw (length-replicate {A = ℕ} (levelWords * longRestsAtMost) 0) (omega (arith, few));
+  below = zero-le;
+  unused = λ x _. none-zeros (length starts) x;
 }

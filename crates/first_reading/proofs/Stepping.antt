@@ -1,5 +1,5 @@
 -- A rest more is read: wherever there is a first reading, its entry was written. Assumes nothing.
-use mathlib.Core.Path.{_≡_, refl, sym, subst, _∙_}
+use mathlib.Core.Path.{_≡_, refl, sym, ap, subst, _∙_}
 use mathlib.Core.List.{List, _∷_}
 use Prim.Native.Nat.{ℕ, suc, _+_, _-_, _≤_, _<_}
 use native.Mathlib.Omega.{arith}
@@ -15,10 +15,10 @@ use Rattle.completion.specs.declared.Brought.{Brought}
 use Rattle.completion.specs.declared.Brought.the-variants.{Broken, To}
 use Rattle.completion.specs.States.{advance}
 use Rattle.completion.specs.Completable.{Course, at, count, restWeek, lengthAt}
-use Rattle.completion.specs.Better.{AtRest}
+use Rattle.completion.specs.Better.{AtRest, bestState}
 use Rattle.completion.proofs.Monotone.{arrives}
 use Rattle.search.specs.Search.{Lent, Before}
-use Rattle.search.proofs.Answers.{brought}
+use Rattle.search.proofs.Answers.{brought, before-best}
 use Rattle.first_reading.specs.Choices.{loadAt, promising, GoesDaily, FirstWeekly, Ahead, Sized, Room, PutDaily, PutWeekly, Stepped}
 use Rattle.first_reading.proofs.Choosing.{with-promised, daily, weekly, NextDaily, too-short-for-weekly, never-broken, goes-as-daily, goes-as-weekly}
 use Rattle.first_reading.proofs.Placing.{sized-of, lent-of, before-on, room-weekly}
@@ -31,11 +31,12 @@ module _ (c : Course) (j : ℕ) (st : State) (owed table : List ℕ) (lent : Len
   pub at-rest : {b : Brought} {here : State} → b ≡ brought-on → b ≡ To here → AtRest c j here
   at-rest e g = arrives c (lent .lies) inside (before .stands) (brought (restWeek c) (weekOf (at (c .starts) j) - st .week) (before .small) e g)
 
-  pub stepped-broken : {b : Brought} (reading : List ℕ) → b ≡ brought-on → b ≡ Broken → Stepped c c j st owed owed table reading reading st
-  stepped-broken reading e g = record {
+  pub stepped-broken : {b : Brought} {r : State} (reading : List ℕ) → b ≡ brought-on → b ≡ Broken → r ≡ bestState (at (c .starts) j)
+      → Stepped c c j st owed owed table reading reading r
+  stepped-broken {b} {r} reading e g q = record {
     lent = lent;
     same = refl;
-    before = before-on inside before;
+    before = before-on (lent .lies) inside (omega (arith, ap (λ (x : State). x .week) q)) (before-best c (lent .lies) j inside q);
     placed = λ past left a.
         absurd (never-broken c (lent .lies) (omega (arith, lent .few)) (lent .judged) (lent .promised-too) j inside st past left a (sym e ∙ g));
   }
@@ -43,10 +44,7 @@ module _ (c : Course) (j : ℕ) (st : State) (owed table : List ℕ) (lent : Len
   module _ {b : Brought} {here : State} (e : b ≡ brought-on) (g : b ≡ To here) (owed′ table′ reading reading′ : List ℕ) (same : owed′ ≡ owed)
       (long : length table′ ≡ length table) (r : State) where
     lent-still : {d : Course} → Sized d → count d ≡ count c → Lent d owed′ table′
-    lent-still s q = lent-of s q lent (same-length same) long
-      where
-        same-length : owed′ ≡ owed → length owed′ ≡ length owed
-        same-length q = subst (λ (o : List ℕ). length o ≡ length owed) (sym q) refl
+    lent-still s q = lent-of s q lent same long
 
     stepped-daily : PutDaily c j here reading reading′ r → ((past : List Entry) (left : List ℕ) → Ahead c j st past left → NextDaily c j past here left)
         → Stepped c c j st owed owed′ table′ reading reading′ r

@@ -333,7 +333,7 @@ fn place(
 {
     let Brought::To(here) = steps::advance(starts, ends, st, starts[j] / recording::WEEK_MINUTES)
     else {
-        return st;
+        return steps::best_state(starts[j]);
     };
     if ends[j] - starts[j] < reading::WEEKLY_NET + promised[j] {
         return put_daily(starts, ends, promised, s, reading, j, here);

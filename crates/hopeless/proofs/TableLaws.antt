@@ -1,21 +1,21 @@
 -- Laws of the table of hopeless states: what a store leaves as it was, and what it writes. Assumes nothing.
 use mathlib.Core.Path.{_≡_, refl, sym, ap, subst, _∙_}
-use mathlib.Core.Logic.{_⊎_, inl, inr, ⊎-elim}
+use mathlib.Core.Logic.{_⊎_, inl, inr}
 use mathlib.Core.Bool.{Bool, true, false}
 use mathlib.Core.List.{List, [], _∷_}
 use Prim.Native.Nat.{ℕ, zero, suc, _+_, _-_, _*_, _/_, _%_, _≤_, _<_}
 use native.Mathlib.Nat.{eq-or-lt-of-le, le-refl}
 use native.Mathlib.Omega.{arith}
 use lib.Dec.{ltb, eqb}
-use lib.ListN.{length, getD, set, length-set, List·getD-eq-default}
+use lib.ListN.{length, getD, set, length-set}
 use lib.Seq.{getD-set-same, getD-set-other}
-use borrow.Author.Tests.{lt-ltb, eqb-true, eqb-false}
-use Rattle.recording.specs.Tests.{one}
+use borrow.Author.Tests.{lt-ltb, le-ltb, eqb-true, eqb-false}
+use Rattle.recording.specs.Tests.{pick, one}
 use Rattle.recording.proofs.TestLaws.{less-or-not}
 use Rattle.completion.specs.declared.State.{State}
 use Rattle.completion.specs.Completable.{at, debtUnit, dueOf}
-use Rattle.completion.specs.Better.{Milder}
-use Rattle.hopeless.specs.Table.{ringSize, stateWords, debtsAtMost, entryWords, levelWords, levelAt, entryAt, debtsOf, debtorPlace, debtPlace, debtorOf, debtIn, InUse, Covered, Listed, Holds, Entry, old, new, Remembered, Empty, owing, writtenFrom, wordsOf, stated, Put, PutAll}
+use Rattle.completion.specs.Better.{Within}
+use Rattle.hopeless.specs.Table.{ringSize, stateWords, debtsAtMost, entryWords, levelWords, levelAt, entryAt, debtsOf, debtPlace, debtIn, InUse, Paired, Holds, Entry, old, new, Remembered, Empty, owing, writtenFrom, wordsOf, stated, Put, PutAll}
 
 pub same-or-not : (a b : ℕ) → (a ≡ b) ⊎ (a ≡ b → ⊥)
 same-or-not a b = go (eqb a b) refl
@@ -30,9 +30,6 @@ same t i a l = getD-set-same t i a 0 l
 
 pub skip : (t : List ℕ) (i x a : ℕ) → (x ≡ i → ⊥) → at (set t i a) x ≡ at t x
 skip t i x a n = getD-set-other t i x a 0 n
-
-pub at-end : (xs : List ℕ) (i : ℕ) → length xs ≤ i → at xs i ≡ 0
-at-end xs i l = List·getD-eq-default xs 0 l
 
 -- ---- levels emptied from the last on: those from i on, below k
 pub record EmptyFrom (t : List ℕ) (i k : ℕ) : Type 0 where
@@ -109,124 +106,138 @@ owing-more owed i n l h = omega (arith, owing-up owed (i + 1) n (omega arith), o
 pub owing-next : (owed : List ℕ) (i n r : ℕ) → n ≡ owing owed i → r ≡ one (ltb 0 (at owed i)) → n + r ≡ owing owed (i + 1)
 owing-next owed i n r e f = omega (arith, e, f, owing-on owed i)
 
-pub owing-all : (owed : List ℕ) (i n : ℕ) → i ≤ length owed → length owed ≤ i → n ≡ owing owed i → n ≡ owing owed (length owed)
-owing-all owed i n a b e = let f : i ≡ length owed = omega arith in subst (λ (x : ℕ). n ≡ owing owed x) f e
+pub owing-all : (owed : List ℕ) (i n d : ℕ) → i ≤ n → n ≤ i → d ≡ owing owed i → d ≡ owing owed n
+owing-all owed i n d a b e = let f : i ≡ n = omega arith in subst (λ (x : ℕ). d ≡ owing owed x) f e
 
 -- ---- debts compared
 pub no-later : (a b : ℕ) → a / debtUnit ≤ b / debtUnit → dueOf a ≤ dueOf b
 no-later a b l = omega arith
 
-pub covered-start : (t owed : List ℕ) (p : ℕ) → Covered t owed p 0
-covered-start t owed p = record { each = λ s d l. absurd (omega arith) }
+-- each of the first d debts of the entry at p lies within one of those in the slots below i, in order
+pub record PairedBelow (t : List ℕ) (p : ℕ) (owed : List ℕ) (d i : ℕ) : Type 0 where
+  pub to : ℕ → ℕ
+  pub below : (x : ℕ) → x < d → to x < i
+  pub within : (x : ℕ) → x < d → Within (debtIn t p x) (at owed (to x))
+  pub rises : (x y : ℕ) → x < y → y < d → to x < to y
 
-pub covered-on : {t owed : List ℕ} {p d : ℕ} → ((s : ℕ) → Milder s (debtIn t p d) (at owed (debtorOf t p d))) → Covered t owed p d → Covered t owed p (d + 1)
-covered-on {t} {owed} {p} {d} this before = record { each = λ s x l. go s x (eq-or-lt-of-le (let k : x ≤ d = omega arith in k)) }
-  where
-    go : (s x : ℕ) → (x ≡ d) ⊎ (x < d) → Milder s (debtIn t p x) (at owed (debtorOf t p x))
-    go s x (inl e) = subst (λ (y : ℕ). Milder s (debtIn t p y) (at owed (debtorOf t p y))) (sym e) (this s)
-    go s x (inr l) = before .each s x l
+pub paired-start : (t : List ℕ) (p : ℕ) (owed : List ℕ) → PairedBelow t p owed 0 0
+paired-start t p owed = record { to = λ x. x; below = λ x l. absurd (omega arith); within = λ x l. absurd (omega arith); rises = λ x y a b. absurd (omega arith) }
 
-pub covered-all : {t owed : List ℕ} {p d n : ℕ} → n ≤ d → Covered t owed p d → Covered t owed p n
-covered-all l c = record { each = λ s x h. c .each s x (omega arith) }
+module _ {t owed : List ℕ} {p d i : ℕ} (before : PairedBelow t p owed d i) where
+  -- slot i is passed over
+  pub paired-past : PairedBelow t p owed d (i + 1)
+  paired-past = record { to = before .to; below = λ x l. omega (arith, before .below x l); within = before .within; rises = before .rises }
+
+  pub paired-all : debtsOf t p ≤ d → Paired t p owed
+  paired-all l = record { to = before .to; within = λ x h. before .within x (omega arith); rises = λ x y a b. before .rises x y a (omega arith) }
+
+  -- the debt of index d lies within that of slot i
+  pub paired-on : Within (debtIn t p d) (at owed i) → PairedBelow t p owed (d + 1) (i + 1)
+  paired-on this = record { to = to; below = λ x l. below x (less-or-not x d); within = λ x l. within x l (less-or-not x d); rises = λ x y a b. rises x y a (omega arith) (less-or-not y d) }
+    where
+      to : ℕ → ℕ
+      to x = pick (ltb x d) (before .to x) i
+
+      earlier : (x : ℕ) → x < d → to x ≡ before .to x
+      earlier x l = ap (λ (b : Bool). pick b (before .to x) i) (lt-ltb x d l)
+
+      last : (x : ℕ) → d ≤ x → to x ≡ i
+      last x l = ap (λ (b : Bool). pick b (before .to x) i) (le-ltb x d l)
+
+      below : (x : ℕ) → (x < d) ⊎ (d ≤ x) → to x < i + 1
+      below x (inl l) = omega (arith, earlier x l, before .below x l)
+      below x (inr l) = omega (arith, last x l)
+
+      within : (x : ℕ) → x < d + 1 → (x < d) ⊎ (d ≤ x) → Within (debtIn t p x) (at owed (to x))
+      within x h (inl l) = subst (λ (y : ℕ). Within (debtIn t p x) (at owed y)) (sym (earlier x l)) (before .within x l)
+      within x h (inr l) =
+          let e : d ≡ x = omega arith in
+          subst (λ (y : ℕ). Within (debtIn t p x) (at owed y)) (sym (last x l)) (subst (λ (y : ℕ). Within (debtIn t p y) (at owed i)) e this)
+
+      rises : (x y : ℕ) → x < y → x < d → (y < d) ⊎ (d ≤ y) → to x < to y
+      rises x y a b (inl l) = omega (arith, earlier x b, earlier y l, before .rises x y a l)
+      rises x y a b (inr l) = omega (arith, earlier x b, last y l, before .below x b)
 
 -- ---- the debts of an entry
-pub put-none : (t : List ℕ) (p d i debt : ℕ) → debt ≡ 0 → Put t t p d i debt d
-put-none t p d i debt z = record {
+pub put-none : (t : List ℕ) (p d debt : ℕ) → debt ≡ 0 → Put t t p d debt d
+put-none t p d debt z = record {
   next = subst (λ (x : ℕ). d ≡ d + one (ltb 0 x)) (sym z) (omega arith);
-  other = λ x _ _. refl;
-  debtor = λ h. absurd (omega arith);
+  other = λ x _. refl;
   owes = λ h. absurd (omega arith);
 }
 
-pub put-one : (t : List ℕ) (p d i debt : ℕ) → p + entryWords ≤ length t → d < debtsAtMost → 0 < debt
-    → Put t (set (set t (debtorPlace p d) i) (debtPlace p d) debt) p d i debt (d + 1)
-put-one t p d i debt room few h = record {
+pub put-one : (t : List ℕ) (p d debt : ℕ) → p + entryWords ≤ length t → d < debtsAtMost → 0 < debt → Put t (set t (debtPlace p d) debt) p d debt (d + 1)
+put-one t p d debt room few h = record {
   next = let e : one (ltb 0 debt) ≡ 1 = ap one (lt-ltb 0 debt h) in omega arith;
-  other = λ x a b. skip (set t (debtorPlace p d) i) (debtPlace p d) x debt (b h) ∙ skip t (debtorPlace p d) x i (a h);
-  debtor = λ _. skip (set t (debtorPlace p d) i) (debtPlace p d) (debtorPlace p d) debt (λ e. omega arith) ∙ same t (debtorPlace p d) i (omega arith);
-  owes = λ _. same (set t (debtorPlace p d) i) (debtPlace p d) debt (simp length-set (omega arith));
+  other = λ x a. skip t (debtPlace p d) x debt (a h);
+  owes = λ _. same t (debtPlace p d) debt (omega arith);
 }
 
 pub put-start : (t : List ℕ) (p : ℕ) (owed : List ℕ) → PutAll t t p owed 0 0
 unfolding owing
-put-start t p owed = record { count = refl; below = λ x _. refl; above = λ x _. refl; listed = λ i l h. absurd (omega arith) }
+put-start t p owed = record { count = refl; below = λ x _. refl; above = λ x _. refl; debt = λ i l h. absurd (omega arith) }
 
-module _ {t t₁ t₂ owed : List ℕ} {p i d r : ℕ} (few : 0 < at owed i → d < debtsAtMost) (put : Put t₁ t₂ p d i (at owed i) r) (before : PutAll t t₁ p owed i d) where
-  step : (x : ℕ) → (0 < at owed i → x ≡ debtorPlace p d → ⊥) → (0 < at owed i → x ≡ debtPlace p d → ⊥) → at t₂ x ≡ at t₁ x
-  step = put .other
+module _ {t t₁ t₂ owed : List ℕ} {p i d r : ℕ} (few : 0 < at owed i → d < debtsAtMost) (put : Put t₁ t₂ p d (at owed i) r) (before : PutAll t t₁ p owed i d) where
+  earlier : (y : ℕ) → y < i → 0 < at owed y → debtIn t₂ p (owing owed y) ≡ at owed y
+  earlier y l h = put .other (debtPlace p (owing owed y)) (λ _ e. omega (arith, before .count, owing-more owed y i l h, e)) ∙ before .debt y l h
 
-  earlier : (y : ℕ) → Listed t₁ p d owed y → Listed t₂ p r owed y
-  earlier y q = record {
-    place = q .place;
-    below = omega (arith, q .below, put .next);
-    debtor = step (debtorPlace p (q .place)) (λ h e. omega (arith, q .below, few h, e)) (λ h e. omega (arith, q .below, few h, e)) ∙ q .debtor;
-    debt = step (debtPlace p (q .place)) (λ h e. omega (arith, q .below, few h, e)) (λ h e. omega (arith, q .below, few h, e)) ∙ q .debt;
-  }
-
-  this : 0 < at owed i → Listed t₂ p r owed i
-  this h = record {
-    place = d;
-    below = omega (arith, put .next, ap one (lt-ltb 0 (at owed i) h));
-    debtor = put .debtor h;
-    debt = put .owes h;
-  }
+  this : 0 < at owed i → debtIn t₂ p (owing owed i) ≡ at owed i
+  this h = subst (λ (x : ℕ). debtIn t₂ p x ≡ at owed i) (before .count) (put .owes h)
 
   pub put-on : PutAll t t₂ p owed (i + 1) r
   put-on = record {
     count = put .next ∙ ap (λ (x : ℕ). x + one (ltb 0 (at owed i))) (before .count) ∙ sym (owing-on owed i);
-    below = λ x l. step x (λ h e. omega (arith, l, e)) (λ h e. omega (arith, l, e)) ∙ before .below x l;
-    above = λ x l. step x (λ h e. omega (arith, l, e, few h)) (λ h e. omega (arith, l, e, few h)) ∙ before .above x l;
-    listed = λ y l h. go y h (eq-or-lt-of-le (let k : y ≤ i = omega arith in k));
+    below = λ x l. put .other x (λ h e. omega (arith, l, e)) ∙ before .below x l;
+    above = λ x l. put .other x (λ h e. omega (arith, l, e, few h)) ∙ before .above x l;
+    debt = λ y l h. go y h (eq-or-lt-of-le (let k : y ≤ i = omega arith in k));
   }
     where
-      go : (y : ℕ) → 0 < at owed y → (y ≡ i) ⊎ (y < i) → Listed t₂ p r owed y
-      go y h (inl e) = subst (λ (x : ℕ). Listed t₂ p r owed x) (sym e) (this (subst (λ (x : ℕ). 0 < at owed x) e h))
-      go y h (inr l) = earlier y (before .listed y l h)
+      go : (y : ℕ) → 0 < at owed y → (y ≡ i) ⊎ (y < i) → debtIn t₂ p (owing owed y) ≡ at owed y
+      go y h (inl e) = subst (λ (x : ℕ). debtIn t₂ p (owing owed x) ≡ at owed x) (sym e) (this (subst (λ (x : ℕ). 0 < at owed x) e h))
+      go y h (inr l) = earlier y l h
 
-module _ {t t₁ owed : List ℕ} {p i d : ℕ} (before : PutAll t t₁ p owed i d) (few : owing owed (length owed) ≤ debtsAtMost) where
-  pub put-few : i ≤ length owed → d ≤ debtsAtMost
-  put-few l = omega (arith, before .count, owing-up owed i (length owed) l)
+module _ {t t₁ owed : List ℕ} {p n i d : ℕ} (before : PutAll t t₁ p owed i d) (few : owing owed n ≤ debtsAtMost) where
+  pub put-few : i ≤ n → d ≤ debtsAtMost
+  put-few l = omega (arith, before .count, owing-up owed i n l)
 
-  pub put-room : i < length owed → 0 < at owed i → d < debtsAtMost
-  put-room l h = omega (arith, before .count, owing-more owed i (length owed) l h)
+  pub put-room : i < n → 0 < at owed i → d < debtsAtMost
+  put-room l h = omega (arith, before .count, owing-more owed i n l h)
 
-pub put-end : {t t₁ owed : List ℕ} {p i d : ℕ} → i ≤ length owed → length owed ≤ i → PutAll t t₁ p owed i d → PutAll t t₁ p owed (length owed) d
-put-end {t} {t₁} {owed} {p} {i} {d} a b h = let e : i ≡ length owed = omega arith in subst (λ (x : ℕ). PutAll t t₁ p owed x d) e h
-
-pub listed-all : {t t′ owed : List ℕ} {p r : ℕ} → PutAll t t′ p owed (length owed) r → (i : ℕ) → 0 < at owed i → Listed t′ p r owed i
-listed-all {owed = owed} a i h = ⊎-elim (λ l. a .listed i l h) (λ l. absurd (omega (arith, h, at-end owed i l))) (less-or-not i (length owed))
+pub put-end : {t t₁ owed : List ℕ} {p n i d : ℕ} → i ≤ n → n ≤ i → PutAll t t₁ p owed i d → PutAll t t₁ p owed n d
+put-end {t} {t₁} {owed} {p} {n} {i} {d} a b h = let e : i ≡ n = omega arith in subst (λ (x : ℕ). PutAll t t₁ p owed x d) e h
 
 -- ---- a state stored
 pub unchanged : (t : List ℕ) (j : ℕ) (st : State) (owed : List ℕ) → Remembered t t j st owed
 unchanged t j st owed = record { entries = λ i e u. old u (λ x _ _. refl) }
 
--- n is the level's word before, m after
+-- the debts stand in the first n slots; the level's word before, and after
 module _
     (t t₁ owed : List ℕ)
-    (j n m d : ℕ)
+    (j n before after d : ℕ)
     (st : State)
     (room : levelWords * (j + 1) ≤ length t)
     (size : length t₁ ≡ length t)
-    (word : at t (levelAt j) ≡ n)
+    (word : at t (levelAt j) ≡ before)
     (few : d ≤ debtsAtMost)
-    (more : m ≤ n + 1)
-    (debts : PutAll t t₁ (entryAt j (n % ringSize)) owed (length owed) d)
+    (more : after ≤ before + 1)
+    (none : (x : ℕ) → n ≤ x → at owed x ≡ 0)
+    (debts : PutAll t t₁ (entryAt j (before % ringSize)) owed n d)
   where
     abbrev place : ℕ
-    place = entryAt j (n % ringSize)
+    place = entryAt j (before % ringSize)
 
     abbrev t₂ : List ℕ
     t₂ = stated t₁ place st d
 
     abbrev t₃ : List ℕ
-    t₃ = set t₂ (levelAt j) m
+    t₃ = set t₂ (levelAt j) after
 
     room₁ : place + entryWords ≤ length t₁
     room₁ = omega arith
 
     outside : (x : ℕ) → (x < place) ⊎ (place + entryWords ≤ x) → (x ≡ levelAt j → ⊥) → at t₃ x ≡ at t x
-    outside x (inl l) n = skip t₂ (levelAt j) x m n ∙ stated-other t₁ place st d room₁ x (inl l) ∙ debts .below x (omega arith)
-    outside x (inr l) n = skip t₂ (levelAt j) x m n ∙ stated-other t₁ place st d room₁ x (inr (omega arith)) ∙ debts .above x l
+    outside x (inl l) other = skip t₂ (levelAt j) x after other ∙ stated-other t₁ place st d room₁ x (inl l) ∙ debts .below x (omega arith)
+    outside x (inr l) other = skip t₂ (levelAt j) x after other ∙ stated-other t₁ place st d room₁ x (inr (omega arith)) ∙ debts .above x l
 
     -- another level
     elsewhere : (i e : ℕ) → (i ≡ j → ⊥) → InUse t₃ i e → Entry t t₃ j st owed i e
@@ -242,51 +253,58 @@ module _
             go (inr l) = inr (omega (arith, other))
 
     -- this level, another entry
-    beside : (e : ℕ) → (e ≡ n % ringSize → ⊥) → InUse t₃ j e → Entry t t₃ j st owed j e
+    beside : (e : ℕ) → (e ≡ before % ringSize → ⊥) → InUse t₃ j e → Entry t t₃ j st owed j e
     beside e other u = old
         (record { within = u .within; stored = rw word (omega (arith, other, u .within, below)) })
-        (λ x a b. outside x (apart x a b (less-or-not e (n % ringSize))) (λ h. omega (arith, h, a)))
+        (λ x a b. outside x (apart x a b (less-or-not e (before % ringSize))) (λ h. omega (arith, h, a)))
       where
-        below : e < m
-        below = let h : at t₃ (levelAt j) ≡ m = same t₂ (levelAt j) m (omega (arith, stated-length t₁ place st d room₁)) in subst (λ (x : ℕ). e < x) h (u .stored)
+        below : e < after
+        below = let h : at t₃ (levelAt j) ≡ after = same t₂ (levelAt j) after (omega (arith, stated-length t₁ place st d room₁)) in subst (λ (x : ℕ). e < x) h (u .stored)
 
-        apart : (x : ℕ) → entryAt j e ≤ x → x < entryAt j e + entryWords → (e < n % ringSize) ⊎ (n % ringSize ≤ e) → (x < place) ⊎ (place + entryWords ≤ x)
+        apart : (x : ℕ) → entryAt j e ≤ x → x < entryAt j e + entryWords → (e < before % ringSize) ⊎ (before % ringSize ≤ e) → (x < place) ⊎ (place + entryWords ≤ x)
         apart x a b (inl l) = inl (omega arith)
         apart x a b (inr l) = inr (omega (arith, other))
 
     word-at : (k x : ℕ) → k < length (wordsOf st d) → x ≡ place + 1 + k → at t₃ x ≡ getD (wordsOf st d) k 0
-    word-at k x l e = skip t₂ (levelAt j) x m (λ h. omega (arith, h, e)) ∙ stated-at t₁ place st d room₁ k x l e
+    word-at k x l e = skip t₂ (levelAt j) x after (λ h. omega (arith, h, e)) ∙ stated-at t₁ place st d room₁ k x l e
 
     holds : Holds t₃ place st owed
     holds = record {
-      ended = skip t₂ (levelAt j) place m (λ h. omega (arith, h)) ∙ stated-first t₁ place st d room₁;
+      ended = skip t₂ (levelAt j) place after (λ h. omega (arith, h)) ∙ stated-first t₁ place st d room₁;
       short = word-at 0 (place + 1) (omega arith) (omega arith);
       weekly-before = word-at 1 (place + 2) (omega arith) (omega arith);
       regular-before = word-at 2 (place + 3) (omega arith) (omega arith);
       weekly = word-at 3 (place + 4) (omega arith) (omega arith);
       regular = word-at 4 (place + 5) (omega arith) (omega arith);
-      few = omega (arith, few, word-at 5 (place + 6) (omega arith) (omega arith));
-      debts = λ i h. still i (listed-all debts i h);
+      few = omega (arith, few, count);
+      debts = record {
+        place = owing owed;
+        below = λ i h. subst (λ (x : ℕ). owing owed i < x) (sym (debts .count) ∙ sym count) (owing-more owed i n (slot i h) h);
+        debt = λ i h. kept (debtPlace place (owing owed i)) (omega arith) ∙ debts .debt i (slot i h) h;
+        rises = λ i k l h _. owing-more owed i k l h;
+      };
     }
       where
-        kept : (x : ℕ) → place + stateWords ≤ x → at t₃ x ≡ at t₁ x
-        kept x l = skip t₂ (levelAt j) x m (λ h. omega (arith, h, l)) ∙ stated-other t₁ place st d room₁ x (inr l)
+        count : debtsOf t₃ place ≡ d
+        count = word-at 5 (place + 6) (omega arith) (omega arith)
 
-        still : (i : ℕ) → Listed t₁ place d owed i → Listed t₃ place (debtsOf t₃ place) owed i
-        still i q = record {
-          place = q .place;
-          below = subst (λ (x : ℕ). q .place < x) (sym (word-at 5 (place + 6) (omega arith) (omega arith))) (q .below);
-          debtor = kept (debtorPlace place (q .place)) (omega arith) ∙ q .debtor;
-          debt = kept (debtPlace place (q .place)) (omega arith) ∙ q .debt;
-        }
+        kept : (x : ℕ) → place + stateWords ≤ x → at t₃ x ≡ at t₁ x
+        kept x l = skip t₂ (levelAt j) x after (λ h. omega (arith, h, l)) ∙ stated-other t₁ place st d room₁ x (inr l)
+
+        slot : (i : ℕ) → 0 < at owed i → i < n
+        slot i h = go (less-or-not i n)
+          where
+            go : (i < n) ⊎ (n ≤ i) → i < n
+            go (inl l) = l
+            go (inr l) = absurd (omega (arith, h, none i l))
 
     pub stored : Remembered t t₃ j st owed
     stored = record { entries = λ i e u. go i e u (same-or-not i j) }
       where
-        here : (e : ℕ) → InUse t₃ j e → (e ≡ n % ringSize) ⊎ (e ≡ n % ringSize → ⊥) → Entry t t₃ j st owed j e
+        here : (e : ℕ) → InUse t₃ j e → (e ≡ before % ringSize) ⊎ (e ≡ before % ringSize → ⊥) → Entry t t₃ j st owed j e
         here e u (inl q) = new refl (subst (λ (x : ℕ). Holds t₃ (entryAt j x) st owed) (sym q) holds)
         here e u (inr q) = beside e q u
 
         go : (i e : ℕ) → InUse t₃ i e → (i ≡ j) ⊎ (i ≡ j → ⊥) → Entry t t₃ j st owed i e
-        go i e u (inl q) = subst (λ (x : ℕ). InUse t₃ x e → Entry t t₃ j st owed x e) (sym q) (λ v. here e v (same-or-not e (n % ringSize))) u
+        go i e u (inl q) = subst (λ (x : ℕ). InUse t₃ x e → Entry t t₃ j st owed x e) (sym q) (λ v. here e v (same-or-not e (before % ringSize))) u
         go i e u (inr q) = elsewhere i e q u

@@ -9,9 +9,9 @@ use lib.ListN.{set}
 use Rattle.recording.specs.Tests.{one}
 use Rattle.completion.specs.declared.State.{State}
 use Rattle.completion.specs.Completable.{at}
-use Rattle.completion.specs.Better.{Milder}
+use Rattle.completion.specs.Better.{Within}
 
--- the entries of a level; an entry's words of the state and the number of its debts, its debtors, their debts
+-- the entries of a level; an entry's words of the state and the number of its debts, and its debts
 abbrev pub ringSize : ℕ
 ringSize = 32
 
@@ -22,7 +22,7 @@ abbrev pub debtsAtMost : ℕ
 debtsAtMost = 8
 
 abbrev pub entryWords : ℕ
-entryWords = stateWords + 2 * debtsAtMost
+entryWords = stateWords + debtsAtMost
 
 abbrev pub levelWords : ℕ
 levelWords = 1 + ringSize * entryWords
@@ -34,18 +34,12 @@ levelAt j = levelWords * j
 abbrev pub entryAt : ℕ → ℕ → ℕ
 entryAt j e = levelAt j + 1 + entryWords * e
 
--- of the entry at p: how many debts it has, where the debtor of index d and its debt stand, and these themselves
+-- of the entry at p: how many debts it has, where the debt of index d stands, and that debt
 abbrev pub debtsOf : List ℕ → ℕ → ℕ
 debtsOf t p = at t (p + 6)
 
-abbrev pub debtorPlace : ℕ → ℕ → ℕ
-debtorPlace p d = p + stateWords + d
-
 abbrev pub debtPlace : ℕ → ℕ → ℕ
-debtPlace p d = p + (stateWords + debtsAtMost) + d
-
-abbrev pub debtorOf : List ℕ → ℕ → ℕ → ℕ
-debtorOf t p d = at t (debtorPlace p d)
+debtPlace p d = p + stateWords + d
 
 abbrev pub debtIn : List ℕ → ℕ → ℕ → ℕ
 debtIn t p d = at t (debtPlace p d)
@@ -55,6 +49,13 @@ pub record InUse (t : List ℕ) (j e : ℕ) : Type 0 where
   pub within : e < ringSize
   pub stored : e < at t (levelAt j)
 
+-- each debt of the entry at p lies within one of those owed, whatever rests owe them, in the order of the slots
+pub record Paired (t : List ℕ) (p : ℕ) (owed : List ℕ) : Type 0 where
+  -- the slot of the debt within which that of index d lies
+  pub to : ℕ → ℕ
+  pub within : (d : ℕ) → d < debtsOf t p → Within (debtIn t p d) (at owed (to d))
+  pub rises : (d e : ℕ) → d < e → e < debtsOf t p → to d < to e
+
 -- the entry at p is at least as good as the state with what is owed
 pub record Beats (t : List ℕ) (p : ℕ) (st : State) (owed : List ℕ) : Type 0 where
   pub ended : st .ended ≤ at t p
@@ -63,7 +64,7 @@ pub record Beats (t : List ℕ) (p : ℕ) (st : State) (owed : List ℕ) : Type 
   pub regular-before : st .before .regular ≤ at t (p + 3)
   pub weekly : st .current .weekly ≤ at t (p + 4)
   pub regular : st .current .regular ≤ at t (p + 5)
-  pub debts : (s d : ℕ) → d < debtsOf t p → Milder s (debtIn t p d) (at owed (debtorOf t p d))
+  pub debts : Paired t p owed
 
 -- an entry of level j in use is
 pub record Known (t : List ℕ) (j : ℕ) (st : State) (owed : List ℕ) : Type 0 where
@@ -71,12 +72,13 @@ pub record Known (t : List ℕ) (j : ℕ) (st : State) (owed : List ℕ) : Type 
   pub used : InUse t j entry
   pub beats : Beats t (entryAt j entry) st owed
 
--- what i owes stands in the entry at p, among its first n debts
-pub record Listed (t : List ℕ) (p n : ℕ) (owed : List ℕ) (i : ℕ) : Type 0 where
-  pub place : ℕ
-  pub below : place < n
-  pub debtor : debtorOf t p place ≡ i
-  pub debt : debtIn t p place ≡ at owed i
+-- each debt that is owed stands in the entry at p, in the order of the slots
+pub record Stored (t : List ℕ) (p : ℕ) (owed : List ℕ) : Type 0 where
+  -- the index under which the debt of slot i stands
+  pub place : ℕ → ℕ
+  pub below : (i : ℕ) → 0 < at owed i → place i < debtsOf t p
+  pub debt : (i : ℕ) → 0 < at owed i → debtIn t p (place i) ≡ at owed i
+  pub rises : (i k : ℕ) → i < k → 0 < at owed i → 0 < at owed k → place i < place k
 
 -- the entry at p holds the state and what is owed
 pub record Holds (t : List ℕ) (p : ℕ) (st : State) (owed : List ℕ) : Type 0 where
@@ -87,7 +89,7 @@ pub record Holds (t : List ℕ) (p : ℕ) (st : State) (owed : List ℕ) : Type 
   pub weekly : at t (p + 4) ≡ st .current .weekly
   pub regular : at t (p + 5) ≡ st .current .regular
   pub few : debtsOf t p ≤ debtsAtMost
-  pub debts : (i : ℕ) → 0 < at owed i → Listed t p (debtsOf t p) owed i
+  pub debts : Stored t p owed
 
 -- the words of the entry at p are as they were
 abbrev pub SameEntry : List ℕ → List ℕ → ℕ → Type 0
@@ -105,11 +107,7 @@ pub record Remembered (t t′ : List ℕ) (j : ℕ) (st : State) (owed : List �
 abbrev pub Empty : List ℕ → ℕ → Type 0
 Empty t k = (i : ℕ) → i < k → at t (levelAt i) ≡ 0
 
--- each of the first n debts of the entry at p is milder than what its debtor owes
-pub record Covered (t owed : List ℕ) (p n : ℕ) : Type 0 where
-  pub each : (s d : ℕ) → d < n → Milder s (debtIn t p d) (at owed (debtorOf t p d))
-
--- how many of the first n debts there are
+-- how many debts there are in the first n slots
 unfoldable pub owing : List ℕ → ℕ → ℕ
 owing owed zero = 0
 owing owed (suc n) = owing owed n + one (ltb 0 (at owed n))
@@ -126,16 +124,15 @@ wordsOf st n = st .short ∷ st .before .weekly ∷ st .before .regular ∷ st .
 abbrev pub stated : List ℕ → ℕ → State → ℕ → List ℕ
 stated t p st n = writtenFrom (set t p (st .ended)) p 1 (wordsOf st n)
 
--- the debt of i, if there is one, was written as that of index d of the entry at p, and r is the next index
-pub record Put (t t′ : List ℕ) (p d i debt r : ℕ) : Type 0 where
+-- a debt, if there is one, was written as that of index d of the entry at p, and r is the next index
+pub record Put (t t′ : List ℕ) (p d debt r : ℕ) : Type 0 where
   pub next : r ≡ d + one (ltb 0 debt)
-  pub other : (x : ℕ) → (0 < debt → x ≡ debtorPlace p d → ⊥) → (0 < debt → x ≡ debtPlace p d → ⊥) → at t′ x ≡ at t x
-  pub debtor : 0 < debt → debtorOf t′ p d ≡ i
+  pub other : (x : ℕ) → (0 < debt → x ≡ debtPlace p d → ⊥) → at t′ x ≡ at t x
   pub owes : 0 < debt → debtIn t′ p d ≡ debt
 
--- what is owed by the first n was written into the entry at p, as r debts
+-- what is owed in the first n slots was written into the entry at p, as r debts: each under the number of those before it
 pub record PutAll (t t′ : List ℕ) (p : ℕ) (owed : List ℕ) (n r : ℕ) : Type 0 where
   pub count : r ≡ owing owed n
   pub below : (x : ℕ) → x < p + stateWords → at t′ x ≡ at t x
   pub above : (x : ℕ) → p + entryWords ≤ x → at t′ x ≡ at t x
-  pub listed : (i : ℕ) → i < n → 0 < at owed i → Listed t′ p r owed i
+  pub debt : (i : ℕ) → i < n → 0 < at owed i → debtIn t′ p (owing owed i) ≡ at owed i

@@ -7,27 +7,25 @@ ghost use lib.ListN.{length};
 ghost use lib.Dec.{ltb};
 ghost use Rattle.recording.specs.Tests.{one};
 ghost use Rattle.completion.specs.Completable.{at};
-ghost use Rattle.completion.specs.Better.{Milder};
-ghost use Rattle.hopeless.specs.Table.{ringSize, debtsAtMost, entryWords, levelWords, debtsOf, Covered, Beats, Known, Remembered, Empty, owing, stated, Put, PutAll};
+ghost use Rattle.completion.specs.Better.{Within};
+ghost use Rattle.hopeless.specs.Table.{ringSize, debtsAtMost, entryWords, levelWords, Paired, Beats, Known, Remembered, Empty, owing, stated, Put, PutAll};
 
 // A level has a word that says how many states were stored, and a ring of so many entries.
 const RING: u32 = 32;
 
-// An entry has a state's six numbers and the number of its debts; so many debtors at the most; their debts.
+// An entry has a state's six numbers and the number of its debts; so many debts at the most.
 const DEBTS_AT: usize = 6;
 
-const DEBTOR_AT: usize = 7;
-
-const DEBT_AT: usize = 15;
+const DEBT_AT: usize = 7;
 
 const DEBTS_AT_MOST: u32 = 8;
 
-const ENTRY_WORDS: usize = 23;
+const ENTRY_WORDS: usize = 15;
 
-pub const LEVEL_WORDS: usize = 737;
+pub const LEVEL_WORDS: usize = 481;
 
 // A table for as many rests as there can be: LEVEL_WORDS for each.
-pub const TABLE_WORDS: usize = 164351;
+pub const TABLE_WORDS: usize = 107263;
 
 // The first k levels are emptied.
 pub fn clear(table: &mut [u32], k: usize)
@@ -41,57 +39,47 @@ pub fn clear(table: &mut [u32], k: usize)
     }
 }
 
-// What i owes, 0 where there is no such rest.
-fn owed_by(owed: &[u32], i: u32) -> u32
-    ensures { λ r. ⌜ r ≡ at (now (owed .entry)) i ⌝ }
+// A stored debt lies within a present one: that is no less, and due no later.
+fn lies_within(stored: u32, present: u32) -> bool
+    ensures { λ r. ⌜ (r ≡ true → Within stored present) ⌝ }
 {
-    let x = i as usize;
-    if x < owed.len() {
-        return owed[x];
-    }
-    0
-}
-
-// A stored debt is no more than the present one, and due no sooner.
-fn milder(stored: u32, debt: u32) -> bool
-    ensures { λ r. ⌜ (r ≡ true → (s : ℕ) → Milder s stored debt) ⌝ }
-{
-    if stored == 0 {
-        return true;
-    }
-    if debt == 0 {
+    if present == 0 {
         return false;
     }
-    if debt % steps::DEBT_UNIT < stored % steps::DEBT_UNIT {
+    if present % steps::DEBT_UNIT < stored % steps::DEBT_UNIT {
         return false;
     }
-    debt / steps::DEBT_UNIT <= stored / steps::DEBT_UNIT
+    present / steps::DEBT_UNIT <= stored / steps::DEBT_UNIT
 }
 
-// Each debt of the entry at p is milder than the present one.
-fn covers(table: &[u32], owed: &[u32], p: usize) -> bool
-    requires { ⌜ p + entryWords ≤ length (now table) ⌝ }
-    ensures { λ r. ⌜ (r ≡ true → Covered (now (table .entry)) (now (owed .entry)) p (debtsOf (now (table .entry)) p)) ⌝ }
+// Each debt of the entry at p lies within one of the first n slots, in order: within the first that fits, after that of the debt before.
+fn covers(table: &[u32], owed: &[u32], n: usize, p: usize) -> bool
+    requires { ⌜ (p + entryWords ≤ length (now table)) × (n ≤ length (now owed)) ⌝ }
+    ensures { λ r. ⌜ (r ≡ true → Paired (now (table .entry)) p (now (owed .entry))) ⌝ }
 {
     let stored = table[p + DEBTS_AT];
     if DEBTS_AT_MOST < stored {
         return false;
     }
-    let n = stored as usize;
+    let m = stored as usize;
     let mut d = 0;
-    while d < n {
-        let debt = owed_by(owed, table[p + DEBTOR_AT + d]);
-        if !milder(table[p + DEBT_AT + d], debt) {
+    let mut i = 0;
+    while d < m {
+        if n - i < m - d {
             return false;
         }
-        d += 1;
+        let present = owed[i];
+        i += 1;
+        if lies_within(table[p + DEBT_AT + d], present) {
+            d += 1;
+        }
     }
     true
 }
 
-// The entry at p is at least as good as the state with what is owed.
-fn beats(table: &[u32], owed: &[u32], p: usize, st: State) -> bool
-    requires { ⌜ p + entryWords ≤ length (now table) ⌝ }
+// The entry at p is at least as good as the state with what is owed in the first n slots.
+fn beats(table: &[u32], owed: &[u32], n: usize, p: usize, st: State) -> bool
+    requires { ⌜ (p + entryWords ≤ length (now table)) × (n ≤ length (now owed)) ⌝ }
     ensures { λ r. ⌜ (r ≡ true → Beats (now (table .entry)) p st (now (owed .entry))) ⌝ }
 {
     if table[p] < st.ended {
@@ -114,7 +102,7 @@ fn beats(table: &[u32], owed: &[u32], p: usize, st: State) -> bool
     if table[p + 5] < current.regular {
         return false;
     }
-    covers(table, owed, p)
+    covers(table, owed, n, p)
 }
 
 // How many entries are in use of a level at which n states were stored.
@@ -127,16 +115,16 @@ fn used(n: u32) -> usize
     RING as usize
 }
 
-// An entry of level j is at least as good as the state with what is owed.
-pub fn known(table: &[u32], owed: &[u32], j: usize, st: State) -> bool
-    requires { ⌜ levelWords * (j + 1) ≤ length (now table) ⌝ }
+// An entry of level j is at least as good as the state with what is owed in the first n slots.
+pub fn known(table: &[u32], owed: &[u32], n: usize, j: usize, st: State) -> bool
+    requires { ⌜ (levelWords * (j + 1) ≤ length (now table)) × (n ≤ length (now owed)) ⌝ }
     ensures { λ r. ⌜ (r ≡ true → Known (now (table .entry)) j st (now (owed .entry))) ⌝ }
 {
     let level = LEVEL_WORDS * j;
     let mut e = used(table[level]);
     while 0 < e {
         e -= 1;
-        if beats(table, owed, level + 1 + ENTRY_WORDS * e, st) {
+        if beats(table, owed, n, level + 1 + ENTRY_WORDS * e, st) {
             return true;
         }
     }
@@ -153,41 +141,41 @@ fn is_owed(debt: u32) -> usize
     1
 }
 
-// How many debts there are.
-fn debts(owed: &[u32]) -> usize
-    ensures { λ r. ⌜ r ≡ owing (now (owed .entry)) (length (now (owed .entry))) ⌝ }
+// How many debts there are in the first n slots.
+fn debts(owed: &[u32], n: usize) -> usize
+    requires { ⌜ n ≤ length (now owed) ⌝ }
+    ensures { λ r. ⌜ r ≡ owing (now (owed .entry)) n ⌝ }
 {
-    let mut n = 0;
+    let mut d = 0;
     let mut i = 0;
-    while i < owed.len() {
-        n += is_owed(owed[i]);
+    while i < n {
+        d += is_owed(owed[i]);
         i += 1;
     }
-    n
+    d
 }
 
-// Writes what i owes as the debt of index d of the entry at p, if it owes; the next index.
-fn put_debt(table: &mut [u32], p: usize, d: usize, i: usize, debt: u32) -> usize
-    requires { ⌜ (p + entryWords ≤ length (now table)) × (i ≤ 1000) × (d ≤ debtsAtMost) × ((0 < debt → d < debtsAtMost)) ⌝ }
-    ensures { λ r. ⌜ Put (now (table .entry)) (now (table .exit)) p d i debt r ⌝ }
+// Writes a debt, if there is one, as that of index d of the entry at p; the next index.
+fn put_debt(table: &mut [u32], p: usize, d: usize, debt: u32) -> usize
+    requires { ⌜ (p + entryWords ≤ length (now table)) × (d ≤ debtsAtMost) × ((0 < debt → d < debtsAtMost)) ⌝ }
+    ensures { λ r. ⌜ Put (now (table .entry)) (now (table .exit)) p d debt r ⌝ }
 {
     if debt == 0 {
         return d;
     }
-    table[p + DEBTOR_AT + d] = i as u32;
     table[p + DEBT_AT + d] = debt;
     d + 1
 }
 
-// Writes what is owed into the entry at p; how many debts there are.
-fn put_debts(table: &mut [u32], owed: &[u32], p: usize) -> usize
-    requires { ⌜ (p + entryWords ≤ length (now table)) × (length (now owed) ≤ 1000) × (owing (now owed) (length (now owed)) ≤ debtsAtMost) ⌝ }
-    ensures { λ r. ⌜ PutAll (now (table .entry)) (now (table .exit)) p (now (owed .entry)) (length (now (owed .entry))) r ⌝ }
+// Writes what is owed in the first n slots into the entry at p; how many debts there are.
+fn put_debts(table: &mut [u32], owed: &[u32], n: usize, p: usize) -> usize
+    requires { ⌜ (p + entryWords ≤ length (now table)) × (n ≤ length (now owed)) × (owing (now owed) n ≤ debtsAtMost) ⌝ }
+    ensures { λ r. ⌜ PutAll (now (table .entry)) (now (table .exit)) p (now (owed .entry)) n r ⌝ }
 {
     let mut d = 0;
     let mut i = 0;
-    while i < owed.len() {
-        d = put_debt(table, p, d, i, owed[i]);
+    while i < n {
+        d = put_debt(table, p, d, owed[i]);
         i += 1;
     }
     d
@@ -219,20 +207,20 @@ fn one_more(n: u32) -> u32
     RING
 }
 
-// Stores a state of level j with what is owed, if there are few enough debts; the oldest is given up where the level is full.
-pub fn remember(table: &mut [u32], owed: &[u32], j: usize, st: State)
-    requires { ⌜ (levelWords * (j + 1) ≤ length (now table)) × (length (now owed) ≤ 1000) ⌝ }
+// Stores a state of level j with what is owed in the first n slots, if there are few enough debts; the oldest is given up where the level is full.
+pub fn remember(table: &mut [u32], owed: &[u32], n: usize, j: usize, st: State)
+    requires { ⌜ (levelWords * (j + 1) ≤ length (now table)) × (n ≤ length (now owed)) × (length (now owed) ≤ 1000) × ((x : ℕ) → n ≤ x → at (now owed) x ≡ 0) ⌝ }
     ensures { λ _. ⌜ Remembered (now (table .entry)) (now (table .exit)) j st (now (owed .entry)) ⌝ }
 {
     let most = DEBTS_AT_MOST as usize;
-    if most < debts(owed) {
+    if most < debts(owed, n) {
         return;
     }
     let level = LEVEL_WORDS * j;
-    let n = table[level];
-    let e = (n % RING) as usize;
+    let stored = table[level];
+    let e = (stored % RING) as usize;
     let p = level + 1 + ENTRY_WORDS * e;
-    let d = put_debts(table, owed, p);
+    let d = put_debts(table, owed, n, p);
     put_state(table, p, st, d);
-    table[level] = one_more(n);
+    table[level] = one_more(stored);
 }

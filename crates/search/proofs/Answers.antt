@@ -3,15 +3,16 @@
 use mathlib.Core.Path.{_≡_, refl, sym, ap, subst, _∙_}
 use mathlib.Core.Logic.{_⊎_, inl, inr}
 use mathlib.Core.Bool.{Bool, true, false, false≢true, true≢false}
-use mathlib.Core.List.{List}
+use mathlib.Core.List.{List, [], _∷_}
 use Prim.Native.Nat.{ℕ, zero, suc, _+_, _-_, _≤_, _<_, zero-le}
 use native.Mathlib.Nat.{le-refl, eq-or-lt-of-le, eq-zero-or-pos}
 use native.Mathlib.Omega.{arith}
 use lib.Dec.{leb, ltb}
-use lib.ListN.{length, set}
-use lib.Seq.{set-set, set-getD}
+use lib.ListN.{length, set, take, replicate, length-set, length-take, length-replicate}
+use lib.Seq.{set-set, set-getD, getD-set-other}
 use borrow.Author.Tests.{ltb-true}
 use Rattle.recording.specs.Tests.{pick}
+use Rattle.recording.specs.Rests.{longRestsAtMost}
 use Rattle.recording.specs.Weeks.{weekStart, weekOf}
 use Rattle.recording.proofs.TestLaws.{one-most, less-or-not}
 use Rattle.rules.specs.Reading.{regularMinutes}
@@ -19,16 +20,18 @@ use Rattle.rules.specs.ReadingRules.{leastNet, shortenedAtMost, weeklyGap}
 use Rattle.rules.specs.declared.Kind.the-variants.{Daily, Weekly}
 use Rattle.rules.specs.declared.Standing.the-variants.{Regular}
 use Rattle.reading.specs.Items.{endBefore, Zeros}
+use Rattle.reading.proofs.LaterLaws.{zeros-at}
 use Rattle.completion.specs.declared.State.{State}
 use Rattle.completion.specs.declared.Brought.{Brought}
 use Rattle.completion.specs.declared.Brought.the-variants.{Broken, To}
 use Rattle.completion.specs.States.{startState, advance, After, afterDaily, afterWeekly}
 use Rattle.completion.specs.Completable.{Course, at, count, restWeek, lengthAt, amountOf, dueOf, debtOf, Overdue, Pays, brief, Closes, ReadDaily, ReadWeekly, Counted, Reads, Tries, Completable, Lies, Stands}
-use Rattle.completion.specs.Better.{Milder, none, Better, Small, AtRest, bestState}
-use Rattle.completion.proofs.Monotone.{Mono, Carried, advanced, completable-mono, tries-by, regular-by, forget, recall, later, daily-stands, daily-small, weekly-stands, weekly-small, from-back}
-use Rattle.steps.specs.Steps.{Says, Fits, Debtor}
-use Rattle.hopeless.specs.Table.{debtsAtMost, levelAt, entryAt, debtsOf, debtorPlace, debtPlace, debtorOf, debtIn, InUse, Beats, Holds, SameEntry, Entry, old, new, Remembered, Empty}
-use Rattle.search.specs.Search.{Found, Later, Sound, Lent, Before, FromEach}
+use Rattle.completion.specs.Better.{Within, Matched, Better, Small, AtRest, bestState}
+use Rattle.completion.proofs.Matching.{within-self, put-at}
+use Rattle.completion.proofs.Monotone.{Mono, MonoBy, Carried, advanced, better-self, matched-last, completable-by, completable-mono, reads-by, tries-by, counted-week, regular-by, forget, recall, later, daily-stands, daily-small, weekly-stands, weekly-small, from-back}
+use Rattle.steps.specs.Steps.{Says, Fits, Debtor, Settled}
+use Rattle.hopeless.specs.Table.{debtsAtMost, levelAt, entryAt, debtsOf, debtPlace, debtIn, InUse, Beats, Holds, SameEntry, Entry, old, new, Remembered, Empty}
+use Rattle.search.specs.Search.{Found, Later, Sound, Slots, Lent, Before, FromEach}
 
 -- ---- answers
 pub refuse : {P S : Type 0} {o o′ : List ℕ} → (P → ⊥) → o′ ≡ o → S → Found P false o o′ S
@@ -53,7 +56,41 @@ back o last d a h = record {
   sound = h .sound;
 }
 
+-- ---- slots where nothing is owed
+-- as many as there are rests, of the most there can be
+abbrev pub noneOf : ℕ → List ℕ
+noneOf k = take k (replicate longRestsAtMost 0)
+
+pub none-size : (k : ℕ) → k ≤ longRestsAtMost → length (noneOf k) ≡ k
+none-size k l = rw (length-take, length-replicate) (omega arith)
+
+zeros-take : (k : ℕ) (l : List ℕ) → Zeros l → Zeros (take k l)
+zeros-take zero l z i = refl
+zeros-take (suc k) [] z i = refl
+zeros-take (suc k) (x ∷ l) z zero = z zero
+zeros-take (suc k) (x ∷ l) z (suc i) = zeros-take k l (λ j. z (suc j)) i
+
+pub none-zeros : (k : ℕ) → Zeros (noneOf k)
+none-zeros k = zeros-take k (replicate longRestsAtMost 0) (zeros-at longRestsAtMost)
+
 -- ---- compensating out of a rest
+-- no debt that fits is left in the first n slots, and the later ones owe nothing
+pub no-debtor : {o : List ℕ} {i n j load minutes d : ℕ} → n ≤ j → ((x : ℕ) → n ≤ x → at o x ≡ 0) → Debtor o i n load minutes d → d ≡ n → Debtor o i j load minutes j
+no-debtor {o} {i} {n} {j} {load} {minutes} {d} le unused w e = record {
+  low = omega (arith, w .low);
+  high = le-refl _;
+  passed = λ x l h f. go x l f (less-or-not x n);
+  found = λ h. absurd (omega arith);
+}
+  where
+    go : (x : ℕ) → i ≤ x → Fits (at o x) load minutes → (x < n) ⊎ (n ≤ x) → ⊥
+    go x l f (inl h) = w .passed x l (omega arith) f
+    go x l f (inr h) = omega (arith, f .owes, unused x h)
+
+-- or there is one
+pub some-debtor : {o : List ℕ} {i n j load minutes d : ℕ} → n ≤ j → Debtor o i n load minutes d → d < n → Debtor o i j load minutes d
+some-debtor le w l = record { low = w .low; high = omega (arith, le, l); passed = w .passed; found = λ _. w .found l }
+
 one-left : (n i : ℕ) → i < n → n - i ≡ suc (n - (i + 1))
 one-left n i l = omega arith
 
@@ -127,9 +164,11 @@ beats-back t t′ p st o s few h =
       regular-before = omega (arith, h .regular-before, s (p + 3) (omega arith) (omega arith));
       weekly = omega (arith, h .weekly, s (p + 4) (omega arith) (omega arith));
       regular = omega (arith, h .regular, s (p + 5) (omega arith) (omega arith));
-      debts = λ z d l.
-          subst (λ (x : ℕ). Milder z x (at o (debtorOf t p d))) (s (debtPlace p d) (omega arith) (omega arith))
-          (subst (λ (x : ℕ). Milder z (debtIn t′ p d) (at o x)) (s (debtorPlace p d) (omega arith) (omega arith)) (h .debts z d (omega (arith, n))));
+      debts = record {
+        to = h .debts .to;
+        within = λ d l. subst (λ (x : ℕ). Within x (at o (h .debts .to d))) (s (debtPlace p d) (omega arith) (omega arith)) (h .debts .within d (omega (arith, n)));
+        rises = λ d e l m. h .debts .rises d e l (omega (arith, n));
+      };
     }
 
 held-better : (t : List ℕ) (p : ℕ) (x y : State) (o q : List ℕ) → x .week ≡ y .week → Holds t p x o → Beats t p y q → Better x y
@@ -143,40 +182,69 @@ held-better t p x y o q w h k = record {
   regular = omega (arith, h .regular, k .regular);
 }
 
-held-milder : (s : ℕ) (t : List ℕ) (p : ℕ) (x y : State) (o q : List ℕ) → Holds t p x o → Beats t p y q → (i : ℕ) → Milder s (at o i) (at q i)
-held-milder s t p x y o q h k i = go (eq-zero-or-pos (at o i))
+-- the debts of a stored state lie within those of one that it beats
+held-matched : (k j : ℕ) (t : List ℕ) (p : ℕ) (x y : State) (o q : List ℕ) → length q ≡ k → ((i : ℕ) → j ≤ i → at o i ≡ 0) → ((i : ℕ) → j ≤ i → at q i ≡ 0)
+    → Holds t p x o → Beats t p y q → Matched k j o q
+held-matched k j t p x y o q long ends ends′ h b = record {
+  long = long;
+  to = to;
+  below = λ i l. before o ends i l;
+  to-below = λ i l. before q ends′ (to i) (within i l .owes);
+  within = within;
+  apart = λ i m l l′ e. same i m l l′ e (less-or-not i m) (less-or-not m i);
+}
   where
-    go : (at o i ≡ 0) ⊎ (0 < at o i) → Milder s (at o i) (at q i)
-    go (inl z) = none z
-    go (inr l) =
-        let e = h .debts i l in
-        subst (λ (v : ℕ). Milder s v (at q i)) (e .debt) (subst (λ (v : ℕ). Milder s (debtIn t p (e .place)) (at q v)) (e .debtor) (k .debts s (e .place) (e .below)))
+    to : ℕ → ℕ
+    to i = b .debts .to (h .debts .place i)
+
+    before : (l : List ℕ) → ((i : ℕ) → j ≤ i → at l i ≡ 0) → (i : ℕ) → 0 < at l i → i < j
+    before l z i owes = go (less-or-not i j)
+      where
+        go : (i < j) ⊎ (j ≤ i) → i < j
+        go (inl f) = f
+        go (inr f) = absurd (omega (arith, owes, z i f))
+
+    within : (i : ℕ) → 0 < at o i → Within (at o i) (at q (to i))
+    within i l = subst (λ (v : ℕ). Within v (at q (to i))) (h .debts .debt i l) (b .debts .within (h .debts .place i) (h .debts .below i l))
+
+    rising : (i m : ℕ) → i < m → 0 < at o i → 0 < at o m → to i < to m
+    rising i m f l l′ = b .debts .rises (h .debts .place i) (h .debts .place m) (h .debts .rises i m f l l′) (h .debts .below m l′)
+
+    same : (i m : ℕ) → 0 < at o i → 0 < at o m → to i ≡ to m → (i < m) ⊎ (m ≤ i) → (m < i) ⊎ (i ≤ m) → i ≡ m
+    same i m l l′ e (inl f) g = absurd (omega (arith, rising i m f l l′, e))
+    same i m l l′ e (inr f) (inl g) = absurd (omega (arith, rising m i g l′ l, e))
+    same i m l l′ e (inr f) (inr g) = omega arith
 
 module _ (c : Course) (lies : Lies c) where
   later-mono : (j : ℕ) → j < count c → Mono c (Later c j)
   later-mono j l x y o p = completable-mono c lies (count c - (j + 1)) (j + 1) x y o p (omega arith)
 
+  later-matched : (j : ℕ) → j < count c → MonoBy c (matched-last c) (suc j) (Later c j)
+  later-matched j l x y o p b d =
+      let e : suc j ≡ j + 1 = omega arith in
+      completable-by c (matched-last c) lies (count c - (j + 1)) (j + 1) x y o p (omega arith) b (subst (λ (i : ℕ). Matched (count c) i o p) e d)
+
   module _ (t t′ : List ℕ) (j : ℕ) (here : State) (o : List ℕ) (within : j < count c) (week : here .week ≡ weekOf (at (c .starts) j)) (long : length o ≡ count c)
-      (sound : Sound c t) (kept : Remembered t t′ j here o) (nay : Tries c (Later c j) j here o → ⊥) where
+      (unused : (x : ℕ) → j ≤ x → at o x ≡ 0) (sound : Sound c t) (kept : Remembered t t′ j here o) (nay : Tries c (Later c j) j here o → ⊥) where
     few-on : (i e : ℕ) → i < count c → Entry t t′ j here o i e → debtsOf t′ (entryAt i e) ≤ debtsAtMost
     few-on i e l (old u s) = omega (arith, sound .few i e l u, s (entryAt i e + 6) (omega arith) (omega arith))
     few-on i e l (new q h) = h .few
 
-    hopeless-on : (i e : ℕ) (st : State) (p : List ℕ) → i < count c → st .week ≡ weekOf (at (c .starts) i) → length p ≡ count c → Entry t t′ j here o i e
+    hopeless-on : (i e : ℕ) (st : State) (p : List ℕ) → i < count c → st .week ≡ weekOf (at (c .starts) i) → length p ≡ count c → ((x : ℕ) → i ≤ x → at p x ≡ 0) → Entry t t′ j here o i e
         → Beats t′ (entryAt i e) st p → Tries c (Later c i) i st p → ⊥
-    hopeless-on i e st p l w len (old u s) b h =
-        sound .hopeless i st p l w len (record { entry = e; used = u; beats = beats-back t t′ (entryAt i e) st p s (sound .few i e l u) b }) h
-    hopeless-on i e st p l w len (new q k) b h =
-        nay (tries-by c (Later c j) (later-mono j within) j
+    hopeless-on i e st p l w len z (old u s) b h =
+        sound .hopeless i st p l w len z (record { entry = e; used = u; beats = beats-back t t′ (entryAt i e) st p s (sound .few i e l u) b }) h
+    hopeless-on i e st p l w len z (new q k) b h =
+        nay (tries-by c (matched-last c) (Later c j) j within (later-matched j within)
         (held-better t′ (entryAt i e) here st o p (week ∙ ap (λ (x : ℕ). weekOf (at (c .starts) x)) (sym q) ∙ sym w) k b) o p
-        (record { long = long ∙ sym len; each = held-milder (c .judged) t′ (entryAt i e) here st o p k b })
+        (held-matched (count c) j t′ (entryAt i e) here st o p len unused (λ x f. z x (omega (arith, q))) k b)
         (subst (λ (x : ℕ). Tries c (Later c x) x st p) q h))
 
     -- a hopeless state is remembered
     pub sound-on : Sound c t′
     sound-on = record {
       few = λ i e l u. few-on i e l (kept .entries i e u);
-      hopeless = λ i st p l w len k h. hopeless-on i (k .entry) st p l w len (kept .entries i (k .entry) (k .used)) (k .beats) h;
+      hopeless = λ i st p l w len z k h. hopeless-on i (k .entry) st p l w len z (kept .entries i (k .entry) (k .used)) (k .beats) h;
     }
 
   none-used : {t : List ℕ} (i e : ℕ) → at t (levelAt i) ≡ 0 → InUse t i e → ⊥
@@ -185,7 +253,7 @@ module _ (c : Course) (lies : Lies c) where
   pub empty-sound : {t : List ℕ} → Empty t (count c) → Sound c t
   empty-sound z = record {
     few = λ j e l u. absurd (none-used j e (z j l) u);
-    hopeless = λ j here o l w len k h. none-used j (k .entry) (z j l) (k .used);
+    hopeless = λ j here o l w len _ k h. none-used j (k .entry) (z j l) (k .used);
   }
 
 -- what holds below d and at d holds below d + 1
@@ -204,16 +272,146 @@ brought rest n {st} {here} {b} small e g =
 
 -- ---- a rest
 module _ (c : Course) (lies : Lies c) where
-  pub relent : {o o′ t t′ : List ℕ} → Lent c o t → length o′ ≡ length o → length t′ ≡ length t → Lent c o′ t′
+  -- the slots as they were, and a table as long as it was
+  pub relent : {j n : ℕ} {o o′ t t′ : List ℕ} → Slots c j n o t → o′ ≡ o → length t′ ≡ length t → Slots c j n o′ t′
   relent h e f = record {
+    lies = h .lies;
+    promised-too = h .promised-too;
+    owed-too = ap length e ∙ h .owed-too;
+    few = h .few;
+    judged = h .judged;
+    promised-low = h .promised-low;
+    room = omega (arith, h .room, f);
+    below = h .below;
+    unused = λ x l. ap (λ (q : List ℕ). at q x) e ∙ h .unused x l;
+  }
+
+  -- other slots in use
+  slots-of : {j n : ℕ} {o t : List ℕ} (i m : ℕ) (p : List ℕ) → Slots c j n o t → length p ≡ length o → m ≤ i → ((x : ℕ) → m ≤ x → at p x ≡ 0) → Slots c i m p t
+  slots-of i m p h e le z = record {
     lies = h .lies;
     promised-too = h .promised-too;
     owed-too = e ∙ h .owed-too;
     few = h .few;
     judged = h .judged;
     promised-low = h .promised-low;
-    room = omega (arith, h .room, f);
+    room = h .room;
+    below = le;
+    unused = z;
   }
+
+  pub slots-on : {j n : ℕ} {o t : List ℕ} → Slots c j n o t → Slots c (j + 1) n o t
+  slots-on {j} {n} {o} h = slots-of (j + 1) n o h refl (omega (arith, h .below)) (h .unused)
+
+  pub slots-none : {o t : List ℕ} (j : ℕ) → Lent c o t → Slots c j 0 o t
+  slots-none {o} j h = slots-of j 0 o h refl zero-le (h .unused)
+
+  pub slot-paid : {j n : ℕ} {o t : List ℕ} (d : ℕ) → d < n → Slots c j n o t → Slots c j n (set o d 0) t
+  slot-paid {j} {n} {o} d l h = slots-of j n (set o d 0) h (length-set o d 0) (h .below) (λ x f. getD-set-other o d x 0 0 (λ e. omega arith) ∙ h .unused x f)
+
+  pub slot-put : {j n : ℕ} {o t : List ℕ} (a : ℕ) → Slots c j n o t → Slots c (j + 1) (n + 1) (set o n a) t
+  slot-put {j} {n} {o} a h =
+      slots-of (j + 1) (n + 1) (set o n a) h (length-set o n a) (omega (arith, h .below)) (λ x f. getD-set-other o n x a 0 (λ e. omega arith) ∙ h .unused x (omega arith))
+
+  -- ---- debts moved to other slots
+  -- no debt stands in another's place
+  apart-by : (f : ℕ → ℕ) (P : ℕ → Type 0) → ((x y : ℕ) → x < y → P x → P y → f x < f y) → (x y : ℕ) → P x → P y → f x ≡ f y → x ≡ y
+  apart-by f P rises x y p q e = go (less-or-not x y) (less-or-not y x)
+    where
+      go : (x < y) ⊎ (y ≤ x) → (y < x) ⊎ (x ≤ y) → x ≡ y
+      go (inl l) m = absurd (omega (arith, rises x y l p q, e))
+      go (inr l) (inl m) = absurd (omega (arith, rises y x m q p, e))
+      go (inr l) (inr m) = omega arith
+
+  module _ {j n : ℕ} {o t : List ℕ} (h : Slots c j n o t) where
+    -- a slot that owes is in use
+    in-use : (x : ℕ) → 0 < at o x → x < n
+    in-use x owes = go (less-or-not x n)
+      where
+        go : (x < n) ⊎ (n ≤ x) → x < n
+        go (inl l) = l
+        go (inr l) = absurd (omega (arith, owes, h .unused x l))
+
+    matched-self : Matched (count c) j o o
+    matched-self = record {
+      long = h .owed-too;
+      to = λ x. x;
+      below = λ x owes. omega (arith, in-use x owes, h .below);
+      to-below = λ x owes. omega (arith, in-use x owes, h .below);
+      within = λ x owes. within-self owes;
+      apart = λ x y _ _ e. e;
+    }
+
+    -- a new debt stands in the next slot as well as in that of its own rest
+    module _ (inside : j < count c) (a : ℕ) where
+      itself : (a ≡ 0) ⊎ Within a a
+      itself = go (eq-zero-or-pos a)
+        where
+          go : (a ≡ 0) ⊎ (0 < a) → (a ≡ 0) ⊎ Within a a
+          go (inl z) = inl z
+          go (inr l) = inr (within-self l)
+
+      next-slot : Matched (count c) (j + 1) (set o n a) (set o j a)
+      unfolding matched-self
+      next-slot =
+          put-at matched-self (j + 1) n j a a (λ x owes e. let q : x ≡ j = e in omega (arith, in-use x owes, h .below)) (omega arith) (omega (arith, h .below)) (omega arith) inside itself
+
+      own-slot : Matched (count c) (j + 1) (set o j a) (set o n a)
+      unfolding matched-self
+      own-slot =
+          put-at matched-self (j + 1) j n a a (λ x owes e. let q : x ≡ n = e in omega (arith, in-use x owes)) (omega arith) (omega arith) (omega (arith, h .below)) (omega (arith, h .below)) itself
+
+      pub in-next-slot : {S : Type 0} {r : Bool} {o′ last : List ℕ} (st : State) → Found (Later c j st (set o n a)) r o′ last S → Found (Later c j st (set o j a)) r o′ last S
+      in-next-slot st f =
+          let m : count c - (j + 1) + (j + 1) ≡ count c = omega arith in
+          carry (completable-by c (matched-last c) lies (count c - (j + 1)) (j + 1) st st (set o j a) (set o n a) m (better-self st) own-slot)
+          (completable-by c (matched-last c) lies (count c - (j + 1)) (j + 1) st st (set o n a) (set o j a) m (better-self st) next-slot) f
+
+    -- the debts that are left stand in the first slots
+    module _ {l : List ℕ} {r : ℕ} (long : length l ≡ count c) (w : Settled o l n r) where
+      left-use : (x : ℕ) → 0 < at l x → x < r
+      left-use x owes = go (less-or-not x r)
+        where
+          go : (x < r) ⊎ (r ≤ x) → x < r
+          go (inl f) = f
+          go (inr f) = absurd (omega (arith, owes, w .rest x f))
+
+      left-matched : Matched (count c) j l o
+      left-matched = record {
+        long = h .owed-too;
+        to = w .from;
+        below = λ x owes. omega (arith, left-use x owes, w .few, h .below);
+        to-below = λ x owes. omega (arith, w .from-below x (left-use x owes), h .below);
+        within = λ x owes. subst (Within (at l x)) (w .same x (left-use x owes)) (within-self owes);
+        apart = apart-by (w .from) (λ x. 0 < at l x) (λ x y f p q. w .rises x y f (left-use y q));
+      }
+
+      moved : (x : ℕ) → 0 < at o x → at l (w .to x) ≡ at o x
+      moved x owes = w .same (w .to x) (w .to-below x owes) ∙ ap (at o) (w .back x owes)
+
+      matched-left : Matched (count c) j o l
+      matched-left = record {
+        long = long;
+        to = w .to;
+        below = λ x owes. omega (arith, in-use x owes, h .below);
+        to-below = λ x owes. omega (arith, w .to-below x owes, w .few, h .below);
+        within = λ x owes. subst (Within (at o x)) (sym (moved x owes)) (within-self owes);
+        apart = λ x y p q e. sym (w .back x p) ∙ ap (w .from) e ∙ w .back y q;
+      }
+
+      pub slots-left : Slots c j r l t
+      slots-left = slots-of j r l h (long ∙ sym (h .owed-too)) (omega (arith, w .few, h .below)) (w .rest)
+
+      pub left-reads : {S : Type 0} {b : Bool} {l′ : List ℕ} (here : State) (load : ℕ) → j < count c → Found (Reads c (Later c j) j here load l) b l l′ S
+          → Found (Reads c (Later c j) j here load o) b o o S
+      left-reads here load inside f =
+          let by = reads-by c (matched-last c) (Later c j) j inside (later-matched c lies j inside) (better-self here) load load in
+          record {
+            yes = λ e. by o l (le-refl _) matched-left (f .yes e);
+            no = λ e k. f .no e (by l o (le-refl _) left-matched k);
+            same = refl;
+            sound = f .sound;
+          }
 
   pub starts-low : (j : ℕ) → j < count c → at (c .starts) j ≤ c .judged
   starts-low j l = omega (arith, lies .proper j l, lies .judged j l)
@@ -221,6 +419,10 @@ module _ (c : Course) (lies : Lies c) where
   pub before-low : (j : ℕ) → j < count c → endBefore (c .ends) j ≤ c .judged
   before-low zero l = zero-le
   before-low (suc j) l = lies .judged j (omega arith)
+
+  -- the rest before that of index j + 1
+  pub reached-at : (j : ℕ) {week : ℕ} → weekOf (at (c .starts) j) ≤ week → weekOf (at (c .starts) (j + 1 - 1)) ≤ week
+  reached-at j {week} h = let e : j ≡ j + 1 - 1 = omega arith in subst (λ (i : ℕ). weekOf (at (c .starts) i) ≤ week) e h
 
   next-stands : (j : ℕ) {st : State} → Stands c (suc j) st → Stands c (j + 1) st
   next-stands j {st} h = let e : suc j ≡ j + 1 = omega arith in subst (λ (i : ℕ). Stands c i st) e h
@@ -333,6 +535,7 @@ module _ (c : Course) (lies : Lies c) where
             stands = next-stands j (daily-stands c lies j b k (omega (arith, l, ap (λ (x : State). x .short) f)));
             small = daily-small b (k .small) (omega (arith, l, ap (λ (x : State). x .short) f));
             ended = omega (arith, k .ended, starts-low j (k .within));
+            reached = λ _. reached-at j (omega (arith, k .week));
           })
 
     module _ (w : ℕ) (rest regular : Bool) {b : Brought} {there next : State} (e : b ≡ advance (restWeek c) (w - here .week) here) (g : b ≡ To there)
@@ -358,6 +561,7 @@ module _ (c : Course) (lies : Lies c) where
             stands = next-stands j (weekly-stands c lies j w rest regular k from upto m);
             small = weekly-small rest regular (at (c .ends) j) (m .small);
             ended = lies .judged j (k .within);
+            reached = λ _. reached-at j (omega (arith, from, counted-week c lies j w k from m));
           })
 
     pub not-counted : (w : ℕ) {b : Brought} → b ≡ advance (restWeek c) (w - here .week) here → b ≡ Broken → Counted c (Later c j) j here w load o → ⊥
@@ -393,7 +597,7 @@ module _ (c : Course) (lies : Lies c) where
   start-stands b = record { short = zero-le; ended = λ i _ _. zero-le; week = λ i _ _. zero-le; week-judged = zero-le }
 
   pub before-start : {st : State} (b : Bool) → st ≡ startState b → Before c 0 st
-  before-start {st} b e = subst (Before c 0) (sym e) (record { within = zero-le; stands = start-stands b; small = start-small b; ended = zero-le })
+  before-start {st} b e = subst (Before c 0) (sym e) (record { within = zero-le; stands = start-stands b; small = start-small b; ended = zero-le; reached = λ l. absurd (omega arith) })
 
   pub before-best : {st : State} (j : ℕ) → j < count c → st ≡ bestState (at (c .starts) j) → Before c j st
   before-best {st} j l e =
@@ -414,6 +618,7 @@ module _ (c : Course) (lies : Lies c) where
           regular = le-refl _;
         };
         ended = starts-low j l;
+        reached = λ h. omega (arith, later c lies (j - 1) j (omega arith) l, lies .proper (j - 1) (omega arith));
       })
     where
       from : (i : ℕ) → j ≤ i → i < count c → at (c .starts) j ≤ at (c .starts) i

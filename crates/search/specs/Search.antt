@@ -36,14 +36,15 @@ module _ (c : Course) where
   abbrev pub Later : ℕ → State → List ℕ → Type 0
   Later j = Completable c (count c - (j + 1)) (j + 1)
 
-  -- each entry in use has few enough debts, and each state that it beats is hopeless
+  -- each entry in use has few enough debts, and each state that it beats is hopeless, where only rests before that of index j owe
   pub record Sound (table : List ℕ) : Type 0 where
     pub few : (j e : ℕ) → j < count c → InUse table j e → debtsOf table (entryAt j e) ≤ debtsAtMost
     pub hopeless : (j : ℕ) (here : State) (owed : List ℕ) → j < count c → here .week ≡ weekOf (at (c .starts) j) → length owed ≡ count c
-        → Known table j here owed → Tries c (Later j) j here owed → ⊥
+        → ((x : ℕ) → j ≤ x → at owed x ≡ 0) → Known table j here owed → Tries c (Later j) j here owed → ⊥
 
-  -- the long rests lie in order within the limits, and there is room for what is owed and for the table
-  pub record Lent (owed table : List ℕ) : Type 0 where
+  -- the long rests lie in order within the limits, and there is room for what is owed and for the table; the first n slots are in use, no more than
+  -- there are rests before that of index j
+  pub record Slots (j n : ℕ) (owed table : List ℕ) : Type 0 where
     pub lies : Lies c
     pub promised-too : length (c .promised) ≡ count c
     pub owed-too : length owed ≡ count c
@@ -51,6 +52,12 @@ module _ (c : Course) where
     pub judged : c .judged ≤ totalAtMost
     pub promised-low : (i : ℕ) → at (c .promised) i ≤ totalAtMost
     pub room : levelWords * count c ≤ length table
+    pub below : n ≤ j
+    pub unused : (x : ℕ) → n ≤ x → at owed x ≡ 0
+
+  -- the same, where nothing is owed
+  abbrev pub Lent : List ℕ → List ℕ → Type 0
+  Lent = Slots 0 0
 
   -- a state before the rest of index j, or after the last rest
   pub record Before (j : ℕ) (st : State) : Type 0 where
@@ -58,6 +65,7 @@ module _ (c : Course) where
     pub stands : Stands c j st
     pub small : Small st
     pub ended : st .ended ≤ c .judged
+    pub reached : 0 < j → weekOf (at (c .starts) (j - 1)) ≤ st .week
 
   -- from each rest on, the best state before it can complete what is left
   abbrev pub FromEach : List ℕ → Type 0

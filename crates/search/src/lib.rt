@@ -3,7 +3,7 @@
 use completion::Brought;
 use completion::State;
 ghost use mathlib.Core.Path.{_≡_};
-ghost use Prim.Native.Nat.{_+_, _-_, _<_, _≤_};
+ghost use Prim.Native.Nat.{ℕ, _+_, _-_, _<_, _≤_};
 ghost use lib.ListN.{length, set};
 ghost use Rattle.recording.specs.Operations.{totalAtMost};
 ghost use Rattle.recording.specs.Weeks.{weekStart};
@@ -12,20 +12,28 @@ ghost use Rattle.rules.specs.declared.Kind.the-variants.{Daily, Weekly};
 ghost use Rattle.rules.specs.declared.Standing.the-variants.{Regular};
 ghost use Rattle.reading.specs.Items.{Zeros};
 ghost use Rattle.completion.specs.States.{startState};
-ghost use Rattle.completion.specs.Completable.{at, count, restWeek, lengthAt, amountOf, debtOf, Pays, Closes, ReadDaily, ReadWeekly, Counted, Reads, Tries, Completable};
-ghost use Rattle.completion.specs.Better.{Small, AtRest, bestState};
+ghost use Rattle.completion.specs.Completable.{at, count, restWeek, lengthAt, amountOf, debtOf, Pays, Closes, ReadDaily, ReadWeekly, Counted, Reads, Tries, Completable, Lies};
+ghost use Rattle.completion.specs.Better.{AtRest, bestState};
 ghost use Rattle.steps.specs.Steps.{Says};
-ghost use Rattle.search.specs.Search.{Found, Asked, courseOf, Later, Sound, Lent, Before, FromEach, laterOfWeek};
+ghost use Rattle.search.specs.Search.{Found, Asked, courseOf, Later, Sound, Slots, Lent, Before, FromEach, laterOfWeek};
 
 // All rests are read: whether nothing is left to break.
-fn closes(starts: &[u32], ends: &[u32], promised: &[u32], s: u32, owed: &[u32], st: State) -> bool
-    requires { ⌜ (length (now ends) ≡ length (now starts)) × (s ≤ totalAtMost) × (Small st) × (st .ended ≤ s) ⌝ }
+fn closes(
+    starts: &[u32],
+    ends: &[u32],
+    promised: &[u32],
+    s: u32,
+    owed: &[u32],
+    st: State,
+    n: usize,
+) -> bool
+    requires { ⌜ (Lies (courseOf (now starts) (now ends) (now promised) s)) × (s ≤ totalAtMost) × (Before (courseOf (now starts) (now ends) (now promised) s) (length (now starts)) st) × (n ≤ length (now owed)) × ((x : ℕ) → n ≤ x → at (now owed) x ≡ 0) ⌝ }
     ensures { λ r. ⌜ Says (Closes (courseOf (now (starts .entry)) (now (ends .entry)) (now (promised .entry)) s) st (now (owed .entry))) r ⌝ }
 {
     if st.ended + reading::WEEKLY_GAP < s {
         return false;
     }
-    if steps::overdue(owed, s + 1) {
+    if steps::overdue(owed, n, s + 1) {
         return false;
     }
     let Brought::To(_) = steps::advance(starts, ends, st, s / recording::WEEK_MINUTES) else {
@@ -44,24 +52,25 @@ pub fn solve(
     table: &mut [u32],
     j: usize,
     st: State,
+    n: usize,
 ) -> bool
-    requires { ⌜ (Lent (courseOf (now starts) (now ends) (now promised) s) (now owed) (now table)) × (Sound (courseOf (now starts) (now ends) (now promised) s) (now table)) × (Before (courseOf (now starts) (now ends) (now promised) s) j st) ⌝ }
+    requires { ⌜ (Slots (courseOf (now starts) (now ends) (now promised) s) j n (now owed) (now table)) × (Sound (courseOf (now starts) (now ends) (now promised) s) (now table)) × (Before (courseOf (now starts) (now ends) (now promised) s) j st) ⌝ }
     ensures { λ r. ⌜ Found (Completable (courseOf (now (starts .entry)) (now (ends .entry)) (now (promised .entry)) s) (count (courseOf (now (starts .entry)) (now (ends .entry)) (now (promised .entry)) s) - j) j st (now (owed .entry))) r (now (owed .entry)) (now (owed .exit)) (Sound (courseOf (now (starts .entry)) (now (ends .entry)) (now (promised .entry)) s) (now (table .exit))) ⌝ }
 {
     if j == starts.len() {
-        return closes(starts, ends, promised, s, owed, st);
+        return closes(starts, ends, promised, s, owed, st, n);
     }
     if st.ended + reading::WEEKLY_GAP < starts[j] {
         return false;
     }
-    if steps::overdue(owed, ends[j]) {
+    if steps::overdue(owed, n, ends[j]) {
         return false;
     }
     let Brought::To(here) = steps::advance(starts, ends, st, starts[j] / recording::WEEK_MINUTES)
     else {
         return false;
     };
-    tries(starts, ends, promised, s, owed, table, j, here)
+    tries(starts, ends, promised, s, owed, table, j, here, n)
 }
 
 // The same, from a state in the week in which that rest starts; a no is remembered.
@@ -74,11 +83,12 @@ pub fn tries(
     table: &mut [u32],
     j: usize,
     here: State,
+    n: usize,
 ) -> bool
-    requires { ⌜ (Lent (courseOf (now starts) (now ends) (now promised) s) (now owed) (now table)) × (Sound (courseOf (now starts) (now ends) (now promised) s) (now table)) × (AtRest (courseOf (now starts) (now ends) (now promised) s) j here) ⌝ }
+    requires { ⌜ (Slots (courseOf (now starts) (now ends) (now promised) s) j n (now owed) (now table)) × (Sound (courseOf (now starts) (now ends) (now promised) s) (now table)) × (AtRest (courseOf (now starts) (now ends) (now promised) s) j here) ⌝ }
     ensures { λ r. ⌜ Found (Tries (courseOf (now (starts .entry)) (now (ends .entry)) (now (promised .entry)) s) (Later (courseOf (now (starts .entry)) (now (ends .entry)) (now (promised .entry)) s) j) j here (now (owed .entry))) r (now (owed .entry)) (now (owed .exit)) (Sound (courseOf (now (starts .entry)) (now (ends .entry)) (now (promised .entry)) s) (now (table .exit))) ⌝ }
 {
-    if hopeless::known(table, owed, j, here) {
+    if hopeless::known(table, owed, n, j, here) {
         return false;
     }
     if pay(
@@ -92,10 +102,11 @@ pub fn tries(
         0,
         promised[j],
         here,
+        n,
     ) {
         return true;
     }
-    hopeless::remember(table, owed, j, here);
+    hopeless::remember(table, owed, n, j, here);
     false
 }
 
@@ -111,18 +122,31 @@ pub fn pay(
     i: usize,
     load: u32,
     here: State,
+    n: usize,
 ) -> bool
-    requires { ⌜ (Lent (courseOf (now starts) (now ends) (now promised) s) (now owed) (now table)) × (Sound (courseOf (now starts) (now ends) (now promised) s) (now table)) × (AtRest (courseOf (now starts) (now ends) (now promised) s) j here) × (i ≤ j) × (load ≤ totalAtMost) ⌝ }
+    requires { ⌜ (Slots (courseOf (now starts) (now ends) (now promised) s) j n (now owed) (now table)) × (Sound (courseOf (now starts) (now ends) (now promised) s) (now table)) × (AtRest (courseOf (now starts) (now ends) (now promised) s) j here) × (i ≤ n) × (load ≤ totalAtMost) ⌝ }
     ensures { λ r. ⌜ Found (Pays (Reads (courseOf (now (starts .entry)) (now (ends .entry)) (now (promised .entry)) s) (Later (courseOf (now (starts .entry)) (now (ends .entry)) (now (promised .entry)) s) j) j here) (lengthAt (courseOf (now (starts .entry)) (now (ends .entry)) (now (promised .entry)) s) j) (j - i) i load (now (owed .entry))) r (now (owed .entry)) (now (owed .exit)) (Sound (courseOf (now (starts .entry)) (now (ends .entry)) (now (promised .entry)) s) (now (table .exit))) ⌝ }
 {
-    let d = steps::debtor(owed, i, j, load, ends[j] - starts[j]);
-    if d == j {
-        return choose(starts, ends, promised, s, owed, table, j, load, here);
+    let d = steps::debtor(owed, n, i, load, ends[j] - starts[j]);
+    if d == n {
+        return leave(starts, ends, promised, s, owed, table, j, load, here, n);
     }
-    if pay_one(starts, ends, promised, s, owed, table, j, d, load, here) {
+    if pay_one(starts, ends, promised, s, owed, table, j, d, load, here, n) {
         return true;
     }
-    pay(starts, ends, promised, s, owed, table, j, d + 1, load, here)
+    pay(
+        starts,
+        ends,
+        promised,
+        s,
+        owed,
+        table,
+        j,
+        d + 1,
+        load,
+        here,
+        n,
+    )
 }
 
 // It compensates for the debt of d and for some of the later ones.
@@ -137,16 +161,83 @@ pub fn pay_one(
     d: usize,
     load: u32,
     here: State,
+    n: usize,
 ) -> bool
-    requires { ⌜ (Lent (courseOf (now starts) (now ends) (now promised) s) (now owed) (now table)) × (Sound (courseOf (now starts) (now ends) (now promised) s) (now table)) × (AtRest (courseOf (now starts) (now ends) (now promised) s) j here) × (d < j) × (load + amountOf (at (now owed) d) ≤ totalAtMost) ⌝ }
+    requires { ⌜ (Slots (courseOf (now starts) (now ends) (now promised) s) j n (now owed) (now table)) × (Sound (courseOf (now starts) (now ends) (now promised) s) (now table)) × (AtRest (courseOf (now starts) (now ends) (now promised) s) j here) × (d < n) × (load + amountOf (at (now owed) d) ≤ totalAtMost) ⌝ }
     ensures { λ r. ⌜ Found (Pays (Reads (courseOf (now (starts .entry)) (now (ends .entry)) (now (promised .entry)) s) (Later (courseOf (now (starts .entry)) (now (ends .entry)) (now (promised .entry)) s) j) j here) (lengthAt (courseOf (now (starts .entry)) (now (ends .entry)) (now (promised .entry)) s) j) (j - (d + 1)) (d + 1) (load + amountOf (at (now (owed .entry)) d)) (set (now (owed .entry)) d 0)) r (now (owed .entry)) (now (owed .exit)) (Sound (courseOf (now (starts .entry)) (now (ends .entry)) (now (promised .entry)) s) (now (table .exit))) ⌝ }
 {
     let debt = owed[d];
     let more = load + debt % steps::DEBT_UNIT;
     owed[d] = 0;
-    let found = pay(starts, ends, promised, s, owed, table, j, d + 1, more, here);
+    let found = pay(
+        starts,
+        ends,
+        promised,
+        s,
+        owed,
+        table,
+        j,
+        d + 1,
+        more,
+        here,
+        n,
+    );
     owed[d] = debt;
     found
+}
+
+// It leaves the debts that stand: they get slots of their own, and it is read.
+pub fn leave(
+    starts: &[u32],
+    ends: &[u32],
+    promised: &[u32],
+    s: u32,
+    owed: &[u32],
+    table: &mut [u32],
+    j: usize,
+    load: u32,
+    here: State,
+    n: usize,
+) -> bool
+    requires { ⌜ (Slots (courseOf (now starts) (now ends) (now promised) s) j n (now owed) (now table)) × (Sound (courseOf (now starts) (now ends) (now promised) s) (now table)) × (AtRest (courseOf (now starts) (now ends) (now promised) s) j here) × (load ≤ totalAtMost) ⌝ }
+    ensures { λ r. ⌜ Found (Reads (courseOf (now (starts .entry)) (now (ends .entry)) (now (promised .entry)) s) (Later (courseOf (now (starts .entry)) (now (ends .entry)) (now (promised .entry)) s) j) j here load (now (owed .entry))) r (now (owed .entry)) (now (owed .entry)) (Sound (courseOf (now (starts .entry)) (now (ends .entry)) (now (promised .entry)) s) (now (table .exit))) ⌝ }
+{
+    let k = starts.len();
+    let mut left = [0u32; recording::LONG_RESTS];
+    move_up(
+        starts,
+        ends,
+        promised,
+        s,
+        owed,
+        table,
+        j,
+        load,
+        here,
+        n,
+        &mut left[..k],
+    )
+}
+
+// The debts that stand are moved up to the first of other slots.
+pub fn move_up(
+    starts: &[u32],
+    ends: &[u32],
+    promised: &[u32],
+    s: u32,
+    owed: &[u32],
+    table: &mut [u32],
+    j: usize,
+    load: u32,
+    here: State,
+    n: usize,
+    left: &mut [u32],
+) -> bool
+    requires { ⌜ (Slots (courseOf (now starts) (now ends) (now promised) s) j n (now owed) (now table)) × (Sound (courseOf (now starts) (now ends) (now promised) s) (now table)) × (AtRest (courseOf (now starts) (now ends) (now promised) s) j here) × (load ≤ totalAtMost) × (length (now left) ≡ length (now starts)) × (Zeros (now left)) ⌝ }
+    ensures { λ r. ⌜ Found (Reads (courseOf (now (starts .entry)) (now (ends .entry)) (now (promised .entry)) s) (Later (courseOf (now (starts .entry)) (now (ends .entry)) (now (promised .entry)) s) j) j here load (now (owed .entry))) r (now (owed .entry)) (now (owed .entry)) (Sound (courseOf (now (starts .entry)) (now (ends .entry)) (now (promised .entry)) s) (now (table .exit))) ⌝ }
+{
+    let m = steps::settle(owed, n, left);
+    choose(starts, ends, promised, s, left, table, j, load, here, m)
 }
 
 // The rest of index j, with a load, is daily or weekly; where it can be a regular weekly rest it need not be daily.
@@ -160,8 +251,9 @@ pub fn choose(
     j: usize,
     load: u32,
     here: State,
+    n: usize,
 ) -> bool
-    requires { ⌜ (Lent (courseOf (now starts) (now ends) (now promised) s) (now owed) (now table)) × (Sound (courseOf (now starts) (now ends) (now promised) s) (now table)) × (AtRest (courseOf (now starts) (now ends) (now promised) s) j here) × (load ≤ totalAtMost) ⌝ }
+    requires { ⌜ (Slots (courseOf (now starts) (now ends) (now promised) s) j n (now owed) (now table)) × (Sound (courseOf (now starts) (now ends) (now promised) s) (now table)) × (AtRest (courseOf (now starts) (now ends) (now promised) s) j here) × (load ≤ totalAtMost) ⌝ }
     ensures { λ r. ⌜ Found (Reads (courseOf (now (starts .entry)) (now (ends .entry)) (now (promised .entry)) s) (Later (courseOf (now (starts .entry)) (now (ends .entry)) (now (promised .entry)) s) j) j here load (now (owed .entry))) r (now (owed .entry)) (now (owed .exit)) (Sound (courseOf (now (starts .entry)) (now (ends .entry)) (now (promised .entry)) s) (now (table .exit))) ⌝ }
 {
     let minutes = ends[j] - starts[j];
@@ -169,15 +261,15 @@ pub fn choose(
         return false;
     }
     if reading::REGULAR + load <= minutes {
-        return weekly(starts, ends, promised, s, owed, table, j, load, here);
+        return weekly(starts, ends, promised, s, owed, table, j, load, here, n);
     }
-    if daily(starts, ends, promised, s, owed, table, j, load, here) {
+    if daily(starts, ends, promised, s, owed, table, j, load, here, n) {
         return true;
     }
     if minutes < reading::WEEKLY_NET + load {
         return false;
     }
-    weekly(starts, ends, promised, s, owed, table, j, load, here)
+    weekly(starts, ends, promised, s, owed, table, j, load, here, n)
 }
 
 // It is daily.
@@ -191,8 +283,9 @@ pub fn daily(
     j: usize,
     load: u32,
     here: State,
+    n: usize,
 ) -> bool
-    requires { ⌜ (Lent (courseOf (now starts) (now ends) (now promised) s) (now owed) (now table)) × (Sound (courseOf (now starts) (now ends) (now promised) s) (now table)) × (AtRest (courseOf (now starts) (now ends) (now promised) s) j here) × (leastNet Daily + load ≤ lengthAt (courseOf (now starts) (now ends) (now promised) s) j) ⌝ }
+    requires { ⌜ (Slots (courseOf (now starts) (now ends) (now promised) s) j n (now owed) (now table)) × (Sound (courseOf (now starts) (now ends) (now promised) s) (now table)) × (AtRest (courseOf (now starts) (now ends) (now promised) s) j here) × (leastNet Daily + load ≤ lengthAt (courseOf (now starts) (now ends) (now promised) s) j) ⌝ }
     ensures { λ r. ⌜ Found (ReadDaily (courseOf (now (starts .entry)) (now (ends .entry)) (now (promised .entry)) s) (Later (courseOf (now (starts .entry)) (now (ends .entry)) (now (promised .entry)) s) j) j here load (now (owed .entry))) r (now (owed .entry)) (now (owed .exit)) (Sound (courseOf (now (starts .entry)) (now (ends .entry)) (now (promised .entry)) s) (now (table .exit))) ⌝ }
 {
     let short = steps::brief(starts, ends, j, load);
@@ -200,7 +293,7 @@ pub fn daily(
     if reading::SHORTENED_AT_MOST < next.short {
         return false;
     }
-    solve(starts, ends, promised, s, owed, table, j + 1, next)
+    solve(starts, ends, promised, s, owed, table, j + 1, next, n)
 }
 
 // It is weekly, in one of the weeks in which it has a minute.
@@ -214,14 +307,15 @@ pub fn weekly(
     j: usize,
     load: u32,
     here: State,
+    n: usize,
 ) -> bool
-    requires { ⌜ (Lent (courseOf (now starts) (now ends) (now promised) s) (now owed) (now table)) × (Sound (courseOf (now starts) (now ends) (now promised) s) (now table)) × (AtRest (courseOf (now starts) (now ends) (now promised) s) j here) × (leastNet (Weekly Regular) + load ≤ lengthAt (courseOf (now starts) (now ends) (now promised) s) j) ⌝ }
+    requires { ⌜ (Slots (courseOf (now starts) (now ends) (now promised) s) j n (now owed) (now table)) × (Sound (courseOf (now starts) (now ends) (now promised) s) (now table)) × (AtRest (courseOf (now starts) (now ends) (now promised) s) j here) × (leastNet (Weekly Regular) + load ≤ lengthAt (courseOf (now starts) (now ends) (now promised) s) j) ⌝ }
     ensures { λ r. ⌜ Found (ReadWeekly (courseOf (now (starts .entry)) (now (ends .entry)) (now (promised .entry)) s) (Later (courseOf (now (starts .entry)) (now (ends .entry)) (now (promised .entry)) s) j) j here load (now (owed .entry))) r (now (owed .entry)) (now (owed .exit)) (Sound (courseOf (now (starts .entry)) (now (ends .entry)) (now (promised .entry)) s) (now (table .exit))) ⌝ }
 {
     let end = ends[j];
     let mut w = starts[j] / recording::WEEK_MINUTES;
     while recording::WEEK_MINUTES * w < end {
-        if in_week(starts, ends, promised, s, owed, table, j, load, w, here) {
+        if in_week(starts, ends, promised, s, owed, table, j, load, w, here, n) {
             return true;
         }
         w += 1;
@@ -241,8 +335,9 @@ pub fn in_week(
     load: u32,
     w: u32,
     here: State,
+    n: usize,
 ) -> bool
-    requires { ⌜ (Lent (courseOf (now starts) (now ends) (now promised) s) (now owed) (now table)) × (Sound (courseOf (now starts) (now ends) (now promised) s) (now table)) × (AtRest (courseOf (now starts) (now ends) (now promised) s) j here) × (leastNet (Weekly Regular) + load ≤ lengthAt (courseOf (now starts) (now ends) (now promised) s) j) × (at (now starts) j < weekStart (w + 1)) × (weekStart w < at (now ends) j) ⌝ }
+    requires { ⌜ (Slots (courseOf (now starts) (now ends) (now promised) s) j n (now owed) (now table)) × (Sound (courseOf (now starts) (now ends) (now promised) s) (now table)) × (AtRest (courseOf (now starts) (now ends) (now promised) s) j here) × (leastNet (Weekly Regular) + load ≤ lengthAt (courseOf (now starts) (now ends) (now promised) s) j) × (at (now starts) j < weekStart (w + 1)) × (weekStart w < at (now ends) j) ⌝ }
     ensures { λ r. ⌜ Found (Counted (courseOf (now (starts .entry)) (now (ends .entry)) (now (promised .entry)) s) (Later (courseOf (now (starts .entry)) (now (ends .entry)) (now (promised .entry)) s) j) j here w load (now (owed .entry))) r (now (owed .entry)) (now (owed .exit)) (Sound (courseOf (now (starts .entry)) (now (ends .entry)) (now (promised .entry)) s) (now (table .exit))) ⌝ }
 {
     let Brought::To(there) = steps::advance(starts, ends, here, w) else {
@@ -251,7 +346,7 @@ pub fn in_week(
     let rest = reading::rest_week(starts, ends, starts.len(), w);
     let regular = reading::REGULAR + load <= ends[j] - starts[j];
     let next = steps::after_weekly(there, rest, regular, ends[j]);
-    count_in(starts, ends, promised, s, owed, table, j, load, w, next)
+    count_in(starts, ends, promised, s, owed, table, j, load, w, next, n)
 }
 
 // It is counted in week w, and owes what it is reduced by; a debt that is due after s needs nothing.
@@ -266,14 +361,15 @@ pub fn count_in(
     load: u32,
     w: u32,
     next: State,
+    n: usize,
 ) -> bool
-    requires { ⌜ (Lent (courseOf (now starts) (now ends) (now promised) s) (now owed) (now table)) × (Sound (courseOf (now starts) (now ends) (now promised) s) (now table)) × (j < count (courseOf (now starts) (now ends) (now promised) s)) × (Before (courseOf (now starts) (now ends) (now promised) s) (j + 1) next) × (leastNet (Weekly Regular) + load ≤ lengthAt (courseOf (now starts) (now ends) (now promised) s) j) × (weekStart w < at (now ends) j) ⌝ }
+    requires { ⌜ (Slots (courseOf (now starts) (now ends) (now promised) s) j n (now owed) (now table)) × (Sound (courseOf (now starts) (now ends) (now promised) s) (now table)) × (j < count (courseOf (now starts) (now ends) (now promised) s)) × (Before (courseOf (now starts) (now ends) (now promised) s) (j + 1) next) × (leastNet (Weekly Regular) + load ≤ lengthAt (courseOf (now starts) (now ends) (now promised) s) j) × (weekStart w < at (now ends) j) ⌝ }
     ensures { λ r. ⌜ Found (Later (courseOf (now (starts .entry)) (now (ends .entry)) (now (promised .entry)) s) j next (set (now (owed .entry)) j (debtOf (lengthAt (courseOf (now (starts .entry)) (now (ends .entry)) (now (promised .entry)) s) j) load w))) r (now (owed .entry)) (now (owed .exit)) (Sound (courseOf (now (starts .entry)) (now (ends .entry)) (now (promised .entry)) s) (now (table .exit))) ⌝ }
 {
-    let debt = owed[j];
-    owed[j] = steps::outstanding(steps::debt_of(ends[j] - starts[j], load, w), s);
-    let found = solve(starts, ends, promised, s, owed, table, j + 1, next);
-    owed[j] = debt;
+    let debt = owed[n];
+    owed[n] = steps::outstanding(steps::debt_of(ends[j] - starts[j], load, w), s);
+    let found = solve(starts, ends, promised, s, owed, table, j + 1, next, n + 1);
+    owed[n] = debt;
     found
 }
 
@@ -292,7 +388,7 @@ pub fn completes(
     ensures { λ r. ⌜ Found (Completable (courseOf (now (starts .entry)) (now (ends .entry)) (now (promised .entry)) s) (count (courseOf (now (starts .entry)) (now (ends .entry)) (now (promised .entry)) s) - j) j st (now (owed .entry))) r (now (owed .entry)) (now (owed .exit)) (Sound (courseOf (now (starts .entry)) (now (ends .entry)) (now (promised .entry)) s) (now (table .exit))) ⌝ }
 {
     hopeless::clear(table, starts.len());
-    solve(starts, ends, promised, s, owed, table, j, st)
+    solve(starts, ends, promised, s, owed, table, j, st, 0)
 }
 
 // Whether the rest before that of index i starts in the same week.
@@ -331,6 +427,7 @@ fn asked(
         table,
         i,
         steps::best_state(starts[i]),
+        0,
     )
 }
 
@@ -382,5 +479,6 @@ pub fn possible(
         table,
         0,
         steps::start_state(rest),
+        0,
     )
 }

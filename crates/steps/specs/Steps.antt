@@ -4,6 +4,7 @@ use mathlib.Core.Path.{_≡_}
 use mathlib.Core.Bool.{Bool, true, false}
 use mathlib.Core.List.{List, []}
 use Prim.Native.Nat.{ℕ, _+_, _≤_, _<_}
+use lib.ListN.{set}
 use Rattle.rules.specs.ReadingRules.{leastNet}
 use Rattle.rules.specs.declared.Kind.the-variants.{Daily}
 use Rattle.completion.specs.Completable.{Course, at, amountOf, brief}
@@ -18,12 +19,34 @@ pub record Fits (debt load minutes : ℕ) : Type 0 where
   pub owes : 0 < debt
   pub fits : leastNet Daily + (load + amountOf debt) ≤ minutes
 
--- r is the first index from i on, below j, whose debt fits, or j
-pub record Debtor (owed : List ℕ) (i j load minutes r : ℕ) : Type 0 where
+-- r is the first index from i on, below n, whose debt fits, or n
+pub record Debtor (owed : List ℕ) (i n load minutes r : ℕ) : Type 0 where
   pub low : i ≤ r
-  pub high : r ≤ j
+  pub high : r ≤ n
   pub passed : (x : ℕ) → i ≤ x → x < r → Fits (at owed x) load minutes → ⊥
-  pub found : r < j → Fits (at owed r) load minutes
+  pub found : r < n → Fits (at owed r) load minutes
+
+-- the debts stand in the first n slots
+abbrev pub NoneFrom : List ℕ → ℕ → Type 0
+NoneFrom owed n = (x : ℕ) → n ≤ x → at owed x ≡ 0
+
+-- a debt, if it is one, was stored in slot r, and r′ is the next slot
+pub data Stored (l l′ : List ℕ) (r debt r′ : ℕ) : Type 0 where
+  nothing : debt ≡ 0 → r′ ≡ r → l′ ≡ l → Stored l l′ r debt r′
+  stored : 0 < debt → r′ ≡ r + 1 → l′ ≡ set l r debt → Stored l l′ r debt r′
+
+-- the first r slots of l hold the debts of the first n slots of o, in order: from which slot of o each was taken, and where each of o went
+pub record Settled (o l : List ℕ) (n r : ℕ) : Type 0 where
+  pub few : r ≤ n
+  pub rest : (x : ℕ) → r ≤ x → at l x ≡ 0
+  pub from : ℕ → ℕ
+  pub from-below : (x : ℕ) → x < r → from x < n
+  pub same : (x : ℕ) → x < r → at l x ≡ at o (from x)
+  pub owes : (x : ℕ) → x < r → 0 < at l x
+  pub rises : (x y : ℕ) → x < y → y < r → from x < from y
+  pub to : ℕ → ℕ
+  pub to-below : (x : ℕ) → 0 < at o x → to x < r
+  pub back : (x : ℕ) → 0 < at o x → from (to x) ≡ x
 
 -- nothing but the long rests' starts and ends
 abbrev pub restsOf : List ℕ → List ℕ → Course

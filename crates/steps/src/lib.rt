@@ -9,11 +9,11 @@ ghost use lib.Dec.{ltb};
 ghost use Rattle.recording.specs.Tests.{pick};
 ghost use Rattle.recording.specs.Operations.{totalAtMost};
 ghost use Rattle.rules.specs.ReadingRules.{shortenedAtMost, weeklyAtLeast, regularAtLeast};
-ghost use Rattle.reading.specs.Items.{loadAtMost, endBefore, spansIn, restWeeks};
+ghost use Rattle.reading.specs.Items.{loadAtMost, endBefore, spansIn, restWeeks, Zeros};
 ghost use Rattle.completion.specs.States.{freshCounts, countedMore, startState, pairKept, nextWeek, advance as advanced, afterDaily, afterWeekly};
 ghost use Rattle.completion.specs.Completable.{at, dueOf, debtOf, Overdue};
 ghost use Rattle.completion.specs.Better.{Small, bestState};
-ghost use Rattle.steps.specs.Steps.{Says, Fits, Debtor, briefOf};
+ghost use Rattle.steps.specs.Steps.{Says, Fits, Debtor, NoneFrom, Stored, Settled, briefOf};
 
 // A debt is a word: so many units of the week at whose start it is due, and the minutes. 0 is none.
 pub const DEBT_UNIT: u32 = 2048;
@@ -198,11 +198,12 @@ fn due_before(debt: u32, t: u32) -> bool
     debt / DEBT_UNIT <= (t - 1) / recording::WEEK_MINUTES
 }
 
-// Whether a debt is outstanding that was due before t.
-pub fn overdue(owed: &[u32], t: u32) -> bool
+// Whether a debt is outstanding that was due before t. The debts stand in the first n slots.
+pub fn overdue(owed: &[u32], n: usize, t: u32) -> bool
+    requires { ⌜ (n ≤ length (now owed)) × NoneFrom (now owed) n ⌝ }
     ensures { λ r. ⌜ Says (Overdue (now (owed .entry)) t) r ⌝ }
 {
-    let mut i = owed.len();
+    let mut i = n;
     while 0 < i {
         i -= 1;
         if due_before(owed[i], t) {
@@ -223,19 +224,45 @@ pub fn payable(debt: u32, load: u32, minutes: u32) -> bool
     reading::DAILY_NET + (load + debt % DEBT_UNIT) <= minutes
 }
 
-// The first index from i on, below j, whose debt fits, or j.
-pub fn debtor(owed: &[u32], i: usize, j: usize, load: u32, minutes: u32) -> usize
-    requires { ⌜ (i ≤ j) × (j ≤ length (now owed)) × (load ≤ loadAtMost) ⌝ }
-    ensures { λ r. ⌜ Debtor (now (owed .entry)) i j load minutes r ⌝ }
+// The first index from i on, below n, whose debt fits, or n.
+pub fn debtor(owed: &[u32], n: usize, i: usize, load: u32, minutes: u32) -> usize
+    requires { ⌜ (i ≤ n) × (n ≤ length (now owed)) × (load ≤ loadAtMost) ⌝ }
+    ensures { λ r. ⌜ Debtor (now (owed .entry)) i n load minutes r ⌝ }
 {
     let mut d = i;
-    while d < j {
+    while d < n {
         if payable(owed[d], load, minutes) {
             return d;
         }
         d += 1;
     }
-    j
+    n
+}
+
+// Stores a debt in slot r, if it is one; the next slot.
+fn keep_debt(left: &mut [u32], r: usize, debt: u32) -> usize
+    requires { ⌜ r < length (now left) ⌝ }
+    ensures { λ next. ⌜ Stored (now (left .entry)) (now (left .exit)) r debt next ⌝ }
+{
+    if debt == 0 {
+        return r;
+    }
+    left[r] = debt;
+    r + 1
+}
+
+// Copies the debts in the first n slots of `owed` to the front of `left`, in order; how many there are.
+pub fn settle(owed: &[u32], n: usize, left: &mut [u32]) -> usize
+    requires { ⌜ (n ≤ length (now owed)) × (n ≤ length (now left)) × Zeros (now left) × NoneFrom (now owed) n ⌝ }
+    ensures { λ r. ⌜ Settled (now (owed .entry)) (now (left .exit)) n r ⌝ }
+{
+    let mut r = 0;
+    let mut i = 0;
+    while i < n {
+        r = keep_debt(left, r, owed[i]);
+        i += 1;
+    }
+    r
 }
 
 // Whether the rest of index j, daily and with a load, has a portion under 660.

@@ -28,7 +28,7 @@ goes-with-requires : tie.Need-goes-with-requires Inv-loop μ-loop
 goes-with-requires c κs =
     let s = (c .before .before .before .before .before .before .before .before .before .before) in let k = courseOf (now (s .args .starts)) (now (s .args .ends)) (now (s .args .promised)) (s .args .s) in
     let i = c .before .before .before .before .loop .inv in (
-      lent-same {c = k} (i .0) (ap length (i .1)) (i .2) (s .pre .0),
+      lent-same {c = k} (i .0) (i .1) (i .2) (s .pre .0),
       before-with k (c .before .before .before .before .loop .promised) (s .pre .1),
       s .pre .2,
       s .pre .3,

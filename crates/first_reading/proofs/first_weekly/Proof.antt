@@ -48,7 +48,7 @@ carrier-in-requires : tie.Need-carrier-in-requires Inv-loop μ-loop
 carrier-in-requires c κs =
     let s = (c .before .before .before .before .before .before .before .before .before .before .before .before) in let k = courseOf (now (s .args .starts)) (now (s .args .ends)) (now (s .args .promised)) (s .args .s) in
     let i = c .before .before .before .before .loop .inv in (
-      lent-same {c = k} (i .0) (ap length (i .1)) (i .2) (s .pre .0),
+      lent-same {c = k} (i .0) (i .1) (i .2) (s .pre .0),
       at-rest-with k (c .before .before .before .before .loop .promised) (s .pre .1),
       subst (λ (p : List ℕ). leastNet (Weekly Regular) + at p (s .args .j) ≤ lengthAt k (s .args .j)) (sym (i .0)) (s .pre .2),
       omega (arith, i .3),

@@ -65,7 +65,7 @@ first-weekly-requires : tie.Need-first-weekly-requires
 first-weekly-requires c κs =
     let s = (c .before .before .before .before .before .before .before .before .before .before .before .before .before .before .before .before .before .before .before .before .before .before .before .before .before .before .before) in let k = courseOf (now (s .args .starts)) (now (s .args .ends)) (now (s .args .promised)) (s .args .s) in
     let a = at-rest k (s .args .j) (s .args .st) (now (s .args .owed)) (now (s .args .table)) (s .pre .0) (s .pre .2) (s .pre .3) (c .before .before .before .before .before .before .before .before .before .before .before .before .before .before .before .before .before .before .before .advance .ensures) (c .before .before .before .before .before .before .before .before .before .before .before .before .before .before .before .before .before .here .given .1) in
-    (lent-same {c = k} refl (ap length (c .before .before .before .before .before .before .before .before .daily-goes .ensures .same)) (c .before .before .before .before .before .before .before .before .daily-goes .kept .1 .1 .1 .1 .1 .0) (s .pre .0), a, c .before .before .before .before .before .before .before .before .before .before .before .before .if1 .left)
+    (lent-same {c = k} refl (c .before .before .before .before .before .before .before .before .daily-goes .ensures .same) (c .before .before .before .before .before .before .before .before .daily-goes .kept .1 .1 .1 .1 .1 .0) (s .pre .0), a, c .before .before .before .before .before .before .before .before .before .before .before .before .if1 .left)
 
 put-weekly-requires : tie.Need-put-weekly-requires
 put-weekly-requires c κs =

@@ -30,7 +30,7 @@ returns-7 c = λ h. record {
   regular-before = c .before .before .before .before .before .before .before .before .if4 .left;
   weekly = c .before .before .before .before .if5 .left;
   regular = c .before .if6 .left;
-  debts = c .covers .ensures h .each;
+  debts = c .covers .ensures h;
 }
 
 pub beats-spec : {M : Type 1} → statement M

@@ -1,7 +1,6 @@
 -- `hopeless::debts` meets its contract. Assumes nothing.
 use mathlib.Core.Path.{_≡_, refl}
 use native.Mathlib.Omega.{arith}
-use lib.ListN.{length}
 use borrow.Author.Needs.{needs}
 use Prim.Native.Nat.{_-_, _≤_}
 use denote.Ref.{now}
@@ -11,10 +10,10 @@ use Rattle.hopeless.proofs.debts.Statement.{statement}
 use Rattle.hopeless.proofs.debts.Tie as tie
 
 abbrev Inv-loop : tie.InvT-loop
-Inv-loop owed n₀ i₀ n i = (n ≡ owing owed i) × (n ≤ i) × (i ≤ length owed)
+Inv-loop owed n d₀ i₀ d i = (d ≡ owing owed i) × (d ≤ i) × (i ≤ n)
 
 abbrev μ-loop : tie.MeasureT-loop
-μ-loop owed n₀ i₀ n i = length owed - i
+μ-loop owed n d₀ i₀ d i = n - i
 
 loop-holds : tie.Need-loop-holds Inv-loop μ-loop
 unfolding owing
@@ -22,13 +21,13 @@ loop-holds c = (refl, omega arith, omega arith)
 
 loop-again : tie.Need-loop-again Inv-loop μ-loop
 loop-again c = (
-  owing-next (now ((c .before .before .before .before .before) .args .owed)) (c .before .before .before .loop .i) (c .before .before .before .loop .n) (c .is-owed .result) (c .before .before .before .loop .inv .0) (c .is-owed .ensures .0),
+  owing-next (now ((c .before .before .before .before .before) .args .owed)) (c .before .before .before .loop .i) (c .before .before .before .loop .d) (c .is-owed .result) (c .before .before .before .loop .inv .0) (c .is-owed .ensures .0),
   omega (arith, c .is-owed .ensures .1, c .before .before .before .loop .inv .1),
   omega (arith, c .before .before .loop-test .taken),
 )
 
 returns : tie.Need-returns Inv-loop μ-loop
-returns c = owing-all (now ((c .before .before .before) .args .owed)) (c .before .loop .i) (c .before .loop .n) (c .before .loop .inv .2) (c .loop-test .left) (c .before .loop .inv .0)
+returns c = owing-all (now ((c .before .before .before) .args .owed)) (c .before .loop .i) ((c .before .before .before) .args .n) (c .before .loop .d) (c .before .loop .inv .2) (c .loop-test .left) (c .before .loop .inv .0)
 
 pub debts-spec : {M : Type 1} → statement M
 debts-spec =

@@ -9,10 +9,10 @@ use Rattle.hopeless.proofs.known.Statement.{statement}
 use Rattle.hopeless.proofs.known.Tie as tie
 
 abbrev Inv-loop : tie.InvT-loop
-Inv-loop table owed j st level e₀ e = (e ≤ at table (levelAt j)) × (e ≤ ringSize)
+Inv-loop table owed n j st level e₀ e = (e ≤ at table (levelAt j)) × (e ≤ ringSize)
 
 abbrev μ-loop : tie.MeasureT-loop
-μ-loop table owed j st level e₀ e = e
+μ-loop table owed n j st level e₀ e = e
 
 loop-holds : tie.Need-loop-holds Inv-loop μ-loop
 loop-holds c = c .used .ensures

@@ -8,13 +8,13 @@ use Rattle.hopeless.proofs.put_debt.Statement.{statement}
 use Rattle.hopeless.proofs.put_debt.Tie as tie
 
 returns : tie.Need-returns
-returns c = put-none _ _ _ _ _ (c .if1 .taken)
+returns c = put-none _ _ _ _ (c .if1 .taken)
 
-slice-write-table-2 : tie.Need-slice-write-table-2
-slice-write-table-2 c = simp length-set (omega (arith, (c .before) .pre .0, (c .before) .pre .3 (pos-of-ne-zero (c .if1 .left))))
+slice-write-table : tie.Need-slice-write-table
+slice-write-table c = omega (arith, (c .before) .pre .0, (c .before) .pre .2 (pos-of-ne-zero (c .if1 .left)))
 
 returns-2 : tie.Need-returns-2
-returns-2 c = put-one _ _ _ _ _ ((c .before) .pre .0) ((c .before) .pre .3 (pos-of-ne-zero (c .if1 .left))) (pos-of-ne-zero (c .if1 .left))
+returns-2 c = put-one _ _ _ _ ((c .before) .pre .0) ((c .before) .pre .2 (pos-of-ne-zero (c .if1 .left))) (pos-of-ne-zero (c .if1 .left))
 
 pub put-debt-spec : {M : Type 1} → statement M
 put-debt-spec =
@@ -24,12 +24,7 @@ put-debt-spec =
     (λ c. search needs)
     (λ c. search needs)
     (λ c. search needs)
-    (λ c. search needs)
-    (λ c. search needs)
-    (λ c. search needs)
-    (λ c. search needs)
-    (λ c. search needs)
-    slice-write-table-2
+    slice-write-table
     (λ c. search needs)
     (λ c. simp length-set)
     returns-2)

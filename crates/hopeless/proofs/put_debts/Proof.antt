@@ -10,10 +10,10 @@ use Rattle.hopeless.proofs.put_debts.Statement.{statement}
 use Rattle.hopeless.proofs.put_debts.Tie as tie
 
 abbrev Inv-loop : tie.InvT-loop
-Inv-loop table₀ owed p d₀ i₀ table d i = (i ≤ length owed) × (length table ≡ length table₀) × PutAll table₀ table p owed i d
+Inv-loop table₀ owed n p d₀ i₀ table d i = (i ≤ n) × (length table ≡ length table₀) × PutAll table₀ table p owed i d
 
 abbrev μ-loop : tie.MeasureT-loop
-μ-loop table₀ owed p d₀ i₀ table d i = length owed - i
+μ-loop table₀ owed n p d₀ i₀ table d i = n - i
 
 loop-holds : tie.Need-loop-holds Inv-loop μ-loop
 loop-holds c = (omega arith, refl, put-start _ _ _)
@@ -21,7 +21,6 @@ loop-holds c = (omega arith, refl, put-start _ _ _)
 put-debt-requires : tie.Need-put-debt-requires Inv-loop μ-loop
 put-debt-requires c κs = (
   omega (arith, (c .before .before .before .before .before .before) .pre .0, c .before .before .before .loop .inv .1),
-  omega (arith, (c .before .before .before .before .before .before) .pre .1, c .before .before .loop-test .taken),
   put-few (c .before .before .before .loop .inv .2) ((c .before .before .before .before .before .before) .pre .2) (c .before .before .before .loop .inv .0),
   put-room (c .before .before .before .loop .inv .2) ((c .before .before .before .before .before .before) .pre .2) (c .before .before .loop-test .taken),
 )

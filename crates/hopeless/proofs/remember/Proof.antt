@@ -28,6 +28,7 @@ returns-2 c =
     (c .before .before .before .before .before .before .before .put-debts .last .0)
     (now ((c .before .before .before .before .before .before .before .before .before .before .before .before .before .before) .args .owed))
     ((c .before .before .before .before .before .before .before .before .before .before .before .before .before .before) .args .j)
+    ((c .before .before .before .before .before .before .before .before .before .before .before .before .before .before) .args .n)
     (at (now ((c .before .before .before .before .before .before .before .before .before .before .before .before .before .before) .args .table)) (levelAt ((c .before .before .before .before .before .before .before .before .before .before .before .before .before .before) .args .j)))
     (c .one-more .result)
     (c .before .before .before .before .before .before .before .put-debts .result)
@@ -37,6 +38,7 @@ returns-2 c =
     refl
     (omega (arith, c .before .before .before .before .before .before .before .put-debts .ensures .count, c .before .before .before .before .before .before .before .before .before .before .if1 .left, c .before .before .before .before .before .before .before .before .before .before .before .debts .ensures))
     (c .one-more .ensures)
+    ((c .before .before .before .before .before .before .before .before .before .before .before .before .before .before) .pre .3)
     (c .before .before .before .before .before .before .before .put-debts .ensures))
 
 pub remember-spec : {M : Type 1} → statement M
@@ -44,7 +46,7 @@ remember-spec =
     tie.close
     (tie.spec
     (λ c. search needs)
-    (λ c κs. tt)
+    (λ c κs. search needs)
     returns
     (λ c. search needs)
     (λ c. search needs)

@@ -18,7 +18,7 @@ solve-requires : tie.Need-solve-requires
 solve-requires c κs =
     let s = (c .before .before .before .before .before .before .before .before .before .before .before) in
     let k = courseOf (now (s .args .starts)) (now (s .args .ends)) (now (s .args .promised)) (s .args .s) in
-    (s .pre .0, s .pre .1, law.before-best k (s .pre .0 .lies) (s .args .i) (s .pre .2) (c .best-state .ensures))
+    (law.slots-none k (s .pre .0 .lies) (s .args .i) (s .pre .0), s .pre .1, law.before-best k (s .pre .0 .lies) (s .args .i) (s .pre .2) (c .best-state .ensures))
 
 returns-2 : tie.Need-returns-2
 returns-2 c =

@@ -13,7 +13,7 @@ solve-requires c κs =
     let k = courseOf (now (s .args .starts)) (now (s .args .ends)) (now (s .args .promised)) (s .args .s) in
     let lies = s .pre .0 .lies in
     let of-clear = c .before .before .before .before .clear in
-    (law.relent k lies (s .pre .0) refl (of-clear .kept .0), law.empty-sound k lies (of-clear .ensures), s .pre .1)
+    (law.slots-none k lies (s .args .j) (law.relent k lies (s .pre .0) refl (of-clear .kept .0)), law.empty-sound k lies (of-clear .ensures), s .pre .1)
 
 pub completes-spec : {M : Type 1} → statement M
 completes-spec = tie.close (tie.spec (λ c κs. search needs) solve-requires (λ c. search needs) (λ c. search needs) (λ c. search needs))

@@ -29,7 +29,7 @@ asked-requires c κs =
     let s = (c .before .before .before .before .before .before .before .before .before) in
     let k = courseOf (now (s .args .starts)) (now (s .args .ends)) (now (s .args .promised)) (s .args .s) in
     let i = c .before .before .before .loop .inv in
-    (law.relent k (s .pre .0 .lies) (s .pre .0) (ap length (i .0)) (i .1), i .2, omega (arith, i .3, c .before .before .loop-test .taken))
+    (law.relent k (s .pre .0 .lies) (s .pre .0) (i .0) (i .1), i .2, omega (arith, i .3, c .before .before .loop-test .taken))
 
 returns : tie.Need-returns Inv-loop μ-loop
 returns c =

@@ -33,7 +33,7 @@ solve-requires c κs =
     let k = courseOf (now (s .args .starts)) (now (s .args .ends)) (now (s .args .promised)) (s .args .s) in
     let lies = s .pre .0 .lies in
     let of-from-back = c .before .before .before .before .before .before .before .before .before .from-back in
-    (law.relent k lies (s .pre .0) (of-from-back .kept .1 .1 .1 .1 .0) (of-from-back .kept .1 .1 .1 .1 .1 .0 ∙ c .before .before .before .before .before .before .before .before .before .before .before .before .before .before .clear .kept .0), of-from-back .ensures .sound, law.before-start k lies (c .before .before .before .rest-week .result) (c .start-state .ensures))
+    (law.relent k lies (s .pre .0) (of-from-back .ensures .same) (of-from-back .kept .1 .1 .1 .1 .1 .0 ∙ c .before .before .before .before .before .before .before .before .before .before .before .before .before .before .clear .kept .0), of-from-back .ensures .sound, law.before-start k lies (c .before .before .before .rest-week .result) (c .start-state .ensures))
 
 returns-2 : tie.Need-returns-2
 returns-2 c =

@@ -8,10 +8,10 @@ use Rattle.steps.proofs.debtor.Statement.{statement}
 use Rattle.steps.proofs.debtor.Tie as tie
 
 abbrev Inv-loop : tie.InvT-loop
-Inv-loop owed i j load minutes d₀ d = (i ≤ d) × (d ≤ j) × Passed owed i load minutes d
+Inv-loop owed n i load minutes d₀ d = (i ≤ d) × (d ≤ n) × Passed owed i load minutes d
 
 abbrev μ-loop : tie.MeasureT-loop
-μ-loop owed i j load minutes d₀ d = j - d
+μ-loop owed n i load minutes d₀ d = n - d
 
 loop-holds : tie.Need-loop-holds Inv-loop μ-loop
 loop-holds c = (le-refl _, (c .before) .pre .0, passed-start _ _ _ _)

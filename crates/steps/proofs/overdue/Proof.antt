@@ -1,7 +1,7 @@
 -- `steps::overdue` meets its contract. Assumes nothing.
 use mathlib.Core.Bool.{true≢false}
+use native.Mathlib.Nat.{le-refl}
 use native.Mathlib.Omega.{arith}
-use lib.ListN.{length}
 use borrow.Author.Needs.{needs}
 use Prim.Native.Nat.{_≤_}
 use Rattle.steps.proofs.StepLaws.{says-no, InTime, in-time-start, in-time-on, is-overdue, none-overdue}
@@ -9,13 +9,13 @@ use Rattle.steps.proofs.overdue.Statement.{statement}
 use Rattle.steps.proofs.overdue.Tie as tie
 
 abbrev Inv-loop : tie.InvT-loop
-Inv-loop owed t i₀ i = (i ≤ length owed) × InTime owed t i
+Inv-loop owed n t i₀ i = (i ≤ n) × InTime owed t i
 
 abbrev μ-loop : tie.MeasureT-loop
-μ-loop owed t i₀ i = i
+μ-loop owed n t i₀ i = i
 
 loop-holds : tie.Need-loop-holds Inv-loop μ-loop
-loop-holds c = (omega arith, in-time-start _ _)
+loop-holds c = (le-refl _, in-time-start _ _ _ ((c .before) .pre .1))
 
 returns : tie.Need-returns Inv-loop μ-loop
 returns c = record {

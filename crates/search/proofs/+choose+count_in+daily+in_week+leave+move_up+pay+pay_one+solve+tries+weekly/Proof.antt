@@ -1,7 +1,7 @@
 -- The search answers its question: the proofs of its functions, which call one another. Each question gets smaller by `left`.
 -- Assumes nothing.
 use borrow.Author.Needs.{needs}
-use mathlib.Core.Path.{_≡_, refl, ap, subst, _∙_}
+use mathlib.Core.Path.{_≡_, refl, sym, ap, subst, _∙_}
 use mathlib.Core.Logic.{inl}
 use mathlib.Core.List.{List}
 use native.Mathlib.Nat.{le-refl}
@@ -15,38 +15,44 @@ use Rattle.rules.specs.Reading.{regularMinutes}
 use Rattle.completion.specs.Completable.{at, restWeek, lengthAt, dueOf, debtOf, Pays, ReadWeekly, Counted, Reads, Tries}
 use Rattle.completion.proofs.Monotone.{arrives}
 use Rattle.hopeless.specs.Table.{Remembered}
-use Rattle.search.specs.Search.{courseOf, Later, Sound}
+use Rattle.search.specs.Search.{courseOf, Later, Sound, Before}
 use Rattle.search.proofs.Answers as law
 use Prim.Native.Nat.{ℕ, _+_, _-_, _*_, _≤_, _<_}
 use borrow.Fn.Kinds.{In}
 use borrow.Fn.PlainCycle.{Measures, is, falls, and}
 use Rattle.search.proofs.choose.Reads as choose
 use Rattle.search.proofs.choose.Kinds as choose-kinds
-use Rattle.search.proofs.+choose+count_in+daily+in_week+pay+pay_one+solve+tries+weekly.Lts-choose as choose-lts
+use Rattle.search.proofs.+choose+count_in+daily+in_week+leave+move_up+pay+pay_one+solve+tries+weekly.Lts-choose as choose-lts
 use Rattle.search.proofs.count_in.Reads as count-in
 use Rattle.search.proofs.count_in.Kinds as count-in-kinds
-use Rattle.search.proofs.+choose+count_in+daily+in_week+pay+pay_one+solve+tries+weekly.Lts-count_in as count-in-lts
+use Rattle.search.proofs.+choose+count_in+daily+in_week+leave+move_up+pay+pay_one+solve+tries+weekly.Lts-count_in as count-in-lts
 use Rattle.search.proofs.daily.Reads as daily
 use Rattle.search.proofs.daily.Kinds as daily-kinds
-use Rattle.search.proofs.+choose+count_in+daily+in_week+pay+pay_one+solve+tries+weekly.Lts-daily as daily-lts
+use Rattle.search.proofs.+choose+count_in+daily+in_week+leave+move_up+pay+pay_one+solve+tries+weekly.Lts-daily as daily-lts
 use Rattle.search.proofs.in_week.Reads as in-week
 use Rattle.search.proofs.in_week.Kinds as in-week-kinds
-use Rattle.search.proofs.+choose+count_in+daily+in_week+pay+pay_one+solve+tries+weekly.Lts-in_week as in-week-lts
+use Rattle.search.proofs.+choose+count_in+daily+in_week+leave+move_up+pay+pay_one+solve+tries+weekly.Lts-in_week as in-week-lts
+use Rattle.search.proofs.leave.Reads as leave
+use Rattle.search.proofs.leave.Kinds as leave-kinds
+use Rattle.search.proofs.+choose+count_in+daily+in_week+leave+move_up+pay+pay_one+solve+tries+weekly.Lts-leave as leave-lts
+use Rattle.search.proofs.move_up.Reads as move-up
+use Rattle.search.proofs.move_up.Kinds as move-up-kinds
+use Rattle.search.proofs.+choose+count_in+daily+in_week+leave+move_up+pay+pay_one+solve+tries+weekly.Lts-move_up as move-up-lts
 use Rattle.search.proofs.pay.Reads as pay
 use Rattle.search.proofs.pay.Kinds as pay-kinds
-use Rattle.search.proofs.+choose+count_in+daily+in_week+pay+pay_one+solve+tries+weekly.Lts-pay as pay-lts
+use Rattle.search.proofs.+choose+count_in+daily+in_week+leave+move_up+pay+pay_one+solve+tries+weekly.Lts-pay as pay-lts
 use Rattle.search.proofs.pay_one.Reads as pay-one
 use Rattle.search.proofs.pay_one.Kinds as pay-one-kinds
-use Rattle.search.proofs.+choose+count_in+daily+in_week+pay+pay_one+solve+tries+weekly.Lts-pay_one as pay-one-lts
+use Rattle.search.proofs.+choose+count_in+daily+in_week+leave+move_up+pay+pay_one+solve+tries+weekly.Lts-pay_one as pay-one-lts
 use Rattle.search.proofs.solve.Reads as solve
 use Rattle.search.proofs.solve.Kinds as solve-kinds
-use Rattle.search.proofs.+choose+count_in+daily+in_week+pay+pay_one+solve+tries+weekly.Lts-solve as solve-lts
+use Rattle.search.proofs.+choose+count_in+daily+in_week+leave+move_up+pay+pay_one+solve+tries+weekly.Lts-solve as solve-lts
 use Rattle.search.proofs.tries.Reads as tries
 use Rattle.search.proofs.tries.Kinds as tries-kinds
-use Rattle.search.proofs.+choose+count_in+daily+in_week+pay+pay_one+solve+tries+weekly.Lts-tries as tries-lts
+use Rattle.search.proofs.+choose+count_in+daily+in_week+leave+move_up+pay+pay_one+solve+tries+weekly.Lts-tries as tries-lts
 use Rattle.search.proofs.weekly.Reads as weekly
 use Rattle.search.proofs.weekly.Kinds as weekly-kinds
-use Rattle.search.proofs.+choose+count_in+daily+in_week+pay+pay_one+solve+tries+weekly.Lts-weekly as weekly-lts
+use Rattle.search.proofs.+choose+count_in+daily+in_week+leave+move_up+pay+pay_one+solve+tries+weekly.Lts-weekly as weekly-lts
 use Rattle.hopeless.proofs.known.Reads as known-reads
 use Rattle.hopeless.proofs.remember.Reads as remember-reads
 use Rattle.reading.proofs.rest_week.Reads as rest-week-reads
@@ -59,8 +65,9 @@ use Rattle.steps.proofs.debt_of.Reads as debt-of-reads
 use Rattle.steps.proofs.debtor.Reads as debtor-reads
 use Rattle.steps.proofs.outstanding.Reads as outstanding-reads
 use Rattle.steps.proofs.overdue.Reads as overdue-reads
-use Rattle.search.proofs.+choose+count_in+daily+in_week+pay+pay_one+solve+tries+weekly.{statement}
-use Rattle.search.proofs.+choose+count_in+daily+in_week+pay+pay_one+solve+tries+weekly.Tie.{close}
+use Rattle.steps.proofs.settle.Reads as settle-reads
+use Rattle.search.proofs.+choose+count_in+daily+in_week+leave+move_up+pay+pay_one+solve+tries+weekly.{statement}
+use Rattle.search.proofs.+choose+count_in+daily+in_week+leave+move_up+pay+pay_one+solve+tries+weekly.Tie.{close}
 
 -- what is left of a question: the rests, then what is left of one
 abbrev left : ℕ → ℕ → ℕ → ℕ
@@ -77,6 +84,12 @@ abbrev μ-daily : Measures 5 daily-kinds.ps ℕ
 
 abbrev μ-in-week : Measures 5 in-week-kinds.ps ℕ
 μ-in-week κs a = left (length (a .0 .now)) (a .1 .1 .1 .1 .1 .1 .0) 2
+
+abbrev μ-leave : Measures 5 leave-kinds.ps ℕ
+μ-leave κs a = left (length (a .0 .now)) (a .1 .1 .1 .1 .1 .1 .0) 6
+
+abbrev μ-move-up : Measures 6 move-up-kinds.ps ℕ
+μ-move-up κs a = left (length (a .0 .now)) (a .1 .1 .1 .1 .1 .1 .0) 5
 
 abbrev μ-pay : Measures 5 pay-kinds.ps ℕ
 μ-pay κs a = left (length (a .0 .now)) (a .1 .1 .1 .1 .1 .1 .0) (500 + 2 * (a .1 .1 .1 .1 .1 .1 .0 - a .1 .1 .1 .1 .1 .1 .1 .0))
@@ -117,6 +130,18 @@ in-week-at t = and 5 in-week-kinds.ps (is 5 in-week-kinds.ps μ-in-week t) in-we
 
 abbrev in-week-below : ℕ → In 5 in-week-kinds.ps
 in-week-below t = and 5 in-week-kinds.ps (falls 5 in-week-kinds.ps _<_ μ-in-week t) in-week.Pre
+
+abbrev leave-at : ℕ → In 5 leave-kinds.ps
+leave-at t = and 5 leave-kinds.ps (is 5 leave-kinds.ps μ-leave t) leave.Pre
+
+abbrev leave-below : ℕ → In 5 leave-kinds.ps
+leave-below t = and 5 leave-kinds.ps (falls 5 leave-kinds.ps _<_ μ-leave t) leave.Pre
+
+abbrev move-up-at : ℕ → In 6 move-up-kinds.ps
+move-up-at t = and 6 move-up-kinds.ps (is 6 move-up-kinds.ps μ-move-up t) move-up.Pre
+
+abbrev move-up-below : ℕ → In 6 move-up-kinds.ps
+move-up-below t = and 6 move-up-kinds.ps (falls 6 move-up-kinds.ps _<_ μ-move-up t) move-up.Pre
 
 abbrev pay-at : ℕ → In 5 pay-kinds.ps
 pay-at t = and 5 pay-kinds.ps (is 5 pay-kinds.ps μ-pay t) pay.Pre
@@ -160,8 +185,14 @@ daily-calls t = (brief-reads.Asked, brief-reads.Learnt, after-daily-reads.Asked,
 abbrev in-week-calls : ℕ → in-week-lts.Claims
 in-week-calls t = (advance-reads.Asked, advance-reads.Learnt, rest-week-reads.Asked, rest-week-reads.Learnt, after-weekly-reads.Asked, after-weekly-reads.Learnt, count-in-below t, count-in.Post)
 
+abbrev leave-calls : ℕ → leave-lts.Claims
+leave-calls t = (move-up-below t, move-up.Post)
+
+abbrev move-up-calls : ℕ → move-up-lts.Claims
+move-up-calls t = (settle-reads.Asked, settle-reads.Learnt, choose-below t, choose.Post)
+
 abbrev pay-calls : ℕ → pay-lts.Claims
-pay-calls t = (debtor-reads.Asked, debtor-reads.Learnt, choose-below t, choose.Post, pay-one-below t, pay-one.Post, pay-below t, pay.Post)
+pay-calls t = (debtor-reads.Asked, debtor-reads.Learnt, leave-below t, leave.Post, pay-one-below t, pay-one.Post, pay-below t, pay.Post)
 
 abbrev pay-one-calls : ℕ → pay-one-lts.Claims
 pay-one-calls t = (pay-below t, pay.Post)
@@ -224,7 +255,7 @@ choose-weekly-requires-2 t c κs =
     let k = courseOf (now (s .args .starts)) (now (s .args .ends)) (now (s .args .promised)) (s .args .s) in
     let lies = s .pre .1 .0 .lies in
     let of-daily = c .before .before .before .before .before .before .before .before .daily in
-    (omega (arith, s .pre .0, s .pre .1 .2 .within), (law.relent k lies (s .pre .1 .0) (of-daily .kept .1 .1 .1 .1 .0) (of-daily .kept .1 .1 .1 .1 .1 .0), of-daily .ensures .sound, s .pre .1 .2, c .before .before .if4 .left))
+    (omega (arith, s .pre .0, s .pre .1 .2 .within), (law.relent k lies (s .pre .1 .0) (of-daily .ensures .same) (of-daily .kept .1 .1 .1 .1 .1 .0), of-daily .ensures .sound, s .pre .1 .2, c .before .before .if4 .left))
 
 choose-returns-5 : (t : ℕ) → choose-lts.Need-returns-5 (choose-calls t) (choose-at t) choose.Post
 choose-returns-5 t c =
@@ -251,17 +282,17 @@ count-in-solve-requires t c κs =
     let s = (c .before .before .before .before .before .before .before .before .before .before .before .before) in
     let k = courseOf (now (s .args .starts)) (now (s .args .ends)) (now (s .args .promised)) (s .args .s) in
     let lies = s .pre .1 .0 .lies in
-    (omega (arith, s .pre .0, s .pre .1 .2), (law.relent k lies (s .pre .1 .0) (length-set (now (s .args .owed)) (s .args .j) (c .before .before .outstanding .result)) refl, s .pre .1 .1, s .pre .1 .3))
+    (omega (arith, s .pre .0, s .pre .1 .2), (law.slot-put k lies (c .before .before .outstanding .result) (s .pre .1 .0), s .pre .1 .1, s .pre .1 .3))
 
 count-in-slice-write-owed-2 : (t : ℕ) → count-in-lts.Need-slice-write-owed-2 (count-in-calls t) (count-in-at t) count-in.Post
 count-in-slice-write-owed-2 t c =
     let s = (c .before .before .before .before .before .before .before .before .before .before .before .before .before .before .before .before .before) in
-    omega (arith, s .pre .1 .2, s .pre .1 .0 .owed-too, c .before .before .before .before .solve .kept .1 .1 .1 .1 .0, length-set (now (s .args .owed)) (s .args .j) (c .before .before .before .before .before .before .before .outstanding .result))
+    omega (arith, s .pre .1 .2, s .pre .1 .0 .below, s .pre .1 .0 .owed-too, c .before .before .before .before .solve .kept .1 .1 .1 .1 .0, length-set (now (s .args .owed)) (s .args .n) (c .before .before .before .before .before .before .before .outstanding .result))
 
 count-in-same-length : (t : ℕ) → count-in-lts.Need-same-length (count-in-calls t) (count-in-at t) count-in.Post
 count-in-same-length t c =
     let s = (c .before .before .before .before .before .before .before .before .before .before .before .before .before .before .before .before .before) in
-    simp length-set (c .before .before .before .before .solve .kept .1 .1 .1 .1 .0 ∙ length-set (now (s .args .owed)) (s .args .j) (c .before .before .before .before .before .before .before .outstanding .result))
+    simp length-set (c .before .before .before .before .solve .kept .1 .1 .1 .1 .0 ∙ length-set (now (s .args .owed)) (s .args .n) (c .before .before .before .before .before .before .before .outstanding .result))
 
 count-in-returns : (t : ℕ) → count-in-lts.Need-returns (count-in-calls t) (count-in-at t) count-in.Post
 count-in-returns t c =
@@ -271,7 +302,7 @@ count-in-returns t c =
     let of-outstanding = c .before .before .before .before .before .before .before .outstanding in
     let of-solve = c .before .before .before .before .solve in
     let d = debtOf (lengthAt k (s .args .j)) (s .args .load) (s .args .w) in
-    law.left-out k lies (s .args .j) (s .args .next) (now (s .args .owed)) (of-outstanding .result) d (s .pre .1 .2) (of-outstanding .ensures ∙ ap (λ (x : ℕ). pick (ltb (s .args .s) (dueOf x)) 0 x) (c .before .before .before .before .before .before .before .before .debt-of .ensures)) (law.back (now (s .args .owed)) (of-solve .last .1 .1 .1 .1 .0) (s .args .j) (of-outstanding .result) (of-solve .ensures))
+    law.left-out k lies (s .args .j) (s .args .next) (now (s .args .owed)) (of-outstanding .result) d (s .pre .1 .2) (of-outstanding .ensures ∙ ap (λ (x : ℕ). pick (ltb (s .args .s) (dueOf x)) 0 x) (c .before .before .before .before .before .before .before .before .debt-of .ensures)) (law.in-next-slot k lies (s .pre .1 .0) (s .pre .1 .2) (of-outstanding .result) (s .args .next) (law.back (now (s .args .owed)) (of-solve .last .1 .1 .1 .1 .0) (s .args .n) (of-outstanding .result) (of-solve .ensures)))
 
 daily-brief-requires : (t : ℕ) → daily-lts.Need-brief-requires (daily-calls t) (daily-at t) daily.Post
 daily-brief-requires t c κs =
@@ -297,7 +328,7 @@ daily-solve-requires t c κs =
     let s = (c .before .before .before .before .before .before .before .before .before .before .before) in
     let k = courseOf (now (s .args .starts)) (now (s .args .ends)) (now (s .args .promised)) (s .args .s) in
     let lies = s .pre .1 .0 .lies in
-    (omega (arith, s .pre .0, s .pre .1 .2 .within), (s .pre .1 .0, s .pre .1 .1, law.before-daily k lies (s .args .j) (s .args .here) (now (s .args .owed)) (s .args .load) (c .before .before .before .before .before .brief .ensures) (c .before .before .before .before .after-daily .ensures) (s .pre .1 .2) (c .before .before .if1 .left)))
+    (omega (arith, s .pre .0, s .pre .1 .2 .within), (law.slots-on k lies (s .pre .1 .0), s .pre .1 .1, law.before-daily k lies (s .args .j) (s .args .here) (now (s .args .owed)) (s .args .load) (c .before .before .before .before .before .brief .ensures) (c .before .before .before .before .after-daily .ensures) (s .pre .1 .2) (c .before .before .if1 .left)))
 
 daily-returns-2 : (t : ℕ) → daily-lts.Need-returns-2 (daily-calls t) (daily-at t) daily.Post
 daily-returns-2 t c =
@@ -358,6 +389,58 @@ in-week-returns-2 t c =
     let of-rest-week = c .before .before .before .before .before .before .before .before .before .before .before .rest-week in
     law.as-counted k lies (s .args .j) (s .args .here) (now (s .args .owed)) (s .args .load) (s .args .w) (of-rest-week .result) (leb (regularMinutes + s .args .load) (lengthAt k (s .args .j))) (c .before .before .before .before .before .before .before .before .before .before .before .before .before .before .before .advance .ensures) (c .before .before .before .before .before .before .before .before .before .before .before .before .before .there .given .1) (c .before .before .before .before .before .before .before .after-weekly .ensures) (of-rest-week .ensures) refl (c .before .before .before .before .count-in .ensures)
 
+leave-array-borrow-prefix-left : (t : ℕ) → leave-lts.Need-array-borrow-prefix-left (leave-calls t) (leave-at t) leave.Post
+leave-array-borrow-prefix-left t c =
+    let s = (c .before .before .before .before .before .before) in
+    s .pre .1 .0 .few
+
+leave-slice-aggregate-move-up : (t : ℕ) → leave-lts.Need-slice-aggregate-move-up (leave-calls t) (leave-at t) leave.Post
+leave-slice-aggregate-move-up t c =
+    let s = (c .before .before .before .before .before .before .before) in
+    sym (law.none-size (length (now (s .args .starts))) (s .pre .1 .0 .few))
+
+leave-move-up-requires : (t : ℕ) → leave-lts.Need-move-up-requires (leave-calls t) (leave-at t) leave.Post
+leave-move-up-requires t c κs =
+    let s = (c .before .before .before .before .before .before .before) in
+    (omega (arith, s .pre .0, s .pre .1 .2 .within), (s .pre .1 .0, s .pre .1 .1, s .pre .1 .2, s .pre .1 .3, law.none-size (length (now (s .args .starts))) (s .pre .1 .0 .few), law.none-zeros (length (now (s .args .starts)))))
+
+leave-same-length : (t : ℕ) → leave-lts.Need-same-length (leave-calls t) (leave-at t) leave.Post
+leave-same-length t c =
+    c .before .before .before .move-up .kept .1 .1 .1 .1 .1 .0
+
+leave-returns : (t : ℕ) → leave-lts.Need-returns (leave-calls t) (leave-at t) leave.Post
+leave-returns t c =
+    c .before .before .before .move-up .ensures
+
+move-up-settle-requires : (t : ℕ) → move-up-lts.Need-settle-requires (move-up-calls t) (move-up-at t) move-up.Post
+move-up-settle-requires t c κs =
+    let s = (c .before .before .before .before .before .before .before) in
+    (omega (arith, s .pre .1 .0 .below, s .pre .1 .0 .owed-too, s .pre .1 .2 .within), omega (arith, s .pre .1 .0 .below, s .pre .1 .2 .within, s .pre .1 .4), s .pre .1 .5, s .pre .1 .0 .unused)
+
+move-up-choose-requires : (t : ℕ) → move-up-lts.Need-choose-requires (move-up-calls t) (move-up-at t) move-up.Post
+move-up-choose-requires t c κs =
+    let s = (c .before .before .before .before .before .before .before .before .before .before .before .before) in
+    let k = courseOf (now (s .args .starts)) (now (s .args .ends)) (now (s .args .promised)) (s .args .s) in
+    let lies = s .pre .1 .0 .lies in
+    let of-settle = c .before .before .before .before .settle in
+    (omega (arith, s .pre .0, s .pre .1 .2 .within), (law.slots-left k lies (s .pre .1 .0) (of-settle .kept .1 .1 .0 ∙ s .pre .1 .4) (of-settle .ensures), s .pre .1 .1, s .pre .1 .2, s .pre .1 .3))
+
+move-up-same-length : (t : ℕ) → move-up-lts.Need-same-length (move-up-calls t) (move-up-at t) move-up.Post
+move-up-same-length t c =
+    c .before .before .before .before .choose .kept .1 .1 .1 .1 .1 .0
+
+move-up-same-length-2 : (t : ℕ) → move-up-lts.Need-same-length-2 (move-up-calls t) (move-up-at t) move-up.Post
+move-up-same-length-2 t c =
+    c .before .before .before .before .choose .kept .1 .1 .1 .1 .0 ∙ c .before .before .before .before .before .before .before .before .before .settle .kept .1 .1 .0
+
+move-up-returns : (t : ℕ) → move-up-lts.Need-returns (move-up-calls t) (move-up-at t) move-up.Post
+move-up-returns t c =
+    let s = (c .before .before .before .before .before .before .before .before .before .before .before .before .before .before .before .before .before) in
+    let k = courseOf (now (s .args .starts)) (now (s .args .ends)) (now (s .args .promised)) (s .args .s) in
+    let lies = s .pre .1 .0 .lies in
+    let of-settle = c .before .before .before .before .before .before .before .before .before .settle in
+    law.left-reads k lies (s .pre .1 .0) (of-settle .kept .1 .1 .0 ∙ s .pre .1 .4) (of-settle .ensures) (s .args .here) (s .args .load) (s .pre .1 .2 .within) (c .before .before .before .before .choose .ensures)
+
 pay-sub-debtor : (t : ℕ) → pay-lts.Need-sub-debtor (pay-calls t) (pay-at t) pay.Post
 pay-sub-debtor t c =
     let s = (c .before .before .before .before .before .before .before .before) in
@@ -367,26 +450,26 @@ pay-sub-debtor t c =
 pay-debtor-requires : (t : ℕ) → pay-lts.Need-debtor-requires (pay-calls t) (pay-at t) pay.Post
 pay-debtor-requires t c κs =
     let s = (c .before .before .before .before .before .before .before .before) in
-    (s .pre .1 .3, omega (arith, s .pre .1 .2 .within, s .pre .1 .0 .owed-too), omega (arith, s .pre .1 .4))
+    (s .pre .1 .3, omega (arith, s .pre .1 .2 .within, s .pre .1 .0 .below, s .pre .1 .0 .owed-too), omega (arith, s .pre .1 .4))
 
-pay-choose-requires : (t : ℕ) → pay-lts.Need-choose-requires (pay-calls t) (pay-at t) pay.Post
-pay-choose-requires t c κs =
+pay-leave-requires : (t : ℕ) → pay-lts.Need-leave-requires (pay-calls t) (pay-at t) pay.Post
+pay-leave-requires t c κs =
     let s = (c .before .before .before .before .before .before .before .before .before .before .before .before) in
     (omega (arith, s .pre .0, s .pre .1 .2 .within), (s .pre .1 .0, s .pre .1 .1, s .pre .1 .2, s .pre .1 .4))
 
 pay-returns : (t : ℕ) → pay-lts.Need-returns (pay-calls t) (pay-at t) pay.Post
 pay-returns t c =
-    let s = (c .before .before .before .before .before .before .before .before .before .before .before .before .before .before .before .before .before) in
+    let s = (c .before .before .before .before .before .before .before .before .before .before .before .before .before .before .before) in
     let k = courseOf (now (s .args .starts)) (now (s .args .ends)) (now (s .args .promised)) (s .args .s) in
-    law.none-fits (Reads k (Later k (s .args .j)) (s .args .j) (s .args .here)) (lengthAt k (s .args .j)) (s .args .load) (now (s .args .owed)) (c .before .before .before .before .before .before .before .before .debtor .ensures) (c .before .before .before .before .before .before .before .if1 .taken) (c .before .before .before .before .choose .ensures)
+    law.none-fits (Reads k (Later k (s .args .j)) (s .args .j) (s .args .here)) (lengthAt k (s .args .j)) (s .args .load) (now (s .args .owed)) (law.no-debtor (s .pre .1 .0 .below) (s .pre .1 .0 .unused) (c .before .before .before .before .before .before .debtor .ensures) (c .before .before .before .before .before .if1 .taken)) refl (c .before .before .leave .ensures)
 
 pay-pay-one-requires : (t : ℕ) → pay-lts.Need-pay-one-requires (pay-calls t) (pay-at t) pay.Post
 pay-pay-one-requires t c κs =
     let s = (c .before .before .before .before .before .before .before .before .before .before .before .before) in
     let lies = s .pre .1 .0 .lies in
     let of-debtor = c .before .before .before .debtor in
-    let lt : of-debtor .result < s .args .j = omega (arith, of-debtor .ensures .high, c .before .before .if1 .left) in
-    (omega (arith, s .pre .0, s .pre .1 .2 .within, s .pre .1 .0 .few, of-debtor .ensures .low), (s .pre .1 .0, s .pre .1 .1, s .pre .1 .2, lt, omega (arith, of-debtor .ensures .found lt .fits, (lies .judged (s .args .j) (s .pre .1 .2 .within)), s .pre .1 .0 .judged)))
+    let lt : of-debtor .result < s .args .n = omega (arith, of-debtor .ensures .high, c .before .before .if1 .left) in
+    (omega (arith, s .pre .0, s .pre .1 .2 .within, s .pre .1 .0 .few, s .pre .1 .0 .below, of-debtor .ensures .low, lt), (s .pre .1 .0, s .pre .1 .1, s .pre .1 .2, lt, omega (arith, of-debtor .ensures .found lt .fits, (lies .judged (s .args .j) (s .pre .1 .2 .within)), s .pre .1 .0 .judged)))
 
 pay-returns-2 : (t : ℕ) → pay-lts.Need-returns-2 (pay-calls t) (pay-at t) pay.Post
 pay-returns-2 t c =
@@ -394,8 +477,8 @@ pay-returns-2 t c =
     let k = courseOf (now (s .args .starts)) (now (s .args .ends)) (now (s .args .promised)) (s .args .s) in
     let of-debtor = c .before .before .before .before .before .before .before .before .before .debtor in
     let of-pay-one = c .before .before .before .before .before .pay-one in
-    let lt : of-debtor .result < s .args .j = omega (arith, of-debtor .ensures .high, c .before .before .before .before .before .before .before .before .if1 .left) in
-    law.accept (law.pays-first (Reads k (Later k (s .args .j)) (s .args .j) (s .args .here)) (lengthAt k (s .args .j)) (s .args .load) (now (s .args .owed)) (of-debtor .ensures) lt (of-pay-one .ensures .yes (c .if2 .taken))) (of-pay-one .ensures .same) (of-pay-one .ensures .sound)
+    let lt : of-debtor .result < s .args .n = omega (arith, of-debtor .ensures .high, c .before .before .before .before .before .before .before .before .if1 .left) in
+    law.accept (law.pays-first (Reads k (Later k (s .args .j)) (s .args .j) (s .args .here)) (lengthAt k (s .args .j)) (s .args .load) (now (s .args .owed)) (law.some-debtor (s .pre .1 .0 .below) (of-debtor .ensures) lt) (omega (arith, lt, s .pre .1 .0 .below)) (of-pay-one .ensures .yes (c .if2 .taken))) (of-pay-one .ensures .same) (of-pay-one .ensures .sound)
 
 pay-pay-requires : (t : ℕ) → pay-lts.Need-pay-requires (pay-calls t) (pay-at t) pay.Post
 pay-pay-requires t c κs =
@@ -404,8 +487,8 @@ pay-pay-requires t c κs =
     let lies = s .pre .1 .0 .lies in
     let of-debtor = c .before .before .before .before .before .before .before .before .before .before .before .debtor in
     let of-pay-one = c .before .before .before .before .before .before .before .pay-one in
-    let lt : of-debtor .result < s .args .j = omega (arith, of-debtor .ensures .high, c .before .before .before .before .before .before .before .before .before .before .if1 .left) in
-    (omega (arith, s .pre .0, s .pre .1 .2 .within, s .pre .1 .0 .few, of-debtor .ensures .low, lt), (law.relent k lies (s .pre .1 .0) (of-pay-one .kept .1 .1 .1 .1 .0) (of-pay-one .kept .1 .1 .1 .1 .1 .0), of-pay-one .ensures .sound, s .pre .1 .2, omega (arith, lt), s .pre .1 .4))
+    let lt : of-debtor .result < s .args .n = omega (arith, of-debtor .ensures .high, c .before .before .before .before .before .before .before .before .before .before .if1 .left) in
+    (omega (arith, s .pre .0, s .pre .1 .2 .within, s .pre .1 .0 .few, s .pre .1 .0 .below, of-debtor .ensures .low, lt), (law.relent k lies (s .pre .1 .0) (of-pay-one .ensures .same) (of-pay-one .kept .1 .1 .1 .1 .1 .0), of-pay-one .ensures .sound, s .pre .1 .2, omega (arith, lt), s .pre .1 .4))
 
 pay-returns-3 : (t : ℕ) → pay-lts.Need-returns-3 (pay-calls t) (pay-at t) pay.Post
 pay-returns-3 t c =
@@ -413,20 +496,20 @@ pay-returns-3 t c =
     let k = courseOf (now (s .args .starts)) (now (s .args .ends)) (now (s .args .promised)) (s .args .s) in
     let of-debtor = c .before .before .before .before .before .before .before .before .before .before .before .before .before .before .before .before .debtor in
     let of-pay-one = c .before .before .before .before .before .before .before .before .before .before .before .before .pay-one in
-    let lt : of-debtor .result < s .args .j = omega (arith, of-debtor .ensures .high, c .before .before .before .before .before .before .before .before .before .before .before .before .before .before .before .if1 .left) in
-    law.leaves-first (Reads k (Later k (s .args .j)) (s .args .j) (s .args .here)) (lengthAt k (s .args .j)) (s .args .load) (now (s .args .owed)) (of-debtor .ensures) lt (of-pay-one .ensures .no (c .before .before .before .before .before .before .before .if2 .left)) (law.again (λ (o : List ℕ). Pays (Reads k (Later k (s .args .j)) (s .args .j) (s .args .here)) (lengthAt k (s .args .j)) (s .args .j - (of-debtor .result + 1)) (of-debtor .result + 1) (s .args .load) o) (of-pay-one .ensures .same) (c .before .before .before .before .pay .ensures))
+    let lt : of-debtor .result < s .args .n = omega (arith, of-debtor .ensures .high, c .before .before .before .before .before .before .before .before .before .before .before .before .before .before .before .if1 .left) in
+    law.leaves-first (Reads k (Later k (s .args .j)) (s .args .j) (s .args .here)) (lengthAt k (s .args .j)) (s .args .load) (now (s .args .owed)) (law.some-debtor (s .pre .1 .0 .below) (of-debtor .ensures) lt) (omega (arith, lt, s .pre .1 .0 .below)) (of-pay-one .ensures .no (c .before .before .before .before .before .before .before .if2 .left)) (law.again (λ (o : List ℕ). Pays (Reads k (Later k (s .args .j)) (s .args .j) (s .args .here)) (lengthAt k (s .args .j)) (s .args .j - (of-debtor .result + 1)) (of-debtor .result + 1) (s .args .load) o) (of-pay-one .ensures .same) (c .before .before .before .before .pay .ensures))
 
 pay-one-pay-requires : (t : ℕ) → pay-one-lts.Need-pay-requires (pay-one-calls t) (pay-one-at t) pay-one.Post
 pay-one-pay-requires t c κs =
     let s = (c .before .before .before .before .before .before .before .before) in
     let k = courseOf (now (s .args .starts)) (now (s .args .ends)) (now (s .args .promised)) (s .args .s) in
     let lies = s .pre .1 .0 .lies in
-    (omega (arith, s .pre .0, s .pre .1 .2 .within, s .pre .1 .3), (law.relent k lies (s .pre .1 .0) (length-set (now (s .args .owed)) (s .args .d) 0) refl, s .pre .1 .1, s .pre .1 .2, omega (arith, s .pre .1 .3), s .pre .1 .4))
+    (omega (arith, s .pre .0, s .pre .1 .2 .within, s .pre .1 .3, s .pre .1 .0 .below), (law.slot-paid k lies (s .args .d) (s .pre .1 .3) (s .pre .1 .0), s .pre .1 .1, s .pre .1 .2, omega (arith, s .pre .1 .3), s .pre .1 .4))
 
 pay-one-slice-write-owed-2 : (t : ℕ) → pay-one-lts.Need-slice-write-owed-2 (pay-one-calls t) (pay-one-at t) pay-one.Post
 pay-one-slice-write-owed-2 t c =
     let s = (c .before .before .before .before .before .before .before .before .before .before .before .before .before) in
-    omega (arith, s .pre .1 .3, s .pre .1 .2 .within, s .pre .1 .0 .owed-too, c .before .before .before .before .pay .kept .1 .1 .1 .1 .0, length-set (now (s .args .owed)) (s .args .d) 0)
+    omega (arith, s .pre .1 .3, s .pre .1 .2 .within, s .pre .1 .0 .below, s .pre .1 .0 .owed-too, c .before .before .before .before .pay .kept .1 .1 .1 .1 .0, length-set (now (s .args .owed)) (s .args .d) 0)
 
 pay-one-same-length : (t : ℕ) → pay-one-lts.Need-same-length (pay-one-calls t) (pay-one-at t) pay-one.Post
 pay-one-same-length t c =
@@ -442,8 +525,8 @@ pay-one-returns t c =
 solve-closes-requires : (t : ℕ) → solve-lts.Need-closes-requires (solve-calls t) (solve-at t) solve.Post
 solve-closes-requires t c κs =
     let s = (c .before .before .before .before .before .before .before) in
-    let lies = s .pre .1 .0 .lies in
-    (s .pre .1 .0 .lies .ends-too, s .pre .1 .0 .judged, s .pre .1 .2 .small, s .pre .1 .2 .ended)
+    let k = courseOf (now (s .args .starts)) (now (s .args .ends)) (now (s .args .promised)) (s .args .s) in
+    (s .pre .1 .0 .lies, s .pre .1 .0 .judged, subst (λ (i : ℕ). Before k i (s .args .st)) (c .before .if1 .taken) (s .pre .1 .2), omega (arith, s .pre .1 .0 .below, s .pre .1 .0 .owed-too, s .pre .1 .2 .within), s .pre .1 .0 .unused)
 
 solve-returns : (t : ℕ) → solve-lts.Need-returns (solve-calls t) (solve-at t) solve.Post
 solve-returns t c =
@@ -509,12 +592,12 @@ solve-returns-5 t c =
 tries-known-requires : (t : ℕ) → tries-lts.Need-known-requires (tries-calls t) (tries-at t) tries.Post
 tries-known-requires t c κs =
     let s = (c .before .before .before .before .before .before .before) in
-    omega (arith, s .pre .1 .2 .within, s .pre .1 .0 .room)
+    (omega (arith, s .pre .1 .2 .within, s .pre .1 .0 .room), omega (arith, s .pre .1 .0 .below, s .pre .1 .0 .owed-too, s .pre .1 .2 .within))
 
 tries-returns : (t : ℕ) → tries-lts.Need-returns (tries-calls t) (tries-at t) tries.Post
 tries-returns t c =
     let s = (c .before .before .before .before .before .before .before .before .before) in
-    law.refuse (s .pre .1 .1 .hopeless (s .args .j) (s .args .here) (now (s .args .owed)) (s .pre .1 .2 .within) (s .pre .1 .2 .week) (s .pre .1 .0 .owed-too) (c .before .known .ensures (c .if1 .taken))) refl (s .pre .1 .1)
+    law.refuse (s .pre .1 .1 .hopeless (s .args .j) (s .args .here) (now (s .args .owed)) (s .pre .1 .2 .within) (s .pre .1 .2 .week) (s .pre .1 .0 .owed-too) (λ x l. s .pre .1 .0 .unused x (omega (arith, l, s .pre .1 .0 .below))) (c .before .known .ensures (c .if1 .taken))) refl (s .pre .1 .1)
 
 tries-pay-requires : (t : ℕ) → tries-lts.Need-pay-requires (tries-calls t) (tries-at t) tries.Post
 tries-pay-requires t c κs =
@@ -532,7 +615,7 @@ tries-remember-requires : (t : ℕ) → tries-lts.Need-remember-requires (tries-
 tries-remember-requires t c κs =
     let s = (c .before .before .before .before .before .before .before .before .before .before .before .before .before .before .before .before .before .before .before .before) in
     let of-pay = c .before .before .before .before .before .before .before .pay in
-    (omega (arith, s .pre .1 .2 .within, s .pre .1 .0 .room, of-pay .kept .1 .1 .1 .1 .1 .0), omega (arith, s .pre .1 .0 .owed-too, s .pre .1 .0 .few, of-pay .kept .1 .1 .1 .1 .0))
+    (omega (arith, s .pre .1 .2 .within, s .pre .1 .0 .room, of-pay .kept .1 .1 .1 .1 .1 .0), omega (arith, s .pre .1 .2 .within, s .pre .1 .0 .below, s .pre .1 .0 .owed-too, of-pay .kept .1 .1 .1 .1 .0), omega (arith, s .pre .1 .0 .owed-too, s .pre .1 .0 .few, of-pay .kept .1 .1 .1 .1 .0), λ x l. ap (λ (o : List ℕ). at o x) (of-pay .ensures .same) ∙ s .pre .1 .0 .unused x l)
 
 tries-returns-3 : (t : ℕ) → tries-lts.Need-returns-3 (tries-calls t) (tries-at t) tries.Post
 tries-returns-3 t c =
@@ -542,15 +625,15 @@ tries-returns-3 t c =
     let of-pay = c .before .before .before .before .before .before .before .before .before .before .pay in
     let of-remember = c .before .before .remember in
     let nay : Tries k (Later k (s .args .j)) (s .args .j) (s .args .here) (now (s .args .owed)) → ⊥ = λ h. of-pay .ensures .no (c .before .before .before .before .before .if2 .left) (law.debts-all (Reads k (Later k (s .args .j)) (s .args .j) (s .args .here)) (lengthAt k (s .args .j)) (at (now (s .args .promised)) (s .args .j)) (now (s .args .owed)) (s .args .j) h) in
-    law.refuse nay (of-pay .ensures .same) (law.sound-on k lies (of-pay .last .1 .1 .1 .1 .1 .0) (of-remember .last .0) (s .args .j) (s .args .here) (now (s .args .owed)) (s .pre .1 .2 .within) (s .pre .1 .2 .week) (s .pre .1 .0 .owed-too) (of-pay .ensures .sound) (subst (λ (o : List ℕ). Remembered (of-pay .last .1 .1 .1 .1 .1 .0) (of-remember .last .0) (s .args .j) (s .args .here) o) (of-pay .ensures .same) (of-remember .ensures)) nay)
+    law.refuse nay (of-pay .ensures .same) (law.sound-on k lies (of-pay .last .1 .1 .1 .1 .1 .0) (of-remember .last .0) (s .args .j) (s .args .here) (now (s .args .owed)) (s .pre .1 .2 .within) (s .pre .1 .2 .week) (s .pre .1 .0 .owed-too) (λ x l. s .pre .1 .0 .unused x (omega (arith, l, s .pre .1 .0 .below))) (of-pay .ensures .sound) (subst (λ (o : List ℕ). Remembered (of-pay .last .1 .1 .1 .1 .1 .0) (of-remember .last .0) (s .args .j) (s .args .here) o) (of-pay .ensures .same) (of-remember .ensures)) nay)
 
 abbrev weekly-Inv-loop : weekly-lts.InvT-loop
-weekly-Inv-loop starts ends promised s owed₀ table₀ j load here end w₀ owed table w =
+weekly-Inv-loop starts ends promised s owed₀ table₀ j load here n end w₀ owed table w =
     (owed ≡ owed₀) × (length table ≡ length table₀) × (Sound (courseOf starts ends promised s) table) × (w₀ ≤ w) × (weekStart w ≤ end + weekMinutes) ×
     ((x : ℕ) → w₀ ≤ x → x < w → Counted (courseOf starts ends promised s) (Later (courseOf starts ends promised s) j) j here x load owed₀ → ⊥)
 
 abbrev weekly-μ-loop : weekly-lts.MeasureT-loop
-weekly-μ-loop starts ends promised s owed₀ table₀ j load here end w₀ owed table w = end + weekMinutes - weekStart w
+weekly-μ-loop starts ends promised s owed₀ table₀ j load here n end w₀ owed table w = end + weekMinutes - weekStart w
 
 weekly-loop-holds : (t : ℕ) → weekly-lts.Need-loop-holds (weekly-calls t) (weekly-at t) weekly.Post weekly-Inv-loop weekly-μ-loop
 weekly-loop-holds t c =
@@ -570,7 +653,7 @@ weekly-in-week-requires t c κs =
     let k = courseOf (now (s .args .starts)) (now (s .args .ends)) (now (s .args .promised)) (s .args .s) in
     let lies = s .pre .1 .0 .lies in
     let i = c .before .before .before .loop .inv in
-    (omega (arith, s .pre .0, s .pre .1 .2 .within), (law.relent k lies (s .pre .1 .0) (ap length (i .0)) (i .1), i .2, s .pre .1 .2, s .pre .1 .3, omega (arith, i .3), c .before .before .loop-test .taken))
+    (omega (arith, s .pre .0, s .pre .1 .2 .within), (law.relent k lies (s .pre .1 .0) (i .0) (i .1), i .2, s .pre .1 .2, s .pre .1 .3, omega (arith, i .3), c .before .before .loop-test .taken))
 
 weekly-returns : (t : ℕ) → weekly-lts.Need-returns (weekly-calls t) (weekly-at t) weekly.Post weekly-Inv-loop weekly-μ-loop
 weekly-returns t c =
@@ -601,13 +684,15 @@ weekly-returns-2 t c =
     let i = c .before .loop .inv in
     law.refuse (λ h. i .5 (h .week) (omega (arith, h .from)) (omega (arith, h .upto, c .loop-test .left)) (h .then)) (i .0) (i .2)
 
-pub +choose+count-in+daily+in-week+pay+pay-one+solve+tries+weekly-spec : {M : Type 1} → statement M
-+choose+count-in+daily+in-week+pay+pay-one+solve+tries+weekly-spec =
+pub +choose+count-in+daily+in-week+leave+move-up+pay+pay-one+solve+tries+weekly-spec : {M : Type 1} → statement M
++choose+count-in+daily+in-week+leave+move-up+pay+pay-one+solve+tries+weekly-spec =
     close
     μ-choose
     μ-count-in
     μ-daily
     μ-in-week
+    μ-leave
+    μ-move-up
     μ-pay
     μ-pay-one
     μ-solve
@@ -651,6 +736,7 @@ pub +choose+count-in+daily+in-week+pay+pay-one+solve+tries+weekly-spec : {M : Ty
     (λ c. search needs)
     (λ c. search needs)
     (λ c. search needs)
+    (λ c. search needs)
     (count-in-solve-requires t)
     (λ c. search needs)
     (count-in-slice-write-owed-2 t)
@@ -685,6 +771,18 @@ pub +choose+count-in+daily+in-week+pay+pay-one+solve+tries+weekly-spec : {M : Ty
     (λ c. search needs)
     (λ c. search needs)
     (in-week-returns-2 t))
+    (λ t. leave-lts.spec (leave-calls t) (leave-at t) leave.Post
+    (leave-array-borrow-prefix-left t)
+    (leave-slice-aggregate-move-up t)
+    (leave-move-up-requires t)
+    (leave-same-length t)
+    (leave-returns t))
+    (λ t. move-up-lts.spec (move-up-calls t) (move-up-at t) move-up.Post
+    (move-up-settle-requires t)
+    (move-up-choose-requires t)
+    (move-up-same-length t)
+    (move-up-same-length-2 t)
+    (move-up-returns t))
     (λ t. pay-lts.spec (pay-calls t) (pay-at t) pay.Post
     (λ c. search needs)
     (λ c. search needs)
@@ -692,7 +790,7 @@ pub +choose+count-in+daily+in-week+pay+pay-one+solve+tries+weekly-spec : {M : Ty
     (λ c. search needs)
     (pay-sub-debtor t)
     (pay-debtor-requires t)
-    (pay-choose-requires t)
+    (pay-leave-requires t)
     (λ c. search needs)
     (λ c. search needs)
     (pay-returns t)
