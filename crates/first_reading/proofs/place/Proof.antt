@@ -23,8 +23,8 @@ advance-requires c κs =
 
 returns : tie.Need-returns
 returns c =
-    let s = (c .before .before .before .before .before .before .before .before .before .before) in let k = courseOf (now (s .args .starts)) (now (s .args .ends)) (now (s .args .promised)) (s .args .s) in
-    stepped-broken k (s .args .j) (s .args .st) (now (s .args .owed)) (now (s .args .table)) (s .pre .0) (s .pre .2) (s .pre .3) (now (s .args .reading)) (c .before .before .advance .ensures) (c .enum-told .given .1)
+    let s = (c .before .before .before .before .before .before .before .before .before .before .before .before) in let k = courseOf (now (s .args .starts)) (now (s .args .ends)) (now (s .args .promised)) (s .args .s) in
+    stepped-broken k (s .args .j) (s .args .st) (now (s .args .owed)) (now (s .args .table)) (s .pre .0) (s .pre .2) (s .pre .3) (now (s .args .reading)) (c .before .before .before .before .advance .ensures) (c .before .before .enum-told .given .1) (c .best-state .ensures)
 
 sub-if1 : tie.Need-sub-if1
 sub-if1 c = let s = (c .before .before .before .before .before .before .before .before .before .before .before .before .before) in omega (arith, s .pre .0 .lies .proper (s .args .j) (s .pre .3))
@@ -104,6 +104,9 @@ place-spec =
     advance-requires
     (λ c. search needs)
     (λ c. search needs)
+    (λ c. search needs)
+    (λ c. search needs)
+    (λ c κs. search needs)
     returns
     (λ c. search needs)
     (λ c. search needs)

@@ -2,7 +2,8 @@
 use mathlib.Core.Path.{sym}
 use lib.ListN.{length}
 use denote.Ref.{now}
-use Rattle.first_reading.proofs.Placing.{none-size, none-zeros, lent-start}
+use Rattle.search.proofs.Answers.{none-size, none-zeros}
+use Rattle.first_reading.proofs.Placing.{lent-start}
 use borrow.Author.Needs.{needs}
 use Rattle.first_reading.proofs.write_first.Statement.{statement}
 use Rattle.first_reading.proofs.write_first.Tie as tie
