@@ -4,7 +4,7 @@ use mathlib.Core.Logic.{_⊎_, inl, inr}
 use mathlib.Core.Bool.{Bool, true, false, not}
 use mathlib.Core.List.{List, [], _∷_, map}
 use mathlib.Core.Option.{Option, none, some}
-use Prim.Native.Nat.{ℕ, zero, suc, _+_, _*_, _≤_, _<_, min}
+use Prim.Native.Nat.{ℕ, zero, suc, _+_, _*_, _≤_, _<_, min, zero-le}
 use native.Mathlib.Nat.{le-refl, le-trans}
 use native.Mathlib.Omega.{arith}
 use lib.Dec.{eqb}
@@ -80,6 +80,8 @@ module _ (starts ends promised owed : List ℕ) (s : ℕ) (lies : Lies (restsOnl
     judged = bound;
     promised-low = λ i. let z = none-promised i in omega arith;
     room = omega (arith, few, room);
+    below = zero-le;
+    unused = λ x _. none-owed x;
   }
 
   pub some-reading : {r : Bool} {owed′ table : List ℕ}
