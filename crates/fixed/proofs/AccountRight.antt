@@ -193,7 +193,7 @@ pub record DayRight (ys : List ℕ) (y : Day) : Type 0 where
   pub extended : y .extended ≡ extendedIn ys (weekOf (dayStart ys))
 
 -- a day passes 540 at the minute that finds it there
-passes : (b : Bool) (t : ℕ) → one (ltb ordinaryDay t) + one (b and eqb t ordinaryDay) ≡ one (ltb ordinaryDay (one b + t))
+pub passes : (b : Bool) (t : ℕ) → one (ltb ordinaryDay t) + one (b and eqb t ordinaryDay) ≡ one (ltb ordinaryDay (one b + t))
 unfolding _and_
 passes false t = let e : t ≡ 0 + t = omega arith in omega (arith, ap (λ (n : ℕ). one (ltb ordinaryDay n)) e)
 passes true t = at (ltb ordinaryDay t) (eqb t ordinaryDay) refl refl

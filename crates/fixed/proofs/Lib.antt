@@ -4,4 +4,5 @@ pub mod DayEnds
 pub mod Rules
 pub mod AccountRight
 pub mod Steps
+pub mod PartRight
 pub mod Surveying

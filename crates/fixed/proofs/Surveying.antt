@@ -3,6 +3,7 @@ use mathlib.Core.Path.{_≡_, refl, sym, ap, ap₂, _∙_}
 use mathlib.Core.Bool.{Bool, true, false}
 use mathlib.Core.List.{List, [], _∷_, _++_}
 use Prim.Native.Nat.{ℕ, zero, suc, _+_, _-_, _≤_, _<_, min}
+use native.Mathlib.Nat.{zero-add, suc-add}
 use native.Mathlib.Numerals.{add-one, sub-one}
 use native.Mathlib.Omega.{arith}
 use lib.Dec.{ltb}
@@ -34,6 +35,11 @@ unfolding accountFrom
 account-append s [] ys = refl
 account-append s (x ∷ xs) ys = account-append (minuteAfter s x) xs ys
 
+account-runs : (k n a : ℕ) (s : Account) → accountFrom s (replicate (k + n) a) ≡ accountFrom (accountFrom s (replicate k a)) (replicate n a)
+unfolding accountFrom
+account-runs zero n a s = rw zero-add refl
+account-runs (suc k) n a s = rw suc-add (account-runs k n a (minuteAfter s a))
+
 -- n minutes are to come to r, of which left are left from t
 pub record Running (r : Account) (n a left : ℕ) (t : Account) : Type 0 where
   pub bounded : Bounded t
@@ -41,18 +47,17 @@ pub record Running (r : Account) (n a left : ℕ) (t : Account) : Type 0 where
   pub now : t .now + left ≡ n
   pub same : r ≡ accountFrom t (replicate left a)
 
-pub run-on : {r : Account} {n a left : ℕ} {t u : Account} → Running r n a left t → 0 < left → u ≡ minuteAfter t a → Bounded u → u .now ≡ t .now + 1
-    → Running r n a (left - 1) u
-unfolding accountFrom
-run-on {left = zero} k h e b g = absurd (omega arith)
-run-on {a = a} {left = suc left} k h e b g =
-    let z : suc left - 1 ≡ left = omega arith in
-    rw z (record {
-      bounded = b;
-      room = omega (arith, k .room);
-      now = omega (arith, k .now);
-      same = k .same ∙ ap (λ (x : Account). accountFrom x (replicate left a)) (sym e);
-    })
+pub run-on : {r : Account} {n a left k : ℕ} {t u : Account} → Running r n a left t → k ≤ left → Ran t a k u → Running r n a (left - k) u
+run-on {a = a} {left = left} {k = k} {t = t} g h e =
+    let z : left ≡ k + (left - k) = omega arith in
+    record {
+      bounded = e .bounded;
+      room = omega (arith, g .room, e .now);
+      now = omega (arith, g .now, e .now);
+      same =
+          g .same ∙ ap (λ (x : ℕ). accountFrom t (replicate x a)) z ∙ account-runs k (left - k) a t
+          ∙ ap (λ (x : Account). accountFrom x (replicate (left - k) a)) (sym (e .is));
+    }
 
 pub run-done : {s : Account} {n a left : ℕ} {t : Account} → Running (accountFrom s (replicate n a)) (s .now + n) a left t → left ≤ 0 → Ran s a n t
 unfolding accountFrom

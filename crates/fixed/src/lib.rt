@@ -7,10 +7,11 @@ ghost use Prim.Native.Nat.{_+_, _<_, _≤_, min};
 ghost use lib.ListN.{length};
 ghost use Rattle.recording.specs.Words.{minutesOf};
 ghost use Rattle.recording.specs.Operations.{totalAtMost};
-ghost use Rattle.rules.specs.Fixed.{rested, drove};
+ghost use Rattle.rules.specs.Fixed.{rested};
 ghost use Rattle.rules.specs.Operations.{fixedTested};
-ghost use Rattle.fixed.specs.Account.{dayAfter, dayWith, weekWith, weekNext, brokenAt, smaller, firstBreak, minuteAfter};
+ghost use Rattle.fixed.specs.Account.{dayAfter, weekNext, brokenAt, smaller, firstBreak};
 ghost use Rattle.fixed.specs.Walk.{Bounded, Ran, Surveyed, tested};
+ghost use Rattle.fixed.specs.Parts.{drivingOf, inWeek, drivenMore, dayMore, weekMore, partAfter, sameBreaches, Taken};
 
 // The day that runs: its start P, its driving, and how many days that began in its week were extended.
 pub struct Day {
@@ -42,6 +43,12 @@ pub struct Account {
     pub week: Week,
     pub rule: u32,
     pub first: Break,
+}
+
+// A part of a run: its minutes, and the account after it.
+pub struct Part {
+    pub minutes: u32,
+    pub account: Account,
 }
 
 // What one walk finds: the place at its end, with the long rests' count, and the account.
@@ -107,20 +114,6 @@ pub fn rested_for(n: u32, d: Driven) -> Driven
     }
 }
 
-// Rule 1: the driving sum after a minute that is not rest.
-pub fn drove_one(activity: u32, d: Driven) -> Driven
-    requires { ⌜ d .sum ≤ totalAtMost ⌝ }
-    ensures { λ r. ⌜ r ≡ drove activity d ⌝ }
-{
-    match activity {
-        3 => Driven {
-            sum: d.sum + 1,
-            split: d.split,
-        },
-        _ => d,
-    }
-}
-
 // Rules 2 and 5: the day that runs after a rest of n minutes that ended now, in the week that ends at `end`.
 pub fn day_after(n: u32, now: u32, end: u32, d: Day) -> Day
     requires { ⌜ d .start ≤ totalAtMost ⌝ }
@@ -143,42 +136,63 @@ pub fn day_after(n: u32, now: u32, end: u32, d: Day) -> Day
     }
 }
 
-// Rule 2: the day with a minute more.
-pub fn day_with(activity: u32, d: Day) -> Day
-    requires { ⌜ (d .driving ≤ totalAtMost) × (d .extended ≤ totalAtMost) ⌝ }
-    ensures { λ r. ⌜ r ≡ dayWith activity d ⌝ }
+// How many of n minutes of an activity are driving.
+pub fn driving_of(activity: u32, n: u32) -> u32
+    ensures { λ r. ⌜ r ≡ drivingOf activity n ⌝ }
 {
     match activity {
-        3 => {
-            if d.driving == ORDINARY_DAY {
-                return Day {
-                    start: d.start,
-                    driving: d.driving + 1,
-                    extended: d.extended + 1,
-                };
-            }
-            Day {
-                start: d.start,
-                driving: d.driving + 1,
-                extended: d.extended,
-            }
-        }
-        _ => d,
+        3 => n,
+        _ => 0,
     }
 }
 
-// Rules 3 and 4: the week with a minute more, and the next week where one ends now.
-pub fn week_with(activity: u32, w: Week) -> Week
-    requires { ⌜ w .driving ≤ totalAtMost ⌝ }
-    ensures { λ r. ⌜ r ≡ weekWith activity w ⌝ }
+// Rule 1: the driving sum with k minutes more.
+pub fn driven_more(k: u32, d: Driven) -> Driven
+    requires { ⌜ d .sum + k ≤ totalAtMost ⌝ }
+    ensures { λ r. ⌜ r ≡ drivenMore k d ⌝ }
 {
-    match activity {
-        3 => Week {
-            end: w.end,
-            driving: w.driving + 1,
-            last: w.last,
-        },
-        _ => w,
+    Driven {
+        sum: d.sum + k,
+        split: d.split,
+    }
+}
+
+// Rule 2: the day with k minutes of driving more.
+pub fn day_more(k: u32, d: Day) -> Day
+    requires { ⌜ (d .driving + k ≤ totalAtMost) × (d .extended ≤ totalAtMost) ⌝ }
+    ensures { λ r. ⌜ r ≡ dayMore k d ⌝ }
+{
+    let driving = d.driving + k;
+    if ORDINARY_DAY < d.driving {
+        return Day {
+            start: d.start,
+            driving: driving,
+            extended: d.extended,
+        };
+    }
+    if ORDINARY_DAY < driving {
+        return Day {
+            start: d.start,
+            driving: driving,
+            extended: d.extended + 1,
+        };
+    }
+    Day {
+        start: d.start,
+        driving: driving,
+        extended: d.extended,
+    }
+}
+
+// Rules 3 and 4: the week with k minutes of driving more, and the next week where one ends now.
+pub fn week_more(k: u32, w: Week) -> Week
+    requires { ⌜ w .driving + k ≤ totalAtMost ⌝ }
+    ensures { λ r. ⌜ r ≡ weekMore k w ⌝ }
+{
+    Week {
+        end: w.end,
+        driving: w.driving + k,
+        last: w.last,
     }
 }
 
@@ -198,7 +212,7 @@ pub fn week_next(now: u32, w: Week) -> Week
 
 // The smallest rule that is broken at the minute that ends now, or 0.
 pub fn broken_at(now: u32, d: Driven, y: Day, w: Week) -> u32
-    requires { ⌜ (y .start ≤ totalAtMost) × (w .last ≤ totalAtMost) × (w .driving ≤ totalAtMost + 1) ⌝ }
+    requires { ⌜ (y .start ≤ totalAtMost) × (w .last ≤ totalAtMost) × (w .driving ≤ totalAtMost) ⌝ }
     ensures { λ r. ⌜ r ≡ brokenAt now d y w ⌝ }
 {
     if SPELL < d.sum {
@@ -251,12 +265,13 @@ pub fn first_break(f: Break, now: u32, b: u32) -> Break
     f
 }
 
-// The account after a minute of this activity.
-pub fn minute(s: Account, activity: u32) -> Account
-    requires { ⌜ Bounded s × (s .now < totalAtMost) ⌝ }
-    ensures { λ r. ⌜ r ≡ minuteAfter s activity ⌝ }
+// The account after a part of a run, n minutes of this activity: no week ends before the last, and they are one minute or change
+// nothing that is broken.
+pub fn part_after(s: Account, activity: u32, n: u32) -> Account
+    requires { ⌜ Bounded s × (s .now + n ≤ totalAtMost) ⌝ }
+    ensures { λ r. ⌜ r ≡ partAfter s activity n ⌝ }
 {
-    let now = s.now + 1;
+    let now = s.now + n;
     let driven = s.driven;
     let day = s.day;
     let week = s.week;
@@ -273,9 +288,10 @@ pub fn minute(s: Account, activity: u32) -> Account
         },
         _ => {
             let rest = s.now - s.from;
-            let d = drove_one(activity, rested_for(rest, driven));
-            let y = day_with(activity, day_after(rest, s.now, week.end, day));
-            let w = week_with(activity, week);
+            let k = driving_of(activity, n);
+            let d = driven_more(k, rested_for(rest, driven));
+            let y = day_more(k, day_after(rest, s.now, week.end, day));
+            let w = week_more(k, week);
             let b = broken_at(now, d, y, w);
             Account {
                 now: now,
@@ -290,18 +306,16 @@ pub fn minute(s: Account, activity: u32) -> Account
     }
 }
 
-// The account after a run of n minutes of one activity.
-pub fn run(s: Account, activity: u32, n: u32) -> Account
-    requires { ⌜ Bounded s × (s .now + n ≤ totalAtMost) ⌝ }
-    ensures { λ r. ⌜ Ran s activity n r ⌝ }
+// Whether two accounts have the same smallest broken rule, and the same first one.
+pub fn same_breaches(s: Account, t: Account) -> bool
+    ensures { λ r. ⌜ r ≡ sameBreaches s t ⌝ }
 {
-    let mut t = s;
-    let mut left = n;
-    while 0 < left {
-        left -= 1;
-        t = minute(t, activity);
+    let a = s.first;
+    let b = t.first;
+    if s.rule == t.rule {
+        return a.rule == b.rule;
     }
-    t
+    false
 }
 
 // The lesser of two numbers.
@@ -312,6 +326,54 @@ pub fn lesser(a: u32, b: u32) -> u32
         return a;
     }
     b
+}
+
+// How many of n minutes after `now` are in the week that ends at `end`, and one where there is none.
+pub fn in_week(now: u32, end: u32, n: u32) -> u32
+    ensures { λ r. ⌜ r ≡ inWeek now end n ⌝ }
+{
+    if end <= now {
+        return lesser(n, 1);
+    }
+    lesser(n, end - now)
+}
+
+// The next part of a run of n minutes: those of one week, halved until they change nothing that is broken or one is left.
+pub fn next_part(s: Account, activity: u32, n: u32) -> Part
+    requires { ⌜ Bounded s × (s .now + n ≤ totalAtMost) × (0 < n) ⌝ }
+    ensures { λ r. ⌜ Taken s activity n r ⌝ }
+{
+    let week = s.week;
+    let mut k = in_week(s.now, week.end, n);
+    while 1 < k {
+        let t = part_after(s, activity, k);
+        if same_breaches(s, t) {
+            return Part {
+                minutes: k,
+                account: t,
+            };
+        }
+        k = k / 2;
+    }
+    Part {
+        minutes: 1,
+        account: part_after(s, activity, 1),
+    }
+}
+
+// The account after a run of n minutes of one activity.
+pub fn run(s: Account, activity: u32, n: u32) -> Account
+    requires { ⌜ Bounded s × (s .now + n ≤ totalAtMost) ⌝ }
+    ensures { λ r. ⌜ Ran s activity n r ⌝ }
+{
+    let mut t = s;
+    let mut left = n;
+    while 0 < left {
+        let part = next_part(t, activity, left);
+        left -= part.minutes;
+        t = part.account;
+    }
+    t
 }
 
 // One walk over the first m minutes: the long rests' starts and ends into the lent slices as far as they reach, the place and

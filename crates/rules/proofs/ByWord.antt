@@ -38,7 +38,7 @@ spellBy d k [] = true
 spellBy d k (w ∷ ws) = spellRun (minutesIn w) (activityIn w) d k (λ e m. spellBy e m ws)
 
 -- no rest changes nothing
-not-rested : (d : Driven) → rested 0 d ≡ d
+pub not-rested : (d : Driven) → rested 0 d ≡ d
 unfolding rested _and_ _or_
 not-rested d = refl
 

@@ -5,7 +5,6 @@ use borrow.Author.Needs.{needs}
 use Prim.Native.Nat.{_+_, _-_}
 use lib.ListN.{replicate}
 use Rattle.fixed.specs.Account.{accountFrom}
-use Rattle.fixed.proofs.Steps.{minute-bounded, minute-now}
 use Rattle.fixed.proofs.Surveying.{Running, run-on, run-done}
 use Rattle.fixed.proofs.run.Statement.{statement}
 use Rattle.fixed.proofs.run.Tie as tie
@@ -19,11 +18,11 @@ abbrev μ-loop : tie.MeasureT-loop
 loop-holds : tie.Need-loop-holds Inv-loop μ-loop
 loop-holds c = record { bounded = c .pre .0; room = c .pre .1; now = refl; same = refl }
 
-minute-requires : tie.Need-minute-requires Inv-loop μ-loop
-minute-requires c κs = (c .before .loop .inv .bounded, omega arith)
+next-part-requires : tie.Need-next-part-requires Inv-loop μ-loop
+next-part-requires c κs = (c .before .loop .inv .bounded, c .before .loop .inv .room, omega arith)
 
 loop-again : tie.Need-loop-again Inv-loop μ-loop
-loop-again c = run-on (c .before .before .loop .inv) (omega arith) (c .minute .ensures) (rw (c .minute .ensures) (minute-bounded _ (c .before .before .loop .inv .bounded) _)) (rw (c .minute .ensures) (minute-now _ _))
+loop-again c = run-on (c .before .before .before .before .loop .inv) (c .before .before .next-part .ensures .within) (c .before .before .next-part .ensures .ran)
 
 returns : tie.Need-returns Inv-loop μ-loop
 returns c = run-done (c .before .loop .inv) (omega arith)
@@ -35,8 +34,8 @@ run-spec =
     Inv-loop
     μ-loop
     loop-holds
+    next-part-requires
     (λ c. search needs)
-    minute-requires
     (λ c. search needs)
     loop-again
     returns)
