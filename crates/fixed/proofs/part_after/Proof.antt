@@ -10,19 +10,19 @@ use Rattle.fixed.proofs.part_after.Statement.{statement}
 use Rattle.fixed.proofs.part_after.Tie as tie
 
 driven-more-requires : tie.Need-driven-more-requires
-driven-more-requires c κs = rw (c .rested-for .ensures, c .before .driving-of .ensures) (omega (arith, driving-most ((c .before .before .before .before .before .before .before .before .before) .args .activity) ((c .before .before .before .before .before .before .before .before .before) .args .n), rested-bounded ((c .before .before .before .before .before .before .before .before .before) .args .s .now - (c .before .before .before .before .before .before .before .before .before) .args .s .from) ((c .before .before .before .before .before .before .before .before .before) .args .s .driven) _ ((c .before .before .before .before .before .before .before .before .before) .pre .0 .sum)))
+driven-more-requires c κs = let z = (c .before .before .before .before .before .before .before .before .before) in rw (c .rested-for .ensures, c .before .driving-of .ensures) (omega (arith, driving-most (z .args .activity) (z .args .n), rested-bounded (z .args .s .now - z .args .s .from) (z .args .s .driven) _ (z .pre .0 .sum)))
 
 day-more-requires : tie.Need-day-more-requires
-day-more-requires c κs = let k = day-after-bounded ((c .before .before .before .before .before .before .before .before .before .before .before) .args .s .now - (c .before .before .before .before .before .before .before .before .before .before .before) .args .s .from) ((c .before .before .before .before .before .before .before .before .before .before .before) .args .s .now) ((c .before .before .before .before .before .before .before .before .before .before .before) .args .s .week .end) ((c .before .before .before .before .before .before .before .before .before .before .before) .args .s .day) (its-day _ ((c .before .before .before .before .before .before .before .before .before .before .before) .pre .0)) in let n = driving-most ((c .before .before .before .before .before .before .before .before .before .before .before) .args .activity) ((c .before .before .before .before .before .before .before .before .before .before .before) .args .n) in rw (c .day-after .ensures, c .before .before .before .driving-of .ensures) (omega (arith, k .driving), omega (arith, k .extended))
+day-more-requires c κs = let z = (c .before .before .before .before .before .before .before .before .before .before .before) in let k = day-after-bounded (z .args .s .now - z .args .s .from) (z .args .s .now) (z .args .s .week .end) (z .args .s .day) (its-day _ (z .pre .0)) in let n = driving-most (z .args .activity) (z .args .n) in rw (c .day-after .ensures, c .before .before .before .driving-of .ensures) (omega (arith, k .driving), omega (arith, k .extended))
 
 week-more-requires : tie.Need-week-more-requires
-week-more-requires c κs = rw (c .before .before .before .before .driving-of .ensures) (omega (arith, driving-most ((c .before .before .before .before .before .before .before .before .before .before .before .before) .args .activity) ((c .before .before .before .before .before .before .before .before .before .before .before .before) .args .n), (c .before .before .before .before .before .before .before .before .before .before .before .before) .pre .0 .weekly))
+week-more-requires c κs = let z = (c .before .before .before .before .before .before .before .before .before .before .before .before) in rw (c .before .before .before .before .driving-of .ensures) (omega (arith, driving-most (z .args .activity) (z .args .n), z .pre .0 .weekly))
 
 broken-at-requires : tie.Need-broken-at-requires
-broken-at-requires c κs = let k = day-after-bounded ((c .before .before .before .before .before .before .before .before .before .before .before .before .before) .args .s .now - (c .before .before .before .before .before .before .before .before .before .before .before .before .before) .args .s .from) ((c .before .before .before .before .before .before .before .before .before .before .before .before .before) .args .s .now) ((c .before .before .before .before .before .before .before .before .before .before .before .before .before) .args .s .week .end) ((c .before .before .before .before .before .before .before .before .before .before .before .before .before) .args .s .day) (its-day _ ((c .before .before .before .before .before .before .before .before .before .before .before .before .before) .pre .0)) in let n = driving-most ((c .before .before .before .before .before .before .before .before .before .before .before .before .before) .args .activity) ((c .before .before .before .before .before .before .before .before .before .before .before .before .before) .args .n) in rw (c .before .day-more .ensures, day-start, c .before .before .day-after .ensures, c .week-more .ensures, c .before .before .before .before .before .driving-of .ensures) (omega (arith, k .start), omega (arith, (c .before .before .before .before .before .before .before .before .before .before .before .before .before) .pre .0 .last), omega (arith, (c .before .before .before .before .before .before .before .before .before .before .before .before .before) .pre .0 .weekly))
+broken-at-requires c κs = let z = (c .before .before .before .before .before .before .before .before .before .before .before .before .before) in let k = day-after-bounded (z .args .s .now - z .args .s .from) (z .args .s .now) (z .args .s .week .end) (z .args .s .day) (its-day _ (z .pre .0)) in let n = driving-most (z .args .activity) (z .args .n) in rw (c .before .day-more .ensures, day-start, c .before .before .day-after .ensures, c .week-more .ensures, c .before .before .before .before .before .driving-of .ensures) (omega (arith, k .start), omega (arith, z .pre .0 .last), omega (arith, z .pre .0 .weekly))
 
 week-next-requires-2 : tie.Need-week-next-requires-2
-week-next-requires-2 c κs = rw (c .before .week-more .ensures) (omega (arith, (c .before .before .before .before .before .before .before .before .before .before .before .before .before .before) .pre .0 .end, (c .before .before .before .before .before .before .before .before .before .before .before .before .before .before) .pre .1))
+week-next-requires-2 c κs = let z = (c .before .before .before .before .before .before .before .before .before .before .before .before .before .before) in rw (c .before .week-more .ensures) (omega (arith, z .pre .0 .end, z .pre .1))
 
 returns : tie.Need-returns
 unfolding partAfter restPart
