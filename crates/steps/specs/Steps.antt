@@ -3,8 +3,8 @@
 use mathlib.Core.Path.{_≡_}
 use mathlib.Core.Bool.{Bool, true, false}
 use mathlib.Core.List.{List, []}
-use Prim.Native.Nat.{ℕ, _+_, _≤_, _<_}
-use lib.ListN.{set}
+use Prim.Native.Nat.{ℕ, suc, _+_, _≤_, _<_}
+use lib.ListN.{length, set}
 use Rattle.rules.specs.ReadingRules.{leastNet}
 use Rattle.rules.specs.declared.Kind.the-variants.{Daily}
 use Rattle.completion.specs.Completable.{Course, at, amountOf, brief}
@@ -13,6 +13,12 @@ use Rattle.completion.specs.Completable.{Course, at, amountOf, brief}
 pub record Says (P : Type 0) (r : Bool) : Type 0 where
   pub yes : r ≡ true → P
   pub no : r ≡ false → P → ⊥
+
+-- the long rests lie in order: each starts before it ends, and ends by the start of the next
+pub record Ordered (starts ends : List ℕ) : Type 0 where
+  pub ends-too : length ends ≡ length starts
+  pub proper : (i : ℕ) → i < length starts → at starts i < at ends i
+  pub ordered : (i : ℕ) → suc i < length starts → at ends i ≤ at starts (suc i)
 
 -- there is a debt, and a rest of so many minutes that has a load can pay it beside what it needs itself
 pub record Fits (debt load minutes : ℕ) : Type 0 where

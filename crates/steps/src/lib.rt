@@ -8,12 +8,13 @@ ghost use lib.ListN.{length};
 ghost use lib.Dec.{ltb};
 ghost use Rattle.recording.specs.Tests.{pick};
 ghost use Rattle.recording.specs.Operations.{totalAtMost};
+ghost use Rattle.recording.specs.Weeks.{week, weekOf, inside};
 ghost use Rattle.rules.specs.ReadingRules.{shortenedAtMost, weeklyAtLeast, regularAtLeast};
-ghost use Rattle.reading.specs.Items.{loadAtMost, endBefore, spansIn, restWeeks, Zeros};
+ghost use Rattle.reading.specs.Items.{loadAtMost, endBefore, spanOf, spanAt, spansIn, restWeeks, Zeros};
 ghost use Rattle.completion.specs.States.{freshCounts, countedMore, startState, pairKept, nextWeek, advance as advanced, afterDaily, afterWeekly};
 ghost use Rattle.completion.specs.Completable.{at, dueOf, debtOf, Overdue};
 ghost use Rattle.completion.specs.Better.{Small, bestState};
-ghost use Rattle.steps.specs.Steps.{Says, Fits, Debtor, NoneFrom, Stored, Settled, briefOf};
+ghost use Rattle.steps.specs.Steps.{Says, Ordered, Fits, Debtor, NoneFrom, Stored, Settled, briefOf};
 
 // A debt is a word: so many units of the week at whose start it is due, and the minutes. 0 is none.
 pub const DEBT_UNIT: u32 = 2048;
@@ -133,9 +134,45 @@ pub fn next_week(st: State, rest: bool) -> State
     }
 }
 
-// The state brought on to the week `to`, unless two weeks that are over break rule 11.
-pub fn advance(starts: &[u32], ends: &[u32], st: State, to: u32) -> Brought
-    requires { ⌜ (length (now ends) ≡ length (now starts)) × (to < 255) × Small st ⌝ }
+// Whether the week w lies inside a rest.
+pub fn covers_week(start: u32, end: u32, w: u32) -> bool
+    requires { ⌜ w < 255 ⌝ }
+    ensures { λ r. ⌜ r ≡ inside (week w) (spanOf start end) ⌝ }
+{
+    if recording::WEEK_MINUTES * w < start {
+        return false;
+    }
+    recording::WEEK_MINUTES * (w + 1) <= end
+}
+
+// Whether the week w lies inside the long rest of index j, if there is one.
+fn in_rest(starts: &[u32], ends: &[u32], j: usize, w: u32) -> bool
+    requires { ⌜ (length (now ends) ≡ length (now starts)) × (w < 255) ⌝ }
+    ensures { λ r. ⌜ r ≡ inside (week w) (spanAt (now (starts .entry)) (now (ends .entry)) j) ⌝ }
+{
+    if starts.len() <= j {
+        return false;
+    }
+    covers_week(starts[j], ends[j], w)
+}
+
+// Whether the week w, between the starts of the long rests before j and of j, is one of rest minutes only.
+pub fn rest_near(starts: &[u32], ends: &[u32], j: usize, w: u32) -> bool
+    requires { ⌜ Ordered (now starts) (now ends) × (j ≤ length (now starts)) × (w < 255) × (0 < j → weekOf (at (now starts) (j - 1)) < w) × (j < length (now starts) → w ≤ weekOf (at (now starts) j)) ⌝ }
+    ensures { λ r. ⌜ r ≡ restWeeks (spansIn (now (starts .entry)) (now (ends .entry)) (length (now (starts .entry)))) w ⌝ }
+{
+    if in_rest(starts, ends, j, w) {
+        return true;
+    }
+    if j == 0 {
+        return false;
+    }
+    in_rest(starts, ends, j - 1, w)
+}
+
+// The state brought on to the week `to`, unless two weeks that are over break rule 11. The next long rest is that of index j.
+pub fn advance(starts: &[u32], ends: &[u32], j: usize, st: State, to: u32) -> Brought
+    requires { ⌜ Ordered (now starts) (now ends) × (j ≤ length (now starts)) × (to < 255) × Small st × (0 < j → weekOf (at (now starts) (j - 1)) ≤ st .week) × (j < length (now starts) → to ≤ weekOf (at (now starts) j)) ⌝ }
     ensures { λ r. ⌜ r ≡ advanced (restWeeks (spansIn (now (starts .entry)) (now (ends .entry)) (length (now (starts .entry))))) (to - st .week) st ⌝ }
 {
     let mut here = st;
@@ -143,7 +180,7 @@ pub fn advance(starts: &[u32], ends: &[u32], st: State, to: u32) -> Brought
         if !pair_kept(here) {
             return Brought::Broken;
         }
-        let rest = reading::rest_week(starts, ends, starts.len(), here.week + 1);
+        let rest = rest_near(starts, ends, j, here.week + 1);
         here = next_week(here, rest);
     }
     Brought::To(here)
