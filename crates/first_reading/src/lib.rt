@@ -199,7 +199,7 @@ fn carrier_in(
     requires { ⌜ (Lent (courseOf (now starts) (now ends) (now promised) s) (now owed) (now table)) × (AtRest (courseOf (now starts) (now ends) (now promised) s) j here) × (leastNet (Weekly Regular) + at (now promised) j ≤ lengthAt (courseOf (now starts) (now ends) (now promised) s) j) × (at (now starts) j < weekStart (w + 1)) × (weekStart w < at (now ends) j) ⌝ }
     ensures { λ r. ⌜ (FirstOf (GoesWeekly (courseOf (now (starts .entry)) (now (ends .entry)) (now (promised .entry)) s) j here (now (owed .entry)) w) (length (now (starts .entry))) r) × (now (owed .exit) ≡ now (owed .entry)) × (now (promised .exit) ≡ now (promised .entry)) ⌝ }
 {
-    let Brought::To(there) = steps::advance(starts, ends, here, w) else {
+    let Brought::To(there) = steps::advance(starts, ends, j + 1, here, w) else {
         return starts.len() + 1;
     };
     let rest = reading::rest_week(starts, ends, starts.len(), w);
@@ -305,7 +305,7 @@ fn put_weekly(
     if starts.len() < x {
         return here;
     }
-    let Brought::To(there) = steps::advance(starts, ends, here, w) else {
+    let Brought::To(there) = steps::advance(starts, ends, j + 1, here, w) else {
         return here;
     };
     let rest = reading::rest_week(starts, ends, starts.len(), w);
@@ -331,7 +331,7 @@ fn place(
     requires { ⌜ (Lent (courseOf (now starts) (now ends) (now promised) s) (now owed) (now table)) × (Zeros (now owed)) × (Before (courseOf (now starts) (now ends) (now promised) s) j st) × (j < count (courseOf (now starts) (now ends) (now promised) s)) × (length (now reading) ≡ entryBytes * count (courseOf (now starts) (now ends) (now promised) s)) ⌝ }
     ensures { λ r. ⌜ Stepped (courseOf (now (starts .entry)) (now (ends .entry)) (now (promised .entry)) s) (courseOf (now (starts .entry)) (now (ends .entry)) (now (promised .exit)) s) j st (now (owed .entry)) (now (owed .exit)) (now (table .exit)) (now (reading .entry)) (now (reading .exit)) r ⌝ }
 {
-    let Brought::To(here) = steps::advance(starts, ends, st, starts[j] / recording::WEEK_MINUTES)
+    let Brought::To(here) = steps::advance(starts, ends, j, st, starts[j] / recording::WEEK_MINUTES)
     else {
         return steps::best_state(starts[j]);
     };

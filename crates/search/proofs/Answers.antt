@@ -12,6 +12,7 @@ use lib.ListN.{length, set, take, replicate, length-set, length-take, length-rep
 use lib.Seq.{set-set, set-getD, getD-set-other}
 use borrow.Author.Tests.{ltb-true}
 use Rattle.recording.specs.Tests.{pick}
+use Rattle.recording.specs.Operations.{totalAtMost}
 use Rattle.recording.specs.Rests.{longRestsAtMost}
 use Rattle.recording.specs.Weeks.{weekStart, weekOf}
 use Rattle.recording.proofs.TestLaws.{one-most, less-or-not}
@@ -29,7 +30,8 @@ use Rattle.completion.specs.Completable.{Course, at, count, restWeek, lengthAt,
 use Rattle.completion.specs.Better.{Within, Matched, Better, Small, AtRest, bestState}
 use Rattle.completion.proofs.Matching.{within-self, put-at}
 use Rattle.completion.proofs.Monotone.{Mono, MonoBy, Carried, advanced, better-self, matched-last, completable-by, completable-mono, reads-by, tries-by, counted-week, regular-by, forget, recall, later, daily-stands, daily-small, weekly-stands, weekly-small, from-back}
-use Rattle.steps.specs.Steps.{Says, Fits, Debtor, Settled}
+use Rattle.steps.specs.Steps.{Says, Fits, Debtor, Settled, Ordered}
+use Rattle.steps.proofs.NearRests.{in-order}
 use Rattle.hopeless.specs.Table.{debtsAtMost, levelAt, entryAt, debtsOf, debtPlace, debtIn, InUse, Beats, Holds, SameEntry, Entry, old, new, Remembered, Empty}
 use Rattle.search.specs.Search.{Found, Later, Sound, Slots, Lent, Before, FromEach}
 
@@ -423,6 +425,25 @@ module _ (c : Course) (lies : Lies c) where
   -- the rest before that of index j + 1
   pub reached-at : (j : ℕ) {week : ℕ} → weekOf (at (c .starts) j) ≤ week → weekOf (at (c .starts) (j + 1 - 1)) ≤ week
   reached-at j {week} h = let e : j ≡ j + 1 - 1 = omega arith in subst (λ (i : ℕ). weekOf (at (c .starts) i) ≤ week) e h
+
+  -- a week in which a rest has a minute is no later than that in which the next rest starts
+  pub week-by-next : (j w : ℕ) → weekStart w < at (c .ends) j → j + 1 < count c → w ≤ weekOf (at (c .starts) (j + 1))
+  week-by-next j w l h =
+      let e : suc j ≡ j + 1 = omega arith in
+      let m = subst (λ (i : ℕ). at (c .ends) j ≤ at (c .starts) i) e (lies .ordered j (omega arith)) in
+      omega (arith, l, m)
+
+  -- what an advance asks, to the week in which a rest starts and to one in which it is counted
+  pub to-start : (j : ℕ) (st : State) → c .judged ≤ totalAtMost → j < count c → Before c j st
+      → Ordered (c .starts) (c .ends) × (j ≤ count c) × (weekOf (at (c .starts) j) < 255) × Small st × (0 < j → weekOf (at (c .starts) (j - 1)) ≤ st .week)
+      × (j < count c → weekOf (at (c .starts) j) ≤ weekOf (at (c .starts) j))
+  to-start j st low l b = (in-order c lies, omega arith, omega (arith, starts-low j l), b .small, b .reached, λ _. le-refl _)
+
+  pub to-counted : (j w : ℕ) (here : State) → c .judged ≤ totalAtMost → AtRest c j here → weekStart w < at (c .ends) j
+      → Ordered (c .starts) (c .ends) × (j + 1 ≤ count c) × (w < 255) × Small here × (0 < j + 1 → weekOf (at (c .starts) (j + 1 - 1)) ≤ here .week)
+      × (j + 1 < count c → w ≤ weekOf (at (c .starts) (j + 1)))
+  to-counted j w here low a l =
+      (in-order c lies, omega (arith, a .within), omega (arith, l, lies .judged j (a .within)), a .small, λ _. reached-at j (omega (arith, a .week)), week-by-next j w l)
 
   next-stands : (j : ℕ) {st : State} → Stands c (suc j) st → Stands c (j + 1) st
   next-stands j {st} h = let e : suc j ≡ j + 1 = omega arith in subst (λ (i : ℕ). Stands c i st) e h

@@ -36,7 +36,8 @@ fn closes(
     if steps::overdue(owed, n, s + 1) {
         return false;
     }
-    let Brought::To(_) = steps::advance(starts, ends, st, s / recording::WEEK_MINUTES) else {
+    let Brought::To(_) = steps::advance(starts, ends, starts.len(), st, s / recording::WEEK_MINUTES)
+    else {
         return false;
     };
     true
@@ -66,7 +67,7 @@ pub fn solve(
     if steps::overdue(owed, n, ends[j]) {
         return false;
     }
-    let Brought::To(here) = steps::advance(starts, ends, st, starts[j] / recording::WEEK_MINUTES)
+    let Brought::To(here) = steps::advance(starts, ends, j, st, starts[j] / recording::WEEK_MINUTES)
     else {
         return false;
     };
@@ -340,10 +341,10 @@ pub fn in_week(
     requires { ⌜ (Slots (courseOf (now starts) (now ends) (now promised) s) j n (now owed) (now table)) × (Sound (courseOf (now starts) (now ends) (now promised) s) (now table)) × (AtRest (courseOf (now starts) (now ends) (now promised) s) j here) × (leastNet (Weekly Regular) + load ≤ lengthAt (courseOf (now starts) (now ends) (now promised) s) j) × (at (now starts) j < weekStart (w + 1)) × (weekStart w < at (now ends) j) ⌝ }
     ensures { λ r. ⌜ Found (Counted (courseOf (now (starts .entry)) (now (ends .entry)) (now (promised .entry)) s) (Later (courseOf (now (starts .entry)) (now (ends .entry)) (now (promised .entry)) s) j) j here w load (now (owed .entry))) r (now (owed .entry)) (now (owed .exit)) (Sound (courseOf (now (starts .entry)) (now (ends .entry)) (now (promised .entry)) s) (now (table .exit))) ⌝ }
 {
-    let Brought::To(there) = steps::advance(starts, ends, here, w) else {
+    let Brought::To(there) = steps::advance(starts, ends, j + 1, here, w) else {
         return false;
     };
-    let rest = reading::rest_week(starts, ends, starts.len(), w);
+    let rest = steps::covers_week(starts[j], ends[j], w);
     let regular = reading::REGULAR + load <= ends[j] - starts[j];
     let next = steps::after_weekly(there, rest, regular, ends[j]);
     count_in(starts, ends, promised, s, owed, table, j, load, w, next, n)

@@ -14,6 +14,7 @@ use Rattle.recording.specs.Weeks.{weekMinutes, weekStart, weekOf}
 use Rattle.rules.specs.Reading.{regularMinutes}
 use Rattle.completion.specs.Completable.{at, restWeek, lengthAt, dueOf, debtOf, Pays, ReadWeekly, Counted, Reads, Tries}
 use Rattle.completion.proofs.Monotone.{arrives}
+use Rattle.steps.proofs.NearRests.{in-order, week-of-rest}
 use Rattle.hopeless.specs.Table.{Remembered}
 use Rattle.search.specs.Search.{courseOf, Later, Sound, Before}
 use Rattle.search.proofs.Answers as law
@@ -55,12 +56,12 @@ use Rattle.search.proofs.weekly.Kinds as weekly-kinds
 use Rattle.search.proofs.+choose+count_in+daily+in_week+leave+move_up+pay+pay_one+solve+tries+weekly.Lts-weekly as weekly-lts
 use Rattle.hopeless.proofs.known.Reads as known-reads
 use Rattle.hopeless.proofs.remember.Reads as remember-reads
-use Rattle.reading.proofs.rest_week.Reads as rest-week-reads
 use Rattle.search.proofs.closes.Reads as closes-reads
 use Rattle.steps.proofs.advance.Reads as advance-reads
 use Rattle.steps.proofs.after_daily.Reads as after-daily-reads
 use Rattle.steps.proofs.after_weekly.Reads as after-weekly-reads
 use Rattle.steps.proofs.brief.Reads as brief-reads
+use Rattle.steps.proofs.covers_week.Reads as covers-week-reads
 use Rattle.steps.proofs.debt_of.Reads as debt-of-reads
 use Rattle.steps.proofs.debtor.Reads as debtor-reads
 use Rattle.steps.proofs.outstanding.Reads as outstanding-reads
@@ -183,7 +184,7 @@ abbrev daily-calls : ℕ → daily-lts.Claims
 daily-calls t = (brief-reads.Asked, brief-reads.Learnt, after-daily-reads.Asked, after-daily-reads.Learnt, solve-below t, solve.Post)
 
 abbrev in-week-calls : ℕ → in-week-lts.Claims
-in-week-calls t = (advance-reads.Asked, advance-reads.Learnt, rest-week-reads.Asked, rest-week-reads.Learnt, after-weekly-reads.Asked, after-weekly-reads.Learnt, count-in-below t, count-in.Post)
+in-week-calls t = (advance-reads.Asked, advance-reads.Learnt, covers-week-reads.Asked, covers-week-reads.Learnt, after-weekly-reads.Asked, after-weekly-reads.Learnt, count-in-below t, count-in.Post)
 
 abbrev leave-calls : ℕ → leave-lts.Claims
 leave-calls t = (move-up-below t, move-up.Post)
@@ -340,8 +341,9 @@ daily-returns-2 t c =
 in-week-advance-requires : (t : ℕ) → in-week-lts.Need-advance-requires (in-week-calls t) (in-week-at t) in-week.Post
 in-week-advance-requires t c κs =
     let s = (c .before .before .before .before .before) in
+    let k = courseOf (now (s .args .starts)) (now (s .args .ends)) (now (s .args .promised)) (s .args .s) in
     let lies = s .pre .1 .0 .lies in
-    (s .pre .1 .0 .lies .ends-too, omega (arith, s .pre .1 .5, (lies .judged (s .args .j) (s .pre .1 .2 .within)), s .pre .1 .0 .judged), s .pre .1 .2 .small)
+    law.to-counted k lies (s .args .j) (s .args .w) (s .args .here) (s .pre .1 .0 .judged) (s .pre .1 .2) (s .pre .1 .5)
 
 in-week-returns : (t : ℕ) → in-week-lts.Need-returns (in-week-calls t) (in-week-at t) in-week.Post
 in-week-returns t c =
@@ -350,44 +352,44 @@ in-week-returns t c =
     let lies = s .pre .1 .0 .lies in
     law.refuse (law.not-counted k lies (s .args .j) (s .args .here) (now (s .args .owed)) (s .args .load) (s .args .w) (c .before .before .advance .ensures) (c .enum-told .given .1)) refl (s .pre .1 .1)
 
-in-week-rest-week-requires : (t : ℕ) → in-week-lts.Need-rest-week-requires (in-week-calls t) (in-week-at t) in-week.Post
-in-week-rest-week-requires t c κs =
-    let s = (c .before .before .before .before .before .before .before .before .before) in
+in-week-covers-week-requires : (t : ℕ) → in-week-lts.Need-covers-week-requires (in-week-calls t) (in-week-at t) in-week.Post
+in-week-covers-week-requires t c κs =
+    let s = (c .before .before .before .before .before .before .before .before .before .before .before) in
     let lies = s .pre .1 .0 .lies in
-    (le-refl _, omega (arith, s .pre .1 .0 .lies .ends-too), omega (arith, s .pre .1 .5, (lies .judged (s .args .j) (s .pre .1 .2 .within)), s .pre .1 .0 .judged))
+    omega (arith, s .pre .1 .5, (lies .judged (s .args .j) (s .pre .1 .2 .within)), s .pre .1 .0 .judged)
 
 in-week-add-regular : (t : ℕ) → in-week-lts.Need-add-regular (in-week-calls t) (in-week-at t) in-week.Post
 in-week-add-regular t c =
-    let s = (c .before .before .before .before .before .before .before .before .before .before) in
+    let s = (c .before .before .before .before .before .before .before .before .before .before .before .before) in
     let lies = s .pre .1 .0 .lies in
     omega (arith, s .pre .1 .3, (lies .judged (s .args .j) (s .pre .1 .2 .within)), s .pre .1 .0 .judged)
 
 in-week-sub-regular : (t : ℕ) → in-week-lts.Need-sub-regular (in-week-calls t) (in-week-at t) in-week.Post
 in-week-sub-regular t c =
-    let s = (c .before .before .before .before .before .before .before .before .before .before .before .before) in
+    let s = (c .before .before .before .before .before .before .before .before .before .before .before .before .before .before) in
     let lies = s .pre .1 .0 .lies in
     omega (arith, (lies .proper (s .args .j) (s .pre .1 .2 .within)))
 
 in-week-after-weekly-requires : (t : ℕ) → in-week-lts.Need-after-weekly-requires (in-week-calls t) (in-week-at t) in-week.Post
 in-week-after-weekly-requires t c κs =
-    let s = (c .before .before .before .before .before .before .before .before .before .before .before .before .before) in
+    let s = (c .before .before .before .before .before .before .before .before .before .before .before .before .before .before .before) in
     let k = courseOf (now (s .args .starts)) (now (s .args .ends)) (now (s .args .promised)) (s .args .s) in
-    law.brought (restWeek k) (s .args .w - s .args .here .week) (s .pre .1 .2 .small) (c .before .before .before .before .before .before .before .advance .ensures) (c .before .before .before .before .before .there .given .1) .small
+    law.brought (restWeek k) (s .args .w - s .args .here .week) (s .pre .1 .2 .small) (c .before .before .before .before .before .before .before .before .before .advance .ensures) (c .before .before .before .before .before .before .before .there .given .1) .small
 
 in-week-count-in-requires : (t : ℕ) → in-week-lts.Need-count-in-requires (in-week-calls t) (in-week-at t) in-week.Post
 in-week-count-in-requires t c κs =
-    let s = (c .before .before .before .before .before .before .before .before .before .before .before .before .before .before .before .before) in
+    let s = (c .before .before .before .before .before .before .before .before .before .before .before .before .before .before .before .before .before .before) in
     let k = courseOf (now (s .args .starts)) (now (s .args .ends)) (now (s .args .promised)) (s .args .s) in
     let lies = s .pre .1 .0 .lies in
-    (omega (arith, s .pre .0, s .pre .1 .2 .within), (s .pre .1 .0, s .pre .1 .1, (s .pre .1 .2 .within), law.before-weekly k lies (s .args .j) (s .args .here) (now (s .args .owed)) (s .args .load) (s .args .w) (c .before .before .before .before .before .before .rest-week .result) (leb (regularMinutes + s .args .load) (lengthAt k (s .args .j))) (c .before .before .before .before .before .before .before .before .before .before .advance .ensures) (c .before .before .before .before .before .before .before .before .there .given .1) (c .before .before .after-weekly .ensures) (s .pre .1 .2) (s .pre .1 .4) (s .pre .1 .5), s .pre .1 .3, s .pre .1 .5))
+    (omega (arith, s .pre .0, s .pre .1 .2 .within), (s .pre .1 .0, s .pre .1 .1, (s .pre .1 .2 .within), law.before-weekly k lies (s .args .j) (s .args .here) (now (s .args .owed)) (s .args .load) (s .args .w) (c .before .before .before .before .before .before .covers-week .result) (leb (regularMinutes + s .args .load) (lengthAt k (s .args .j))) (c .before .before .before .before .before .before .before .before .before .before .before .before .advance .ensures) (c .before .before .before .before .before .before .before .before .before .before .there .given .1) (c .before .before .after-weekly .ensures) (s .pre .1 .2) (s .pre .1 .4) (s .pre .1 .5), s .pre .1 .3, s .pre .1 .5))
 
 in-week-returns-2 : (t : ℕ) → in-week-lts.Need-returns-2 (in-week-calls t) (in-week-at t) in-week.Post
 in-week-returns-2 t c =
-    let s = (c .before .before .before .before .before .before .before .before .before .before .before .before .before .before .before .before .before .before .before .before .before) in
+    let s = (c .before .before .before .before .before .before .before .before .before .before .before .before .before .before .before .before .before .before .before .before .before .before .before) in
     let k = courseOf (now (s .args .starts)) (now (s .args .ends)) (now (s .args .promised)) (s .args .s) in
     let lies = s .pre .1 .0 .lies in
-    let of-rest-week = c .before .before .before .before .before .before .before .before .before .before .before .rest-week in
-    law.as-counted k lies (s .args .j) (s .args .here) (now (s .args .owed)) (s .args .load) (s .args .w) (of-rest-week .result) (leb (regularMinutes + s .args .load) (lengthAt k (s .args .j))) (c .before .before .before .before .before .before .before .before .before .before .before .before .before .before .before .advance .ensures) (c .before .before .before .before .before .before .before .before .before .before .before .before .before .there .given .1) (c .before .before .before .before .before .before .before .after-weekly .ensures) (of-rest-week .ensures) refl (c .before .before .before .before .count-in .ensures)
+    let of-covers-week = c .before .before .before .before .before .before .before .before .before .before .before .covers-week in
+    law.as-counted k lies (s .args .j) (s .args .here) (now (s .args .owed)) (s .args .load) (s .args .w) (of-covers-week .result) (leb (regularMinutes + s .args .load) (lengthAt k (s .args .j))) (c .before .before .before .before .before .before .before .before .before .before .before .before .before .before .before .before .before .advance .ensures) (c .before .before .before .before .before .before .before .before .before .before .before .before .before .before .before .there .given .1) (c .before .before .before .before .before .before .before .after-weekly .ensures) (of-covers-week .ensures ∙ sym (week-of-rest (now (s .args .starts)) (now (s .args .ends)) (s .args .w) (in-order k lies) (s .args .j) (s .pre .1 .2 .within) (s .pre .1 .4) (s .pre .1 .5))) refl (c .before .before .before .before .count-in .ensures)
 
 leave-array-borrow-prefix-left : (t : ℕ) → leave-lts.Need-array-borrow-prefix-left (leave-calls t) (leave-at t) leave.Post
 leave-array-borrow-prefix-left t c =
@@ -562,7 +564,7 @@ solve-advance-requires t c κs =
     let k = courseOf (now (s .args .starts)) (now (s .args .ends)) (now (s .args .promised)) (s .args .s) in
     let lies = s .pre .1 .0 .lies in
     let lt : s .args .j < length (now (s .args .starts)) = omega (arith, s .pre .1 .2 .within, c .before .before .before .before .before .before .before .before .if1 .left) in
-    (s .pre .1 .0 .lies .ends-too, omega (arith, law.starts-low k lies (s .args .j) lt, s .pre .1 .0 .judged), s .pre .1 .2 .small)
+    law.to-start k lies (s .args .j) (s .args .st) (s .pre .1 .0 .judged) lt (s .pre .1 .2)
 
 solve-returns-4 : (t : ℕ) → solve-lts.Need-returns-4 (solve-calls t) (solve-at t) solve.Post
 solve-returns-4 t c =
@@ -753,11 +755,16 @@ pub +choose+count-in+daily+in-week+leave+move-up+pay+pay-one+solve+tries+weekly-
     (λ c. search needs)
     (daily-returns-2 t))
     (λ t. in-week-lts.spec (in-week-calls t) (in-week-at t) in-week.Post
+    (λ c. search needs)
     (in-week-advance-requires t)
     (λ c. search needs)
     (λ c. search needs)
     (in-week-returns t)
-    (in-week-rest-week-requires t)
+    (λ c. search needs)
+    (λ c. search needs)
+    (λ c. search needs)
+    (λ c. search needs)
+    (in-week-covers-week-requires t)
     (in-week-add-regular t)
     (λ c. search needs)
     (λ c. search needs)
