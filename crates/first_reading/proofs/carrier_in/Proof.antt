@@ -8,7 +8,7 @@ use denote.Ref.{now}
 use Rattle.rules.specs.Reading.{regularMinutes}
 use Rattle.completion.specs.Completable.{at, restWeek, lengthAt}
 use Rattle.search.specs.Search.{courseOf}
-use Rattle.search.proofs.Answers.{brought, before-weekly}
+use Rattle.search.proofs.Answers.{brought, before-weekly, to-counted}
 use Rattle.first_reading.proofs.Placing.{not-counted, counted-state, from-with, to-with}
 use borrow.Author.Needs.{needs}
 use Rattle.first_reading.proofs.carrier_in.Statement.{statement}
@@ -16,11 +16,8 @@ use Rattle.first_reading.proofs.carrier_in.Tie as tie
 
 advance-requires : tie.Need-advance-requires
 advance-requires c κs =
-    let s = (c .before .before .before .before .before) in (
-      s .pre .0 .lies .ends-too,
-      omega (arith, s .pre .4, s .pre .0 .lies .judged (s .args .j) (s .pre .1 .within), s .pre .0 .judged),
-      s .pre .1 .small,
-    )
+    let s = (c .before .before .before .before .before) in let k = courseOf (now (s .args .starts)) (now (s .args .ends)) (now (s .args .promised)) (s .args .s) in
+    to-counted k (s .pre .0 .lies) (s .args .j) (s .args .w) (s .args .here) (s .pre .0 .judged) (s .pre .1) (s .pre .4)
 
 add-result : tie.Need-add-result
 add-result c = let s = (c .before .before .before .before .before .before .before .before) in omega (arith, s .pre .0 .few)
@@ -110,6 +107,7 @@ pub carrier-in-spec : {M : Type 1} → statement M
 carrier-in-spec =
     tie.close
     (tie.spec
+    (λ c. search needs)
     advance-requires
     (λ c. search needs)
     (λ c. search needs)

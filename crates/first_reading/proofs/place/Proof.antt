@@ -6,6 +6,7 @@ use native.Mathlib.Omega.{arith}
 use lib.ListN.{length}
 use denote.Ref.{now}
 use Rattle.search.specs.Search.{courseOf}
+use Rattle.search.proofs.Answers.{to-start}
 use Rattle.first_reading.specs.Choices.{FirstWeekly}
 use Rattle.first_reading.proofs.Placing.{sized-of, lent-same, at-rest-with}
 use Rattle.first_reading.proofs.Stepping.{at-rest, stepped-broken, stepped-short, stepped-as-daily, stepped-weekly, put-same, sized-same, room-first}
@@ -15,11 +16,8 @@ use Rattle.first_reading.proofs.place.Tie as tie
 
 advance-requires : tie.Need-advance-requires
 advance-requires c κs =
-    let s = (c .before .before .before .before .before .before .before) in (
-      s .pre .0 .lies .ends-too,
-      omega (arith, s .pre .0 .lies .proper (s .args .j) (s .pre .3), s .pre .0 .lies .judged (s .args .j) (s .pre .3), s .pre .0 .judged),
-      s .pre .2 .small,
-    )
+    let s = (c .before .before .before .before .before .before .before) in let k = courseOf (now (s .args .starts)) (now (s .args .ends)) (now (s .args .promised)) (s .args .s) in
+    to-start k (s .pre .0 .lies) (s .args .j) (s .args .st) (s .pre .0 .judged) (s .pre .3) (s .pre .2)
 
 returns : tie.Need-returns
 returns c =

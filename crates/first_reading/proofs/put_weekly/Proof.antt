@@ -13,7 +13,7 @@ use Rattle.completion.specs.declared.State.{State}
 use Rattle.completion.specs.States.{afterWeekly}
 use Rattle.completion.specs.Completable.{at, restWeek, lengthAt}
 use Rattle.search.specs.Search.{courseOf}
-use Rattle.search.proofs.Answers.{brought, before-weekly}
+use Rattle.search.proofs.Answers.{brought, before-weekly, to-counted}
 use Rattle.first_reading.specs.Choices.{withEntry, Sized}
 use Rattle.first_reading.proofs.Placing.{before-here, before-with, sized-with, broken-not-to, to-same, counted-state}
 use borrow.Author.Needs.{needs}
@@ -31,12 +31,9 @@ returns c =
 
 advance-requires : tie.Need-advance-requires
 advance-requires c κs =
-    let s = (c .before .before .before .before .before) in
-    let h = s .pre .3 (c .if1 .left) in (
-      s .pre .0 .lies .ends-too,
-      omega (arith, h .1, s .pre .0 .lies .judged (s .args .j) (s .pre .1 .within), s .pre .0 .judged),
-      s .pre .1 .small,
-    )
+    let s = (c .before .before .before .before .before) in let k = courseOf (now (s .args .starts)) (now (s .args .ends)) (now (s .args .promised)) (s .args .s) in
+    let h = s .pre .3 (c .if1 .left) in
+    to-counted k (s .pre .0 .lies) (s .args .j) (s .args .w) (s .args .here) (s .pre .0 .judged) (s .pre .1) (h .1)
 
 returns-2 : tie.Need-returns-2
 returns-2 c =
@@ -121,6 +118,7 @@ put-weekly-spec =
     tie.close
     (tie.spec
     returns
+    (λ c. search needs)
     advance-requires
     (λ c. search needs)
     (λ c. search needs)
