@@ -1,6 +1,8 @@
 pub mod Bytes
 pub mod Puts
 pub mod Lines
+pub mod LineByLine
+pub mod Again
 pub mod Numbers
 pub mod LineText
 pub mod WeekLines

@@ -1,4 +1,4 @@
--- A text and its lines: the first line, and the walk over the lines. Assumes nothing.
+-- A text and its lines: the first line, and the line at a place. Assumes nothing.
 use mathlib.Core.Path.{_≡_, refl, sym, ap, _∙_}
 use mathlib.Core.Bool.{Bool, true, false}
 use mathlib.Core.List.{List, [], _∷_, _++_, append-nil}
@@ -75,7 +75,7 @@ first-cut {n} {l} t e f g =
       within = omega arith;
     }
 
--- ---- one line of a walk from the place `at`
+-- ---- the line at a place
 pub few-words : (l : Line) → length (wordsIn l) ≤ 1
 few-words line.Recording = omega arith
 few-words line.Week = omega arith
@@ -95,31 +95,3 @@ module _ (t : List ℕ) (at : ℕ) {r : Found} (f : FirstLine (take (length t - 
 
   pub next-moved : 0 < r .next
   next-moved = there .moved
-
-  pub stage-on : (s : Stage) {s′ : Stage} → s′ ≡ stageAfter s (r .line) → stageFrom s (linesIn (drop at t)) ≡ stageFrom s′ (linesIn (drop (at + r .next) t))
-  unfolding stageFrom
-  stage-on s e = rw (lines-there, e)
-
-  pub runs-on : (runs : ℕ) {k : ℕ} → k ≡ length (wordsIn (r .line))
-      → runs + length (wordsOf (linesIn (drop at t))) ≡ runs + k + length (wordsOf (linesIn (drop (at + r .next) t)))
-  unfolding wordsOf
-  runs-on runs e = rw (lines-there, length-append) (omega arith)
-
-  pub fill-on : (words : List ℕ) (k : ℕ) {words′ : List ℕ} {n : ℕ} → words′ ≡ sets words k (wordsIn (r .line)) → n ≡ length (wordsIn (r .line))
-      → sets words k (wordsOf (linesIn (drop at t))) ≡ sets words′ (k + n) (wordsOf (linesIn (drop (at + r .next) t)))
-  unfolding wordsOf
-  fill-on words k {words′} {n} e g =
-      rw (lines-there, e, g) (sets-append words k (wordsIn (r .line)) (wordsOf (linesIn (drop (at + r .next) t))))
-
-module _ (t : List ℕ) (at : ℕ) (e : at ≡ length t) where
-  pub lines-done : linesIn (drop at t) ≡ []
-  unfolding linesFrom
-  lines-done = rw (e, drop-length)
-
-  pub stage-done : (s : Stage) → stageFrom s (linesIn (drop at t)) ≡ s
-  unfolding stageFrom
-  stage-done s = rw lines-done
-
-  pub words-done : wordsOf (linesIn (drop at t)) ≡ []
-  unfolding wordsOf
-  words-done = rw lines-done

@@ -11,7 +11,7 @@ ghost use Rattle.recording.specs.Operations.{totalAtMost, written};
 ghost use Rattle.text.specs.Form.{runName, digitAt, decimal, textOfLines, runAtMost};
 ghost use Rattle.text.specs.Reading.{numberFrom, numberAfter, lineOf, onRecording, onWeek, onRun, onClosing, stageAfter, isOver, linesIn, wordsIn, wordsOf, textRead};
 ghost use Rattle.text.specs.Writing.{textOfMinutes, textWritten};
-ghost use Rattle.text.specs.Passes.{lineLength, FirstLine, Judged, Put, places, roomy, InFront, partLines, leftAfter, Writable};
+ghost use Rattle.text.specs.Passes.{lineLength, FirstLine, begun, LineRead, Through, Judged, Put, places, roomy, InFront, partLines, leftAfter, Writable};
 use recording::Filling;
 use recording::Weighing;
 
@@ -43,6 +43,23 @@ pub struct Found {
 // What the first pass over a text finds: whether it is of the form, and its run lines.
 pub struct Judgement {
     pub formed: bool,
+    pub runs: usize,
+}
+
+// The text reader: the lent text, and the place of the next line.
+pub struct Reader<'a> {
+    pub text: &'a [u8],
+    pub at: usize,
+}
+
+// What reading carries from line to line: whether a line is left, and its place; where the reader stands; the line read last, and
+// the place of its word; and the run lines so far.
+pub struct Progress {
+    pub going: bool,
+    pub next: usize,
+    pub stage: Stage,
+    pub line: Line,
+    pub place: usize,
     pub runs: usize,
 }
 
@@ -305,26 +322,6 @@ fn words_in(line: Line) -> usize
     }
 }
 
-// The first pass: whether the text is of the form, and its run lines.
-fn judge(text: &[u8]) -> Judgement
-    ensures { λ r. ⌜ Judged (now (text .entry)) r ⌝ }
-{
-    let mut s = Stage::Before;
-    let mut runs: usize = 0;
-    let mut at = 0;
-    while at < text.len() {
-        let found = first_line(&text[at..]);
-        let line = found.line;
-        s = stage_after(s, line);
-        runs += words_in(line);
-        at += found.next;
-    }
-    Judgement {
-        formed: is_over(s),
-        runs,
-    }
-}
-
 // A word at a place, where the words reach that far.
 fn put_word(words: &mut [u32], at: usize, word: u32)
     ensures { λ _. ⌜ now (words .exit) ≡ set (now (words .entry)) at word ⌝ }
@@ -347,18 +344,102 @@ fn put_line(words: &mut [u32], at: usize, line: Line)
     }
 }
 
-// The second pass: a word for each run line.
-fn fill(text: &[u8], words: &mut [u32])
-    ensures { λ _. ⌜ now (words .exit) ≡ sets (now (words .entry)) 0 (wordsOf (linesIn (now (text .entry)))) ⌝ }
+// Before the first line.
+fn begin(text: &[u8]) -> Progress
+    ensures { λ r. ⌜ r ≡ begun (now (text .entry)) ⌝ }
 {
-    let mut k: usize = 0;
-    let mut at = 0;
-    while at < text.len() {
-        let found = first_line(&text[at..]);
-        let line = found.line;
-        put_line(words, k, line);
-        k += words_in(line);
-        at += found.next;
+    Progress {
+        going: 0 < text.len(),
+        next: 0,
+        stage: Stage::Before,
+        line: Line::Other,
+        place: 0,
+        runs: 0,
+    }
+}
+
+// The line at a place is read.
+fn line_at(text: &[u8], at: usize, p: Progress) -> Progress
+    requires { ⌜ (at < length (now text)) × (p .runs ≤ at) ⌝ }
+    ensures { λ r. ⌜ LineRead (now (text .entry)) at p r ⌝ }
+{
+    let found = first_line(&text[at..]);
+    let line = found.line;
+    let next = at + found.next;
+    let before = p.stage;
+    let stage = stage_after(before, line);
+    let place = p.runs;
+    let runs = place + words_in(line);
+    Progress {
+        going: next < text.len(),
+        next,
+        stage,
+        line,
+        place,
+        runs,
+    }
+}
+
+// The word of the line that was read last, if it has one, at its place.
+fn put_last(words: &mut [u32], p: Progress)
+    ensures { λ _. ⌜ now (words .exit) ≡ sets (now (words .entry)) (p .place) (wordsIn (p .line)) ⌝ }
+{
+    let place = p.place;
+    let line = p.line;
+    put_line(words, place, line);
+}
+
+impl<'a> Reader<'a> {
+    // At the text's first line.
+    pub fn new(text: &'a [u8]) -> Reader<'a>
+        ensures { λ r. ⌜ (r .text ≡ text .entry) × (r .at ≡ 0) ⌝ }
+    {
+        Reader { text, at: 0 }
+    }
+
+    // The line at the reader's place is read.
+    pub fn line(self, p: Progress) -> Progress
+        requires { ⌜ (self .at < length (now (self .text))) × (p .runs ≤ self .at) ⌝ }
+        ensures { λ r. ⌜ LineRead (now (self .entry .text)) (self .entry .at) p r ⌝ }
+    {
+        line_at(self.text, self.at, p)
+    }
+
+    // The reader at another place of its text.
+    pub fn moved(self, at: usize) -> Reader<'a>
+        ensures { λ r. ⌜ (r .text ≡ self .entry .text) × (r .at ≡ at) ⌝ }
+    {
+        Reader {
+            text: self.text,
+            at,
+        }
+    }
+}
+
+// The whole text, line by line, with a word for each run line. Callers of this have plain parameters.
+fn through(text: &[u8], words: &mut [u32]) -> Progress
+    ensures { λ r. ⌜ Through (now (text .entry)) (now (words .entry)) r (now (words .exit)) ⌝ }
+{
+    let mut reader = Reader::new(text);
+    let mut p = begin(text);
+    while p.going {
+        p = reader.line(p);
+        put_last(words, p);
+        reader = reader.moved(p.next);
+    }
+    p
+}
+
+// The first pass: whether the text is of the form, and its run lines. Its words are not wanted.
+fn judge(text: &[u8]) -> Judgement
+    ensures { λ r. ⌜ Judged (now (text .entry)) r ⌝ }
+{
+    let mut nothing = [0u32; 1];
+    let p = through(text, &mut nothing);
+    let stage = p.stage;
+    Judgement {
+        formed: is_over(stage),
+        runs: p.runs,
     }
 }
 
@@ -367,7 +448,7 @@ fn fill_if(text: &[u8], words: &mut [u32], wanted: bool)
     ensures { λ _. ⌜ now (words .exit) ≡ pick wanted (sets (now (words .entry)) 0 (wordsOf (linesIn (now (text .entry))))) (now (words .entry)) ⌝ }
 {
     if wanted {
-        fill(text, words);
+        through(text, words);
     }
 }
 

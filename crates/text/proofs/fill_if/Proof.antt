@@ -4,7 +4,7 @@ use Rattle.text.proofs.fill_if.Statement.{statement}
 use Rattle.text.proofs.fill_if.Tie as tie
 
 returns : tie.Need-returns
-returns c = simp (c .before .before .before .before .if1 .taken) (c .before .before .fill .ensures)
+returns c = simp (c .before .before .before .before .if1 .taken) (c .before .before .through .ensures .words-are)
 
 returns-2 : tie.Need-returns-2
 returns-2 c = simp (c .if1 .left)
