@@ -1,8 +1,5 @@
-pub mod Bytes
 pub mod Puts
-pub mod Lines
-pub mod LineByLine
-pub mod Again
+pub mod WordsInFront
 pub mod Numbers
 pub mod LineText
 pub mod WeekLines

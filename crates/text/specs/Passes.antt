@@ -2,53 +2,23 @@
 -- Assumes nothing.
 use mathlib.Core.Path.{_≡_}
 use mathlib.Core.List.{List, [], _∷_, _++_}
-use Prim.Native.Nat.{ℕ, suc, _+_, _-_, _≤_, _<_}
-use lib.Dec.{eqb, ltb}
+use Prim.Native.Nat.{ℕ, suc, _+_, _-_, _≤_}
+use lib.Dec.{eqb}
 use lib.ListN.{length, take, drop}
 use lib.Seq.{sets}
 use Rattle.recording.specs.Tests.{pick}
 use Rattle.recording.specs.Words.{minutesIn, activityIn, minutesOf}
 use Rattle.recording.specs.Weeks.{weekMinutes}
 use Rattle.recording.specs.Operations.{totalAtMost}
-use Rattle.text.specs.declared.Line.{Line}
-use Rattle.text.specs.declared.Line.the-variants as line
-use Rattle.text.specs.declared.Stage.the-variants as stage
-use Rattle.text.specs.declared.Found.{Found}
-use Rattle.text.specs.declared.Progress.{Progress}
+use Rattle.lines.specs.declared.Line.{Line}
+use Rattle.lines.specs.declared.Line.the-variants as line
 use Rattle.text.specs.declared.Ahead.{Ahead}
 use Rattle.text.specs.declared.Judgement.{Judgement}
-use Rattle.text.specs.Form.{lineEnd, runsThen, weeksThenEnd}
-use Rattle.text.specs.Reading.{linesIn, stageAfter, isOver, isText, wordsIn, wordsOf}
+use Rattle.lines.specs.Form.{runsThen, weeksThenEnd}
+use Rattle.lines.specs.Reading.{linesIn, isText, wordsOf}
 use Rattle.text.specs.Writing.{joined, weeksOf}
 
--- ---- reading: how many bytes stand before the first line end, and the first line with the place after it
-unfoldable pub lineLength : List ℕ → ℕ
-lineLength [] = 0
-lineLength (b ∷ bs) = pick (eqb b lineEnd) 0 (suc (lineLength bs))
-
-pub record FirstLine (text : List ℕ) (r : Found) : Type 0 where
-  pub lines : linesIn text ≡ r .line ∷ linesIn (drop (r .next) text)
-  pub moved : 0 < r .next
-  pub within : r .next ≤ length text
-
--- reading line by line: before the first line; the line at a place; and the whole, with a word put for each run line
-abbrev pub begun : List ℕ → Progress
-begun text = record { going = ltb 0 (length text); next = 0; stage = stage.Before; line = line.Other; place = 0; runs = 0 }
-
-pub record LineRead (text : List ℕ) (at : ℕ) (p r : Progress) : Type 0 where
-  pub lines : linesIn (drop at text) ≡ r .line ∷ linesIn (drop (r .next) text)
-  pub moved : at < r .next
-  pub within : r .next ≤ length text
-  pub going : r .going ≡ ltb (r .next) (length text)
-  pub stage : r .stage ≡ stageAfter (p .stage) (r .line)
-  pub place : r .place ≡ p .runs
-  pub runs : r .runs ≡ p .runs + length (wordsIn (r .line))
-
-pub record Through (text words : List ℕ) (r : Progress) (words′ : List ℕ) : Type 0 where
-  pub formed : isOver (r .stage) ≡ isText text
-  pub runs : r .runs ≡ length (wordsOf (linesIn text))
-  pub words-are : words′ ≡ sets words 0 (wordsOf (linesIn text))
-
+-- ---- reading: what the first pass finds
 pub record Judged (text : List ℕ) (r : Judgement) : Type 0 where
   pub formed : r .formed ≡ isText text
   pub runs : r .runs ≡ length (wordsOf (linesIn text))

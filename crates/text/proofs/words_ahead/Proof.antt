@@ -4,7 +4,7 @@ use Prim.Native.Nat.{_+_, _-_, _≤_}
 use native.Mathlib.Omega.{arith}
 use lib.ListN.{length, drop}
 use Rattle.text.specs.Passes.{sameWords, sameMinutes}
-use Rattle.text.proofs.Bytes.{words-other, minutes-other, words-on, minutes-on, words-done, minutes-done, minutes-within}
+use Rattle.text.proofs.WordsInFront.{words-other, minutes-other, words-on, minutes-on, words-done, minutes-done, minutes-within}
 use borrow.Author.Needs.{needs}
 use Rattle.text.proofs.words_ahead.Statement.{statement}
 use Rattle.text.proofs.words_ahead.Tie as tie

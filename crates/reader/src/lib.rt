@@ -1,0 +1,54 @@
+// The text reader: a struct with the lent text and a place, few functions over it, and one above them with plain parameters, which
+// serves every caller. What is said of them stands in crates/lines/specs.
+ghost use mathlib.Core.Path.{_≡_};
+ghost use Prim.Native.Nat.{_≤_, _<_};
+ghost use lib.ListN.{length};
+ghost use Rattle.lines.specs.LineByLine.{LineRead, Through};
+use lines::Progress;
+
+// The text reader: the lent text, and the place of the next line.
+pub struct Reader<'a> {
+    pub text: &'a [u8],
+    pub at: usize,
+}
+
+impl<'a> Reader<'a> {
+    // At the text's first line.
+    pub fn new(text: &'a [u8]) -> Reader<'a>
+        ensures { λ r. ⌜ (r .text ≡ text .entry) × (r .at ≡ 0) ⌝ }
+    {
+        Reader { text, at: 0 }
+    }
+
+    // The line at the reader's place is read.
+    pub fn line(self, p: Progress) -> Progress
+        requires { ⌜ (self .at < length (now (self .text))) × (p .runs ≤ self .at) ⌝ }
+        ensures { λ r. ⌜ LineRead (now (self .entry .text)) (self .entry .at) p r ⌝ }
+    {
+        lines::line_at(self.text, self.at, p)
+    }
+
+    // The reader at another place of its text.
+    pub fn moved(self, at: usize) -> Reader<'a>
+        ensures { λ r. ⌜ (r .text ≡ self .entry .text) × (r .at ≡ at) ⌝ }
+    {
+        Reader {
+            text: self.text,
+            at,
+        }
+    }
+}
+
+// The whole text, line by line, with a word for each run line. Callers of this have plain parameters.
+pub fn through(text: &[u8], words: &mut [u32]) -> Progress
+    ensures { λ r. ⌜ Through (now (text .entry)) (now (words .entry)) r (now (words .exit)) ⌝ }
+{
+    let mut reader = Reader::new(text);
+    let mut p = lines::begin(text);
+    while p.going {
+        p = reader.line(p);
+        lines::put_last(words, p);
+        reader = reader.moved(p.next);
+    }
+    p
+}
