@@ -3,7 +3,6 @@ use mathlib.Core.Path.{_≡_, refl, sym, ap, _∙_}
 use mathlib.Core.Bool.{Bool, true, false}
 use mathlib.Core.List.{List, [], _∷_, _++_, append-nil}
 use Prim.Native.Nat.{ℕ, suc, _+_, _-_, _≤_, _<_}
-use native.Mathlib.Numerals.{add-one}
 use native.Mathlib.Omega.{arith}
 use lib.Dec.{eqb, ltb}
 use lib.ListN.{length, take, drop, length-drop}
@@ -66,11 +65,12 @@ first-open {n} t e f h = record {
   within = omega arith;
 }
 
-pub first-cut : {n : ℕ} {l : Line} (t : List ℕ) → n ≡ lineLength t → (n ≡ length t → ⊥) → l ≡ lineOf (take n t) → FirstLine t (record { line = l; next = n + 1 })
-first-cut {n} {l} t e f g =
+pub first-cut : {n next : ℕ} {l : Line} (t : List ℕ) → n ≡ lineLength t → (n ≡ length t → ⊥) → l ≡ lineOf (take n t) → next ≡ suc n
+    → FirstLine t (record { line = l; next = next })
+first-cut {n} {next} {l} t e f g k =
     let h : lineLength t < length t = omega (arith, line-within t) in
     record {
-      lines = lines-cut [] t h ∙ rw (g, e, add-one) refl;
+      lines = lines-cut [] t h ∙ rw (k, g, e) refl;
       moved = omega arith;
       within = omega arith;
     }

@@ -17,7 +17,7 @@ add-t4 : tie.Need-add-t4
 add-t4 c = omega (arith, c .before .before .before .line-length .ensures, line-within ((c .before .before .before .before .before) .args .text .now))
 
 returns-2 : tie.Need-returns-2
-returns-2 c = first-cut ((c .before .before .before .before .before) .args .text .now) (c .before .before .before .line-length .ensures) (c .before .before .if1 .left) (c .line-of .ensures)
+returns-2 c = first-cut ((c .before .before .before .before .before) .args .text .now) (c .before .before .before .line-length .ensures) (c .before .before .if1 .left) (c .line-of .ensures) (omega arith)
 
 pub first-line-spec : {M : Type 1} → statement M
 first-line-spec =
