@@ -1,12 +1,12 @@
-// The text reader: a struct with the lent text and a place, few functions over it, and one above them with plain parameters, which
-// serves every caller. What is said of them stands in crates/lines/specs.
+// The text reader: few functions over a struct that holds the lent text, and one above them with plain parameters, which serves every
+// caller. What is said of them stands in crates/lines/specs.
 ghost use mathlib.Core.Path.{_≡_};
 ghost use Prim.Native.Nat.{_≤_, _<_};
 ghost use lib.ListN.{length};
 ghost use Rattle.lines.specs.LineByLine.{LineRead, Through};
 use lines::Progress;
 
-// The text reader: the lent text, and the place of the next line.
+// The lent text, and the place of the next line.
 pub struct Reader<'a> {
     pub text: &'a [u8],
     pub at: usize,
@@ -39,7 +39,7 @@ impl<'a> Reader<'a> {
     }
 }
 
-// The whole text, line by line, with a word for each run line. Callers of this have plain parameters.
+// Through the whole text line by line, with a word put for each run line.
 pub fn through(text: &[u8], words: &mut [u32]) -> Progress
     ensures { λ r. ⌜ Through (now (text .entry)) (now (words .entry)) r (now (words .exit)) ⌝ }
 {

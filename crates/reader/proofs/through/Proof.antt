@@ -1,5 +1,6 @@
--- `reader::through` meets its contract: a walk of its MIR, by hand. In the loop over the reader the words are lent again for each line, and come back (`Again.antt`).
---     At x     the invariant, which is the whole context: the reader at its place, what reading carries, the token, the words, their token, and the locals
+-- `reader::through` meets its contract: a walk of its MIR, by hand. In the loop over the reader the words are lent again for each line, and come back
+-- (`Again.antt`). The invariant is the whole context (`At`): the reader at its place, what reading carries, the token, the words, their token, and the
+-- locals.
 -- Assumes nothing.
 use mathlib.Core.Path.{_≡_, refl, sym, ap, subst}
 use Prim.Native.Nat.{ℕ, _-_, _<_, _≤_, _^_}
@@ -116,6 +117,7 @@ module _ {M : Type 1} (𝓤 : URA M) (H : Heap 𝓤) (A : Atoms 𝓤) (mem : Mem
   Moved = tripleOf 𝓤 H A moved.signature (moved.spec 𝓤 H A mem run)
 
 module _ {M : Type 1} (𝓤 : URA M) (H : Heap 𝓤) (A : Atoms 𝓤) (W : Given 𝓤 H A) (mem : Memory → SProp 𝓤) (run : Routine → Fun 𝓤) (κ κ₁ : Lft) (q q₁ : Share) (s₀ : RefT (List ℕ)) (b o : ℕ) (γ : GName) (ws₀ : List ℕ) (room : Room u32 (length ws₀)) where
+  -- the text's bytes, and the machine values of the text and of the words
   abbrev l : List ℕ
   l = s₀ .now
 
@@ -146,6 +148,7 @@ module _ {M : Type 1} (𝓤 : URA M) (H : Heap 𝓤) (A : Atoms 𝓤) (W : Given
   abbrev B : RattleType
   B = T.the-row α
 
+  -- what a reader, what reading carries and the text own
   abbrev RO : Reader → Fml
   RO r = B .own r (T′.lowered r ∷ [])
 
@@ -297,8 +300,7 @@ module _ {M : Type 1} (𝓤 : URA M) (H : Heap 𝓤) (A : Atoms 𝓤) (W : Given
         rewrite ! 0 (λ (m : ℕ). ‵ (MutSlice (named 1) κ₁ u32 .own (xw γ (zs .0)) (sliceVal (b, o) m ∷ []))) (x .1 .1 .same) refl $
         -- [the words; their token; true; what p owns; the token; what the reader owns; _10; …]
         move ! (2 ∷ []) $ drop ! $ move ! (4 ∷ 2 ∷ 3 ∷ []) $
-        -- the next place
-        -- [what the reader owns; what p owns; the token; the words; their token; _10; …]
+        -- the next place [what the reader owns; what p owns; the token; the words; their token; _10; …]
         assigns ! (of-opd ! (load ! (from ! (stop !)) (look ! 19 refl))) (from ! (stop !)) (init ! 5 refl (LL.lawful (T.the-type αᵉ) (T′.the-laws αᵉ) 𝓤 H A W .typed (rd (x .0 .next)) _ ir .0)) $
         move ! (2 ∷ 0 ∷ []) $ use2 W (raw (Moved 𝓤 H A mem run .pre (to-moved (x .0 .next) (t .next)))) (goes-moved (x .0 .next) (t .next) (LL.owed S.the-type S′.the-laws t _ is .1 .0 .1)) $
         -- [what `moved` asks; what p owns; the words; their token; _10; …]

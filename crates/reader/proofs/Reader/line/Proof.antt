@@ -1,4 +1,5 @@
--- `reader::Reader::line` meets its contract: a walk of its MIR, by hand. The struct is taken apart, and `line_at` is called on the slice, the number and the state. Nothing has to be owned of the parameters at exit (`stay-dropped`).
+-- `reader::Reader::line` meets its contract: a walk of its MIR, by hand. The struct is taken apart, and `line_at` is called on the slice, the number and
+-- what reading carries. Nothing has to be owned of the parameters at exit (`stay-dropped`).
 -- Assumes nothing.
 use mathlib.Core.Path.{_≡_, refl}
 use Prim.Native.Nat.{_<_, _≤_, _^_}
