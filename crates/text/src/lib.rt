@@ -71,7 +71,7 @@ pub fn read_text(text: &[u8], words: &mut [u32]) -> Filling
 // ---- writing
 
 // A byte at a place, where the text reaches that far.
-fn put(text: &mut [u8], at: usize, b: u8)
+pub fn put(text: &mut [u8], at: usize, b: u8)
     ensures { λ _. ⌜ now (text .exit) ≡ set (now (text .entry)) at b ⌝ }
 {
     if at < text.len() {
@@ -80,7 +80,7 @@ fn put(text: &mut [u8], at: usize, b: u8)
 }
 
 // Bytes from a place on, as far as the text reaches; the place after them.
-fn put_all(text: &mut [u8], at: usize, bytes: &[u8]) -> usize
+pub fn put_all(text: &mut [u8], at: usize, bytes: &[u8]) -> usize
     requires { ⌜ at + length (now bytes) ≤ places ⌝ }
     ensures { λ r. ⌜ Put (now (text .entry)) at (now (bytes .entry)) r (now (text .exit)) ⌝ }
 {
@@ -104,7 +104,7 @@ fn put_if(text: &mut [u8], at: usize, wanted: bool, bytes: &[u8]) -> usize
 }
 
 // The digit of n at a place of this value, where n reaches that far.
-fn put_digit(text: &mut [u8], at: usize, value: u32, n: u32) -> usize
+pub fn put_digit(text: &mut [u8], at: usize, value: u32, n: u32) -> usize
     requires { ⌜ (0 < value) × (at < places) ⌝ }
     ensures { λ r. ⌜ Put (now (text .entry)) at (digitAt value n) r (now (text .exit)) ⌝ }
 {

@@ -1,0 +1,5 @@
+pub mod Sizes
+pub mod RestLines
+pub mod Pages
+pub mod Room
+pub mod Answered
