@@ -5,7 +5,7 @@ use libc::STDIN_FILENO;
 use libc::STDOUT_FILENO;
 use recording::Filling;
 
-const ENOUGH: usize = 65537;
+const ENOUGH: usize = report::INPUT_BYTES + 1;
 
 // What was read: so many bytes in front of the buffer, or an error.
 enum Input {

@@ -1,20 +1,19 @@
 -- What each answer prints: of the verdict, of the reading of a text, and of a page that is handed over. Assumes nothing.
 use mathlib.Core.Path.{_≡_, refl, sym, ap, _∙_}
-use mathlib.Core.List.{List, [], _∷_, _++_}
+use mathlib.Core.List.{List, [], _∷_}
 use mathlib.Core.Option.{Option, none, some}
-use Prim.Native.Nat.{ℕ, zero, suc, _+_, _*_, _≤_, _<_}
+use Prim.Native.Nat.{ℕ, zero, suc, _*_, _≤_, _<_}
 use native.Mathlib.Omega.{arith}
-use lib.Dec.{ltb}
 use lib.ListN.{length, take, drop, replicate, length-append, length-take, length-replicate}
-use lib.Seq.{sets, take-at}
+use lib.Seq.{take-at}
 use borrow.Author.Tests.{lt-ltb, le-ltb}
-use Rattle.recording.specs.Answers.{Answer, refused, answered, andThen, refuseIf, counted, filled}
+use Rattle.recording.specs.Answers.{Answer, refused, answered, counted, filled}
 use Rattle.recording.specs.Words.{minutesOf}
 use Rattle.recording.specs.Rests.{longRests, longRestsAtMost}
-use Rattle.recording.specs.Operations.{totalAtMost, measured, measureOf}
+use Rattle.recording.specs.Operations.{totalAtMost, measured}
 use Rattle.recording.specs.declared.Measure.{Measure}
 use Rattle.recording.proofs.LongRests.{few-rests}
-use Rattle.recording.proofs.Listing.{Measured, measured-is}
+use Rattle.recording.proofs.Listing.{measured-is}
 use Rattle.rules.specs.Order.{Bytes}
 use Rattle.rules.specs.Reading.{entryBytes, readingSize}
 use Rattle.rules.specs.Verdict.{prefix, firstLawful, breachMinute, article, Verdict, pass, breach, verdictBy, verdict}
@@ -23,7 +22,7 @@ use Rattle.rules.proofs.Breach.{first-sound}
 use Rattle.text.specs.Passes.{Put}
 use Rattle.text.specs.Reading.{textRead}
 use Rattle.text.proofs.FormLaws.{put-in-front}
-use Rattle.report.specs.Printed.{answerText, printed, wordsAnswered, verdictText, inputAtMost, inputRead, deskText, intoRoom}
+use Rattle.report.specs.Printed.{answerText, printed, verdictText, inputAtMost, inputRead, deskText, intoRoom}
 use Rattle.report.specs.Composing.{pageAtMost, runLineBytes, refusalPage, pageOf, Read}
 use Rattle.report.proofs.Pages.{refusal-size, page-size}
 use Rattle.report.proofs.Room.{room-same}
@@ -59,7 +58,7 @@ judged-refused : (ws : List ℕ) (room : ℕ) {n : ℕ} → measured ws ≡ refu
 unfolding judged
 judged-refused ws room q = rw q refl
 
-text-is : (ws : List ℕ) {k : Measure} {v : Verdict} → measured ws ≡ answered k → verdict (minutesOf ws) ≡ v → verdictText ws ≡ pageOf (minutesOf ws) v
+pub text-is : (ws : List ℕ) {k : Measure} {v : Verdict} → measured ws ≡ answered k → verdict (minutesOf ws) ≡ v → verdictText ws ≡ pageOf (minutesOf ws) v
 unfolding verdictText answerText
 text-is ws q e = rw (q, e) refl
 
@@ -131,11 +130,11 @@ verdict-size ws = at (measured ws) refl
     at (answered k) q = omega (arith, ap length (text-is ws {v = verdict (minutesOf ws)} q refl), page-size (minutesOf ws) (verdict (minutesOf ws)) (measured-is ws q .within))
 
 -- ---- the reading of a text
-desk-refused : (text : List ℕ) {n : ℕ} → inputRead text ≡ refused n → deskText text ≡ refusalPage n
+pub desk-refused : (text : List ℕ) {n : ℕ} → inputRead text ≡ refused n → deskText text ≡ refusalPage n
 unfolding deskText
 desk-refused text q = rw q refl
 
-desk-words : (text : List ℕ) {ws : List ℕ} → inputRead text ≡ answered ws → deskText text ≡ verdictText ws
+pub desk-words : (text : List ℕ) {ws : List ℕ} → inputRead text ≡ answered ws → deskText text ≡ verdictText ws
 unfolding deskText verdictText
 desk-words text q = rw q refl
 
@@ -182,7 +181,15 @@ module _ (text : List ℕ) (lent : ℕ) (within : length text ≤ inputAtMost) (
             text = desk-words text (input-is ∙ q) ∙ ap verdictText (sym t);
           }
 
--- ---- a page that is handed over
+-- ---- a page that is handed over; the bytes that are enough for whatever is printed
+pub verdict-fits : (ws : List ℕ) (room : ℕ) → pageAtMost ≤ room → intoRoom (verdictText ws) room ≡ answered (verdictText ws)
+unfolding intoRoom
+verdict-fits ws room h = rw (le-ltb room (length (verdictText ws)) (omega (arith, verdict-size ws))) refl
+
+pub desk-fits : (text : List ℕ) (room : ℕ) → pageAtMost ≤ room → intoRoom (deskText text) room ≡ answered (deskText text)
+unfolding intoRoom
+desk-fits text room h = rw (le-ltb room (length (deskText text)) (omega (arith, desk-size text))) refl
+
 module _ (page out : List ℕ) where
   pub record Handed (told : Answer ℕ) (new : List ℕ) : Type 0 where
     pub answer : told ≡ counted (intoRoom page (length out))

@@ -3,3 +3,4 @@ pub mod RestLines
 pub mod Pages
 pub mod Room
 pub mod Answered
+pub mod Worked

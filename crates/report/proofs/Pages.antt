@@ -1,10 +1,10 @@
 -- Whole pages: what stands at the end of each, and how long it is. Assumes nothing.
-use mathlib.Core.Path.{_≡_, refl, sym, ap, _∙_}
+use mathlib.Core.Path.{_≡_, sym, ap, _∙_}
 use mathlib.Core.List.{List, [], _∷_, _++_, map, append-assoc}
-use Prim.Native.Nat.{ℕ, suc, _+_, _*_, _≤_, _<_}
+use Prim.Native.Nat.{ℕ, _+_, _*_, _≤_}
 use native.Mathlib.Omega.{arith}
 use lib.ListN.{length, take, drop, getD, length-append, length-take, length-map, length-replicate}
-use lib.Seq.{sets, sets-eq, take-at}
+use lib.Seq.{sets-eq, take-at}
 use Rattle.recording.specs.Words.{minutesIn, activityIn, minutesOf}
 use Rattle.recording.specs.Rests.{judgedEnd, longRests, longRestsAtMost}
 use Rattle.recording.specs.Operations.{totalAtMost}
@@ -15,10 +15,10 @@ use Rattle.recording.proofs.LongRests.{few-rests}
 use Rattle.recording.proofs.Scanning.{run-sensible, scan-end, scan-count, scan-written}
 use Rattle.rules.specs.Reading.{entryBytes, readingSize}
 use Rattle.rules.specs.Verdict.{Verdict, pass, breach}
-use Rattle.text.specs.Passes.{Put, places, roomy}
+use Rattle.text.specs.Passes.{Put, places}
 use Rattle.text.proofs.Puts.{put-then}
 use Rattle.report.specs.Printed.{asLine, closed, verdictName, minutesName, judgedName, readingName, refusedName, numbered, restsText, breachText}
-use Rattle.report.specs.Composing.{pageAtMost, lineAtMost, restsOf, Readable, refusalPage, pageOf, passHead, Read}
+use Rattle.report.specs.Composing.{pageAtMost, lineAtMost, restsOf, Readable, refusalPage, pageOf, passHead}
 use Rattle.report.proofs.Sizes.{numbered-short, rest-short, breach-short}
 use Rattle.report.proofs.RestLines.{rests-lines}
 

@@ -1,16 +1,16 @@
 -- A run line has at least nine bytes, so a text has no more run lines than a ninth of its bytes. Assumes nothing.
-use mathlib.Core.Path.{_≡_, refl, sym, ap, _∙_}
+use mathlib.Core.Path.{_≡_, refl}
 use mathlib.Core.Bool.{Bool, true, false}
 use mathlib.Core.List.{List, [], _∷_, _++_}
-use Prim.Native.Nat.{ℕ, zero, suc, _+_, _*_, _≤_, _<_}
+use Prim.Native.Nat.{ℕ, suc, _+_, _*_, _≤_}
 use native.Mathlib.Omega.{arith}
-use lib.Dec.{eqb, ltb}
+use lib.Dec.{eqb}
 use lib.ListN.{length, length-append}
 use borrow.Author.Tests.{le-ltb, eqb-false}
 use Rattle.recording.specs.Tests.{pick}
 use Rattle.recording.specs.Words.{wordOf, rest, availability, otherWork, driving}
 use Rattle.text.specs.Form.{lineEnd, recordingLine, weekLine, closing, closingLine, runName}
-use Rattle.text.specs.Reading.{same, isEmpty, isDigit, withDigit, inRange, numberFrom, numberAfter, runOr, runOrOther, lineOf, linesFrom, linesIn, wordsIn, wordsOf, textRead}
+use Rattle.text.specs.Reading.{same, isDigit, withDigit, inRange, numberFrom, numberAfter, runOr, runOrOther, lineOf, linesFrom, linesIn, wordsIn, wordsOf, textRead}
 use Rattle.text.specs.declared.Line.{Line}
 use Rattle.text.specs.declared.Line.the-variants as line
 use Rattle.report.specs.Composing.{runLineBytes}

@@ -1,15 +1,14 @@
 -- How many bytes each line takes at most. Assumes nothing.
 use mathlib.Core.Bool.{Bool, true, false}
-use mathlib.Core.List.{List, [], _∷_, _++_}
-use Prim.Native.Nat.{ℕ, _+_, _%_, _≤_}
+use mathlib.Core.List.{List}
+use Prim.Native.Nat.{ℕ, _+_, _≤_}
 use native.Mathlib.Omega.{arith}
 use lib.Dec.{eqb}
 use lib.ListN.{length, length-append}
 use Rattle.recording.specs.Tests.{pick}
 use Rattle.rules.specs.Reading.{weeklyKind}
-use Rattle.text.specs.Form.{digitZero, base, digitAt}
 use Rattle.text.proofs.Puts.{digit-short}
-use Rattle.report.specs.Printed.{space, closed, dailyName, weeklyName, breachName, numberText, spaced, numbered, spanText, dailyText, weeklyText, restText, articleText, breachText}
+use Rattle.report.specs.Printed.{dailyName, weeklyName, numberText, numbered, spanText, dailyText, weeklyText, restText, articleText, breachText}
 use Rattle.report.specs.Composing.{lineAtMost}
 
 pub pick-most : {A : Type 0} (b : Bool) (xs ys : List A) (k : ℕ) → length xs ≤ k → length ys ≤ k → length (pick b xs ys) ≤ k

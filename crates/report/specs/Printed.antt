@@ -12,7 +12,7 @@ use Rattle.recording.specs.Operations.{measured}
 use Rattle.recording.specs.declared.Span.{Span}
 use Rattle.rules.specs.Reading.{weeklyKind, entryBytes}
 use Rattle.rules.specs.Verdict.{Verdict, pass, breach, verdict}
-use Rattle.text.specs.Form.{lineEnd, closing, closingLine, digitZero, base, digitAt}
+use Rattle.text.specs.Form.{lineEnd, closingLine, digitZero, base, digitAt}
 use Rattle.text.specs.Reading.{textRead}
 
 -- ---- lines

@@ -22,7 +22,7 @@ pub const INPUT_BYTES: usize = 65536;
 const TEXT_WORDS: usize = 7282;
 
 // Bytes enough for any reading: three for each long rest.
-const READING_BYTES: usize = 669;
+const READING_BYTES: usize = 3 * recording::LONG_RESTS;
 
 // A byte as a wider number.
 fn wide(b: u8) -> u32
@@ -59,7 +59,7 @@ fn put_spaced(out: &mut [u8], at: usize, n: u32) -> usize
 // A line of a name and one number.
 fn put_numbered(out: &mut [u8], at: usize, name: &[u8], n: u32) -> usize
     requires { ⌜ at + length (now name) + 9 ≤ places ⌝ }
-    ensures { λ r. ⌜ Put (now (out .entry)) at (numbered (now (name .entry)) n) r (now (out .exit)) ⌝ }
+    ensures { λ r. ⌜ Put (now (out .entry)) at (numbered (now (name .entry)) n) r (now (out .exit)) × (r ≤ at + length (now (name .entry)) + 9) ⌝ }
 {
     let named = text::put_all(out, at, name);
     let told = put_spaced(out, named, n);

@@ -1,17 +1,15 @@
 -- `report::refusal_page` meets its contract. Assumes nothing.
 use native.Mathlib.Omega.{arith}
 use Rattle.text.proofs.Puts.{put-then}
-use Rattle.report.specs.Printed.{refusedName}
-use Rattle.report.proofs.Sizes.{numbered-short}
 use borrow.Author.Needs.{needs}
 use Rattle.report.proofs.refusal_page.Statement.{statement}
 use Rattle.report.proofs.refusal_page.Tie as tie
 
 put-all-requires-2 : tie.Need-put-all-requires-2
-put-all-requires-2 c κs = omega (arith, c .before .before .before .before .before .before .before .before .before .put-all .ensures .next-is, numbered-short refusedName ((c .before .before .before .before .before .before .before .before .before .before .before .before .before) .args .n))
+put-all-requires-2 c κs = omega (arith, c .before .before .before .before .before .before .before .before .before .put-all .ensures .next-is, c .before .before .before .before .put-numbered .ensures .1)
 
 returns : tie.Need-returns
-returns c = put-then (put-then (c .before .before .before .before .before .before .before .before .before .before .before .before .put-all .ensures) (c .before .before .before .before .before .before .before .put-numbered .ensures)) (c .before .before .put-all2 .ensures)
+returns c = put-then (put-then (c .before .before .before .before .before .before .before .before .before .before .before .before .put-all .ensures) (c .before .before .before .before .before .before .before .put-numbered .ensures .0)) (c .before .before .put-all2 .ensures)
 
 pub refusal-page-spec : {M : Type 1} → statement M
 refusal-page-spec =
