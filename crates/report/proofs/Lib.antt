@@ -1,3 +1,4 @@
+pub mod NumberLaws
 pub mod Sizes
 pub mod RestLines
 pub mod Pages

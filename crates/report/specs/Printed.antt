@@ -15,7 +15,7 @@ use Rattle.rules.specs.Verdict.{Verdict, pass, breach, verdict}
 use Rattle.text.specs.Form.{lineEnd, closingLine, digitZero, base, digitAt}
 use Rattle.text.specs.Reading.{textRead}
 
--- ---- lines
+-- ---- lines, each ended by byte 10 and with no spaces but those shown
 -- `(verdict`, `(minutes`, `(judged`, `(reading`, `(daily`, `(weekly`, `(breach` and `(refused`
 abbrev pub verdictName : List ℕ
 verdictName = 40 ∷ 118 ∷ 101 ∷ 114 ∷ 100 ∷ 105 ∷ 99 ∷ 116 ∷ []
@@ -55,6 +55,7 @@ closed = asLine closingLine
 unfoldable pub numberText : ℕ → List ℕ
 numberText n = digitAt 100000 n ++ digitAt 10000 n ++ digitAt 1000 n ++ digitAt 100 n ++ digitAt 10 n ++ (digitZero + n % base) ∷ []
 
+-- a number after a space
 abbrev pub spaced : ℕ → List ℕ
 spaced n = (space ∷ []) ++ numberText n
 
@@ -77,6 +78,7 @@ weeklyText start end week carrier = spanText weeklyName start end ++ spaced week
 unfoldable pub restText : ℕ → ℕ → ℕ → ℕ → ℕ → List ℕ
 restText start end kind week carrier = pick (eqb kind weeklyKind) (weeklyText start end week carrier) (dailyText start end)
 
+-- the long rests in order, with three bytes of the reading for each
 unfoldable pub restsText : List Span → List ℕ → List ℕ
 restsText [] reading = []
 restsText (r ∷ rs) reading =
@@ -92,6 +94,7 @@ articleText a =
     (pick (eqb a 5) (56 ∷ 46 ∷ 50 ∷ [])
     (56 ∷ [])))))
 
+-- the line `(breach m a)`
 unfoldable pub breachText : ℕ → ℕ → List ℕ
 breachText m a = breachName ++ spaced m ++ (space ∷ []) ++ articleText a ++ closed
 
@@ -104,6 +107,7 @@ findingText ms (breach m a) = breachText m a
 unfoldable pub answerText : List ℕ → List ℕ
 answerText ms = numbered minutesName (length ms) ++ findingText ms (verdict ms)
 
+-- `(verdict`, these lines, `)`
 abbrev pub bracketed : List ℕ → List ℕ
 bracketed lines = asLine verdictName ++ lines ++ closed
 
@@ -128,6 +132,7 @@ inputAtMost = 65536
 unfoldable pub inputRead : List ℕ → Answer (List ℕ)
 inputRead text = refuseIf (ltb inputAtMost (length text)) 9 (textRead text (length text))
 
+-- what is printed for the bytes of the input
 unfoldable pub deskText : List ℕ → List ℕ
 deskText text = printed (andThen (inputRead text) wordsAnswered)
 
