@@ -20,7 +20,7 @@ use Rattle.rules.specs.Verdict.{prefix, firstLawful, breachMinute, article, Ver
 use Rattle.rules.specs.Operations.{judged, Outcome, passed, breached, outcomeOf, outcome, readingAfter}
 use Rattle.rules.proofs.Breach.{first-sound}
 use Rattle.text.specs.Passes.{Put}
-use Rattle.text.specs.Reading.{textRead}
+use Rattle.lines.specs.Reading.{textRead}
 use Rattle.text.proofs.FormLaws.{put-in-front}
 use Rattle.report.specs.Printed.{answerText, printed, verdictText, inputAtMost, inputRead, deskText, intoRoom}
 use Rattle.report.specs.Composing.{pageAtMost, runLineBytes, refusalPage, pageOf, Read}

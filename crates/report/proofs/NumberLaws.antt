@@ -8,7 +8,7 @@ use lib.Dec.{ltb}
 use borrow.Author.Tests.{lt-ltb, le-ltb}
 use Rattle.recording.specs.Tests.{pick}
 use Rattle.recording.proofs.TestLaws.{less-or-not}
-use Rattle.text.specs.Form.{digitZero, base, digitAt}
+use Rattle.lines.specs.Form.{digitZero, base, digitAt}
 use Rattle.report.specs.Printed.{numberText}
 
 -- the value of digits, after the value so far

@@ -9,7 +9,8 @@ use lib.Seq.{sets, drop-cons, drop-length, drop-drop, getD-drop}
 use Rattle.recording.specs.declared.Span.{Span}
 use Rattle.rules.specs.Reading.{entryBytes}
 use Rattle.text.specs.Passes.{Put, roomy}
-use Rattle.text.proofs.Puts.{sets-append, put-same-length}
+use Rattle.lines.proofs.Slices.{sets-append}
+use Rattle.text.proofs.Puts.{put-same-length}
 use Rattle.report.specs.Printed.{restText, restsText}
 use Rattle.report.specs.Composing.{lineAtMost, restsOf, Readable}
 use Rattle.report.proofs.Sizes.{rest-short}

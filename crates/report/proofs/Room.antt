@@ -9,10 +9,10 @@ use lib.ListN.{length, length-append}
 use borrow.Author.Tests.{le-ltb, eqb-false}
 use Rattle.recording.specs.Tests.{pick}
 use Rattle.recording.specs.Words.{wordOf, rest, availability, otherWork, driving}
-use Rattle.text.specs.Form.{lineEnd, recordingLine, weekLine, closing, closingLine, runName}
-use Rattle.text.specs.Reading.{same, isDigit, withDigit, inRange, numberFrom, numberAfter, runOr, runOrOther, lineOf, linesFrom, linesIn, wordsIn, wordsOf, textRead}
-use Rattle.text.specs.declared.Line.{Line}
-use Rattle.text.specs.declared.Line.the-variants as line
+use Rattle.lines.specs.Form.{lineEnd, recordingLine, weekLine, closing, closingLine, runName}
+use Rattle.lines.specs.Reading.{same, isDigit, withDigit, inRange, numberFrom, numberAfter, runOr, runOrOther, lineOf, linesFrom, linesIn, wordsIn, wordsOf, textRead}
+use Rattle.lines.specs.declared.Line.{Line}
+use Rattle.lines.specs.declared.Line.the-variants as line
 use Rattle.report.specs.Composing.{runLineBytes}
 
 -- the end of a line that holds a number has a digit and a bracket

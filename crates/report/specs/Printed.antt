@@ -12,8 +12,8 @@ use Rattle.recording.specs.Operations.{measured}
 use Rattle.recording.specs.declared.Span.{Span}
 use Rattle.rules.specs.Reading.{weeklyKind, entryBytes}
 use Rattle.rules.specs.Verdict.{Verdict, pass, breach, verdict}
-use Rattle.text.specs.Form.{lineEnd, closingLine, digitZero, base, digitAt}
-use Rattle.text.specs.Reading.{textRead}
+use Rattle.lines.specs.Form.{lineEnd, closingLine, digitZero, base, digitAt}
+use Rattle.lines.specs.Reading.{textRead}
 
 -- ---- lines, each ended by byte 10 and with no spaces but those shown
 -- `(verdict`, `(minutes`, `(judged`, `(reading`, `(daily`, `(weekly`, `(breach` and `(refused`
