@@ -69,6 +69,12 @@ module _ (ws : List ℕ) where
   measured-there e q = sym e ∙ ap weighed q
 
 -- ---- listing
+pub in-front : (f : Span → ℕ) (rs : List Span) (out : List ℕ) → length rs ≤ length out → sets out 0 (map f rs) ≡ map f rs ++ drop (length (map f rs)) out
+in-front f rs out h =
+    let k : 0 + length (map f rs) ≤ length out = rw length-map (omega arith) in
+    let z : 0 + length (map f rs) ≡ length (map f rs) = omega arith in
+    sets-eq (map f rs) out 0 k ∙ ap (λ (n : ℕ). map f rs ++ drop n out) z
+
 module _ (ws s e : List ℕ) where
   pub list-refused : {n : ℕ} → measured ws ≡ refused n → Listed ws s e (filling.Refused n) s e
   unfolding listed
@@ -77,12 +83,6 @@ module _ (ws s e : List ℕ) where
   pub list-short : {m : Measure} → measured ws ≡ answered m → min (length s) (length e) < m .count → Listed ws s e (filling.Refused 3) s e
   unfolding listed
   list-short {m} q h = let t = lt-ltb (min (length s) (length e)) (m .count) h in record { answer = rw (q, t); begun = rw (q, t); ended = rw (q, t) }
-
-  in-front : (f : Span → ℕ) (rs : List Span) (out : List ℕ) → length rs ≤ length out → sets out 0 (map f rs) ≡ map f rs ++ drop (length (map f rs)) out
-  in-front f rs out h =
-      let k : 0 + length (map f rs) ≤ length out = rw length-map (omega arith) in
-      let z : 0 + length (map f rs) ≡ length (map f rs) = omega arith in
-      sets-eq (map f rs) out 0 k ∙ ap (λ (n : ℕ). map f rs ++ drop n out) z
 
   pub list-done : {m : Measure} {p : Place} {s′ e′ : List ℕ} → measured ws ≡ answered m → m .count ≤ length s → m .count ≤ length e
       → Scanned ws s e p s′ e′ → Listed ws s e (filling.Written (m .count)) s′ e′

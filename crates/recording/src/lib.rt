@@ -7,7 +7,8 @@ ghost use Rattle.recording.specs.Words.{minutesOf};
 ghost use Rattle.recording.specs.Operations.{totalAtMost, totalFrom, measured, weighed};
 ghost use Rattle.recording.specs.Scan.{totalled, faultIn, refusalIn, endsRest, afterRun, placeOf, origin, Scanned, Listed};
 
-// The minutes from `start` up to `end`, which is not included.
+// The minutes from `start` up to `end`, which is not included. Callers in C lend a list of them.
+#[repr(C)]
 pub struct Span {
     pub start: u32,
     pub end: u32,
