@@ -1,16 +1,45 @@
 -- An answer as one number, for callers in C. Assumes nothing.
-use Prim.Native.Nat.{ℕ, _+_, _*_}
+use Prim.Native.Nat.{ℕ, _+_, _-_, _*_}
+use mathlib.Core.List.{List}
 use Rattle.recording.specs.Answers.{Answer, refused, answered}
-use Rattle.rules.specs.Operations.{Outcome, passed, breached}
+use Rattle.recording.specs.declared.Measure.{Measure}
+use Rattle.rules.specs.Reading.{entryBytes}
+use Rattle.rules.specs.Operations.{Outcome, passed, breached, entryAt}
 
--- A refusal is its own number. A pass is one unit and the count of bytes written, a breach two units, eight times its minute and its article.
-abbrev pub codeUnit : ℕ
-codeUnit = 4294967296
+-- "The result itself says whether its number is a refusal or an answer, since both start at 1." A refusal is its own number, an answer one unit
+-- and its value.
+abbrev pub answerUnit : ℕ
+answerUnit = 281474976710656
 
+abbrev pub codeOf : {A : Type 0} → (A → ℕ) → Answer A → ℕ
+codeOf value (refused n) = n
+codeOf value (answered a) = answerUnit + value a
+
+-- "answers with the count of words, bytes or records written"; "0 or the smallest broken rule"
+abbrev pub itself : ℕ → ℕ
+itself n = n
+
+-- "Weighing gives N, S and k."
+abbrev pub judgedUnit : ℕ
+judgedUnit = 131072
+
+abbrev pub countUnit : ℕ
+countUnit = 17179869184
+
+abbrev pub measureValue : Measure → ℕ
+measureValue m = m .total + judgedUnit * m .judged + countUnit * m .count
+
+-- A pass is the count of bytes written, a breach one unit more, eight times its minute and its article.
 abbrev pub articleUnit : ℕ
 articleUnit = 8
 
-abbrev pub codeOf : Answer Outcome → ℕ
-codeOf (refused n) = n
-codeOf (answered (passed n)) = codeUnit + n
-codeOf (answered (breached m a)) = 2 * codeUnit + articleUnit * m + a
+abbrev pub outcomeValue : Outcome → ℕ
+outcomeValue (passed n) = n
+outcomeValue (breached m a) = answerUnit + articleUnit * m + a
+
+-- "The answer is the three bytes themselves in the caller's reading": the place of the first of them there.
+abbrev pub entryPlace : ℕ → ℕ
+entryPlace number = entryBytes * (number - 1)
+
+abbrev pub entryCode : List ℕ → ℕ → ℕ
+entryCode reading number = codeOf (λ _. entryPlace number) (entryAt reading number)

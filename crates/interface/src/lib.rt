@@ -1,29 +1,144 @@
 // The operations for callers in C: numbers and slices of numbers in, one number out.
+use fixed::Tested;
+use recording::Filling;
+use recording::Weighing;
 use verdict::Outcome;
 ghost use mathlib.Core.Path.{_≡_};
 ghost use lib.ListN.{length};
-ghost use Rattle.rules.specs.Operations.{judged, outcome, readingAfter};
+ghost use Prim.Native.Nat.{min};
+ghost use Rattle.recording.specs.Answers.{counted, filled};
+ghost use Rattle.recording.specs.Operations.{measured, listed, written};
+ghost use Rattle.recording.specs.Scan.{eachOf};
+ghost use Rattle.recording.specs.declared.Span.{Span};
+ghost use Rattle.fixed.specs.Walk.{tested};
+ghost use Rattle.rules.specs.Operations.{fixedTested, readingTested, entryAt, entryRefusal, judged, outcome, readingAfter};
+ghost use Rattle.text.specs.Reading.{textRead};
+ghost use Rattle.text.specs.Writing.{textWritten};
 ghost use Rattle.verdict.specs.Verdicts.{outcomeBy};
-ghost use Rattle.interface.specs.Codes.{codeOf};
+ghost use Rattle.interface.specs.Codes.{codeOf, itself, measureValue, outcomeValue, entryCode};
 
-const UNIT: u64 = 4294967296;
+// One unit and its value are an answer; less is a refusal.
+const ANSWER: u64 = 281474976710656;
+
+const JUDGED: u64 = 131072;
+
+const COUNT: u64 = 17179869184;
 
 const ARTICLES: u64 = 8;
 
-fn code_of(o: Outcome) -> u64
-    ensures { λ r. ⌜ r ≡ codeOf (outcomeBy o) ⌝ }
+const ENTRY_BYTES: usize = 3;
+
+fn count_code(f: Filling) -> u64
+    ensures { λ r. ⌜ r ≡ codeOf itself (written f) ⌝ }
 {
-    match o {
-        Outcome::Refused(n) => n as u64,
-        Outcome::Passed(n) => UNIT + (n as u64),
-        Outcome::Breached(b) => 2 * UNIT + ARTICLES * (b.minute as u64) + (b.article as u64),
+    match f {
+        Filling::Refused(n) => n as u64,
+        Filling::Written(n) => ANSWER + (n as u64),
     }
 }
 
-// The verdict: a refusal's number; UNIT and the count of bytes of the reading; or 2 × UNIT, 8 × the minute and the article.
+fn rule_code(t: Tested) -> u64
+    ensures { λ r. ⌜ r ≡ codeOf itself (tested t) ⌝ }
+{
+    match t {
+        Tested::Refused(n) => n as u64,
+        Tested::Answer(n) => ANSWER + (n as u64),
+    }
+}
+
+fn outcome_code(o: Outcome) -> u64
+    ensures { λ r. ⌜ r ≡ codeOf outcomeValue (outcomeBy o) ⌝ }
+{
+    match o {
+        Outcome::Refused(n) => n as u64,
+        Outcome::Passed(n) => ANSWER + (n as u64),
+        Outcome::Breached(b) => ANSWER
+            + (ANSWER + ARTICLES * (b.minute as u64) + (b.article as u64)),
+    }
+}
+
+// Weighing: a refusal's number; or ANSWER, N, 2^17 × S and 2^34 × k.
+#[no_mangle]
+pub extern "C" fn desk_weigh(words: &[u32]) -> u64
+    ensures { λ r. ⌜ r ≡ codeOf measureValue (measured (now (words .entry))) ⌝ }
+{
+    let weighing = recording::weigh(words);
+    let Weighing::Weighed(measure) = weighing else {
+        return recording::refusal_of(weighing) as u64;
+    };
+    let minutes = (measure.total as u64) + JUDGED * (measure.judged as u64);
+    ANSWER + (minutes + COUNT * (measure.count as u64))
+}
+
+// Listing long rests into two slices: a refusal's number; or ANSWER and their count.
+#[no_mangle]
+pub extern "C" fn desk_list_rests(words: &[u32], starts: &mut [u32], ends: &mut [u32]) -> u64
+    ensures { λ r. ⌜ r ≡ codeOf itself (counted (listed (now (words .entry)) (min (length (now (starts .entry))) (length (now (ends .entry)))))) ⌝ }
+    ensures { λ r. ⌜ now (starts .exit) ≡ filled (eachOf (λ (s : Span). s .start) (listed (now (words .entry)) (min (length (now (starts .entry))) (length (now (ends .entry)))))) (now (starts .entry)) ⌝ }
+    ensures { λ r. ⌜ now (ends .exit) ≡ filled (eachOf (λ (s : Span). s .end) (listed (now (words .entry)) (min (length (now (starts .entry))) (length (now (ends .entry)))))) (now (ends .entry)) ⌝ }
+{
+    count_code(recording::list_rests(words, starts, ends))
+}
+
+// Testing fixed rules for a stretch of m: a refusal's number; or ANSWER and the smallest broken rule, or 0.
+#[no_mangle]
+pub extern "C" fn desk_fixed_test(words: &[u32], m: u32) -> u64
+    ensures { λ r. ⌜ r ≡ codeOf itself (fixedTested (now (words .entry)) m) ⌝ }
+{
+    rule_code(fixed::fixed_test(words, m))
+}
+
+// Testing a reading: a refusal's number; or ANSWER and the smallest broken rule, or 0.
+#[no_mangle]
+pub extern "C" fn desk_reading_test(words: &[u32], reading: &[u8]) -> u64
+    ensures { λ r. ⌜ r ≡ codeOf itself (readingTested (now (words .entry)) (now (reading .entry))) ⌝ }
+{
+    rule_code(reading::reading_test(words, reading))
+}
+
+// Entry of a reading: a refusal's number; or ANSWER and the place of its three bytes in the reading.
+#[no_mangle]
+pub extern "C" fn desk_entry(reading: &[u8], number: usize) -> u64
+    ensures { λ r. ⌜ r ≡ entryCode (now (reading .entry)) number ⌝ }
+{
+    let part = reading::entry(reading, number);
+    if part.len() == 0 {
+        return reading::entry_refusal(reading, number) as u64;
+    }
+    ANSWER + ((ENTRY_BYTES * (number - 1)) as u64)
+}
+
+// Its companion: 0, or the refusal's number.
+#[no_mangle]
+pub extern "C" fn desk_entry_refusal(reading: &[u8], number: usize) -> u64
+    ensures { λ r. ⌜ r ≡ entryRefusal (entryAt (now (reading .entry)) number) ⌝ }
+{
+    reading::entry_refusal(reading, number) as u64
+}
+
+// Reading text: a refusal's number; or ANSWER and the count of words.
+#[no_mangle]
+pub extern "C" fn desk_read_text(text: &[u8], words: &mut [u32]) -> u64
+    ensures { λ r. ⌜ r ≡ codeOf itself (counted (textRead (now (text .entry)) (length (now (words .entry))))) ⌝ }
+    ensures { λ r. ⌜ now (words .exit) ≡ filled (textRead (now (text .entry)) (length (now (words .entry)))) (now (words .entry)) ⌝ }
+{
+    count_code(text::read_text(text, words))
+}
+
+// Writing text: a refusal's number; or ANSWER and the text's length.
+#[no_mangle]
+pub extern "C" fn desk_write_text(words: &[u32], text: &mut [u8]) -> u64
+    ensures { λ r. ⌜ r ≡ codeOf itself (counted (textWritten (now (words .entry)) (length (now (text .entry))))) ⌝ }
+    ensures { λ r. ⌜ now (text .exit) ≡ filled (textWritten (now (words .entry)) (length (now (text .entry)))) (now (text .entry)) ⌝ }
+{
+    count_code(text::write_text(words, text))
+}
+
+// The verdict: a refusal's number; ANSWER and the count of bytes of the reading; or 2 × ANSWER, 8 × the minute and the article.
 #[no_mangle]
 pub extern "C" fn desk_verdict(words: &[u32], reading: &mut [u8]) -> u64
-    ensures { λ r. ⌜ (r ≡ codeOf (outcome (judged (now (words .entry)) (length (now (reading .entry)))))) × (now (reading .exit) ≡ readingAfter (judged (now (words .entry)) (length (now (reading .entry)))) (now (reading .entry))) ⌝ }
+    ensures { λ r. ⌜ r ≡ codeOf outcomeValue (outcome (judged (now (words .entry)) (length (now (reading .entry))))) ⌝ }
+    ensures { λ r. ⌜ now (reading .exit) ≡ readingAfter (judged (now (words .entry)) (length (now (reading .entry)))) (now (reading .entry)) ⌝ }
 {
-    code_of(verdict::verdict(words, reading))
+    outcome_code(verdict::verdict(words, reading))
 }
