@@ -1,0 +1,96 @@
+/* Calls every operation of the desk once, and those that refuse with a refusal, and prints the answers. */
+#include <inttypes.h>
+#include <stdio.h>
+
+#include "../desk.h"
+
+enum { REST, AVAILABILITY, WORK, DRIVING };
+
+#define WORD(minutes, activity) (4u * (minutes) + (activity))
+
+static void print_bytes(const uint8_t *bytes, size_t count)
+{
+    for (size_t i = 0; i < count; i++)
+        printf(" %d", bytes[i]);
+    printf("\n");
+}
+
+static void print_value(const char *operation, uint64_t answer)
+{
+    if (DESK_ANSWERED(answer))
+        printf("%s: %" PRIu64 "\n", operation, DESK_VALUE(answer));
+    else
+        printf("%s: refused %" PRIu64 "\n", operation, answer);
+}
+
+static void print_weighing(const uint32_t *words, size_t count)
+{
+    uint64_t answer = desk_weigh(words, count);
+    if (DESK_ANSWERED(answer))
+        printf("weighing: total %" PRIu32 ", judged end %" PRIu32 ", long rests %" PRIu32 "\n", DESK_TOTAL(answer),
+               DESK_JUDGED_END(answer), DESK_LONG_RESTS(answer));
+    else
+        printf("weighing: refused %" PRIu64 "\n", answer);
+}
+
+static void print_verdict(const uint32_t *words, size_t count)
+{
+    uint8_t reading[8] = {9, 9, 9, 9, 9, 9, 9, 9};
+    uint64_t answer = desk_verdict(words, count, reading, sizeof reading);
+    if (DESK_PASSED(answer))
+        printf("verdict: pass, %" PRIu64 " bytes, buffer", DESK_VALUE(answer));
+    else if (DESK_BREACHED(answer))
+        printf("verdict: breach at %" PRIu32 ", article %" PRIu32 ", buffer", DESK_MINUTE(answer), DESK_ARTICLE(answer));
+    else
+        printf("verdict: refused %" PRIu64 ", buffer", answer);
+    print_bytes(reading, sizeof reading);
+}
+
+int main(void)
+{
+    const uint32_t words[] = {WORD(240, DRIVING), WORD(660, REST), WORD(60, WORK), WORD(2700, REST), WORD(1, WORK)};
+    const uint32_t long_day[] = {WORD(901, WORK)};
+    const uint32_t no_minutes[] = {WORD(0, AVAILABILITY)};
+    const uint8_t reading[] = {0, 0, 0, 1, 0, 0};
+    uint32_t starts[3] = {7, 7, 7};
+    uint32_t ends[3] = {7, 7, 7};
+    uint32_t read[8] = {7, 7, 7, 7, 7, 7, 7, 7};
+    uint8_t text[128];
+    uint64_t length;
+
+    print_weighing(words, 5);
+    print_weighing(words, 0);
+    print_weighing(no_minutes, 1);
+
+    print_value("listing long rests", desk_list_rests(words, 5, starts, 3, ends, 3));
+    for (size_t i = 0; i < 3; i++)
+        printf("  %" PRIu32 " to %" PRIu32 "\n", starts[i], ends[i]);
+    print_value("listing long rests", desk_list_rests(words, 5, starts, 3, ends, 1));
+
+    print_value("fixed test", desk_fixed_test(words, 5, 3661));
+    print_value("fixed test", desk_fixed_test(long_day, 1, 901));
+    print_value("fixed test", desk_fixed_test(long_day, 1, 902));
+
+    print_value("reading test", desk_reading_test(words, 5, reading, 6));
+    print_value("reading test", desk_reading_test(words, 5, reading, 3));
+
+    print_value("entry 2", desk_entry(reading, 6, 2));
+    print_value("entry 3", desk_entry(reading, 6, 3));
+    printf("companion of entry 2: %" PRIu64 "\n", desk_entry_refusal(reading, 6, 2));
+    printf("companion of entry 3: %" PRIu64 "\n", desk_entry_refusal(reading, 6, 3));
+
+    length = desk_write_text(words, 5, text, sizeof text);
+    print_value("writing text", length);
+    fwrite(text, 1, DESK_VALUE(length), stdout);
+    print_value("writing text", desk_write_text(words, 5, text, 10));
+
+    print_value("reading text", desk_read_text(text, DESK_VALUE(length), read, 8));
+    for (size_t i = 0; i < 8; i++)
+        printf("  %" PRIu32 "\n", read[i]);
+    print_value("reading text", desk_read_text(text, 10, read, 8));
+
+    print_verdict(words, 5);
+    print_verdict(long_day, 1);
+    print_verdict(no_minutes, 1);
+    return 0;
+}

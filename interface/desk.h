@@ -1,0 +1,80 @@
+/* The hours desk for C. Link target/staticlib/libinterface.a, which `rt staticlib interface` makes for x86-64 Linux.
+ *
+ * A slice is a pointer and a count of elements. The pointer is never null, also where the count is 0, and is aligned for
+ * its elements. A buffer that an operation writes to (a pointer without const) overlaps nothing else that is passed.
+ * Any content is fine: every operation answers for all words, bytes and numbers.
+ *
+ * Answers. A number below DESK_ANSWER is a refusal, by its number:
+ *    1 a word has no minutes           6 the reading has the wrong byte count
+ *    2 the total passes 120,960        7 the reading has no entry of that number
+ *    3 the list is too short           8 the text is not of the form
+ *    4 the reading buffer is too short 9 too few words for the text's run lines
+ *    5 m is over the total            10 too few bytes for the text
+ * Otherwise the operation answered, with answer - DESK_ANSWER as its value, or by the macros below. On a refusal every
+ * buffer is as it was. An operation that fills a buffer writes from its start and leaves what lies beyond.
+ *
+ * Each promise stands with its function in crates/interface/src/lib.rt, and is proved. Nothing is kept between calls, so
+ * threads may call at the same time, each on buffers that no other is using. desk_verdict needs 1,400 KiB of stack. */
+#ifndef DESK_H
+#define DESK_H
+
+#include <stddef.h>
+#include <stdint.h>
+
+#ifdef __cplusplus
+extern "C" {
+#endif
+
+#define DESK_ANSWER ((uint64_t)1 << 48)
+
+/* Whether an answer is one, and not a refusal; then its value: a count, a rule or a place. */
+#define DESK_ANSWERED(answer) ((answer) >= DESK_ANSWER)
+#define DESK_VALUE(answer) ((answer) % DESK_ANSWER)
+
+/* N, S and k, from an answer of desk_weigh. */
+#define DESK_TOTAL(answer) ((uint32_t)(DESK_VALUE(answer) % 131072))
+#define DESK_JUDGED_END(answer) ((uint32_t)(DESK_VALUE(answer) / 131072 % 131072))
+#define DESK_LONG_RESTS(answer) ((uint32_t)(DESK_VALUE(answer) / 131072 / 131072))
+
+/* Whether an answer of desk_verdict is a pass or a breach; then a breach's minute, and its article: 1 to 5 for the
+ * smallest broken rule of 1 to 5 (article 7, 6.1, 6.2, 6.3, 8.2), or 6 (article 8). */
+#define DESK_PASSED(answer) ((answer) / DESK_ANSWER == 1)
+#define DESK_BREACHED(answer) ((answer) / DESK_ANSWER == 2)
+#define DESK_MINUTE(answer) ((uint32_t)(DESK_VALUE(answer) / 8))
+#define DESK_ARTICLE(answer) ((uint32_t)(DESK_VALUE(answer) % 8))
+
+/* Weighing: N, S and k, or refusal 1 or 2. */
+uint64_t desk_weigh(const uint32_t *words, size_t words_count);
+
+/* The starts and ends of the long rests, into two slices; refusal 1, 2, or 3 where one of them has fewer than k elements.
+ * The value is k. */
+uint64_t desk_list_rests(const uint32_t *words, size_t words_count, uint32_t *starts, size_t starts_count, uint32_t *ends,
+                         size_t ends_count);
+
+/* The smallest of rules 1 to 5 that the first m minutes break, or 0; refusal 1, 2 or 5. */
+uint64_t desk_fixed_test(const uint32_t *words, size_t words_count, uint32_t m);
+
+/* The smallest of rules 1 to 11 that the recording with this reading breaks, or 0; refusal 1, 2 or 6. */
+uint64_t desk_reading_test(const uint32_t *words, size_t words_count, const uint8_t *reading, size_t reading_count);
+
+/* Where the three bytes of the entry of a number (from 1) begin in the reading; refusal 6 or 7. */
+uint64_t desk_entry(const uint8_t *reading, size_t reading_count, size_t number);
+
+/* The companion of desk_entry: 0 where it answers, or its refusal. */
+uint64_t desk_entry_refusal(const uint8_t *reading, size_t reading_count, size_t number);
+
+/* The words of a bracket text, one a run line; refusal 8 or 9. The value is their count. */
+uint64_t desk_read_text(const uint8_t *text, size_t text_count, uint32_t *words, size_t words_count);
+
+/* The bracket text of a recording; refusal 1, 2 or 10. The value is its length. */
+uint64_t desk_write_text(const uint32_t *words, size_t words_count, uint8_t *text, size_t text_count);
+
+/* The verdict; refusal 1, 2 or 4. A pass writes the first lawful reading, three bytes for each long rest, and its value is
+ * their count. A breach writes nothing. */
+uint64_t desk_verdict(const uint32_t *words, size_t words_count, uint8_t *reading, size_t reading_count);
+
+#ifdef __cplusplus
+}
+#endif
+
+#endif

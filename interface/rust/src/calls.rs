@@ -1,0 +1,109 @@
+//! The functions of the static library, each behind a function on slices.
+//!
+//! A slice is passed as its pointer and its count of elements. A Rust slice is
+//! what the library asks for: its pointer is aligned and not null, also where
+//! it is empty, and nothing else refers to a `&mut` one. No contract there has
+//! a `requires`, so every call is fine.
+
+mod library {
+    extern "C" {
+        pub fn desk_weigh(words: *const u32, words_count: usize) -> u64;
+
+        pub fn desk_list_rests(
+            words: *const u32,
+            words_count: usize,
+            starts: *mut u32,
+            starts_count: usize,
+            ends: *mut u32,
+            ends_count: usize,
+        ) -> u64;
+
+        pub fn desk_fixed_test(words: *const u32, words_count: usize, m: u32) -> u64;
+
+        pub fn desk_reading_test(
+            words: *const u32,
+            words_count: usize,
+            reading: *const u8,
+            reading_count: usize,
+        ) -> u64;
+
+        pub fn desk_entry(reading: *const u8, reading_count: usize, number: usize) -> u64;
+
+        pub fn desk_entry_refusal(reading: *const u8, reading_count: usize, number: usize) -> u64;
+
+        pub fn desk_read_text(
+            text: *const u8,
+            text_count: usize,
+            words: *mut u32,
+            words_count: usize,
+        ) -> u64;
+
+        pub fn desk_write_text(
+            words: *const u32,
+            words_count: usize,
+            text: *mut u8,
+            text_count: usize,
+        ) -> u64;
+
+        pub fn desk_verdict(
+            words: *const u32,
+            words_count: usize,
+            reading: *mut u8,
+            reading_count: usize,
+        ) -> u64;
+    }
+}
+
+pub fn weigh(words: &[u32]) -> u64 {
+    unsafe { library::desk_weigh(words.as_ptr(), words.len()) }
+}
+
+pub fn list_rests(words: &[u32], starts: &mut [u32], ends: &mut [u32]) -> u64 {
+    unsafe {
+        library::desk_list_rests(
+            words.as_ptr(),
+            words.len(),
+            starts.as_mut_ptr(),
+            starts.len(),
+            ends.as_mut_ptr(),
+            ends.len(),
+        )
+    }
+}
+
+pub fn fixed_test(words: &[u32], m: u32) -> u64 {
+    unsafe { library::desk_fixed_test(words.as_ptr(), words.len(), m) }
+}
+
+pub fn reading_test(words: &[u32], reading: &[u8]) -> u64 {
+    unsafe {
+        library::desk_reading_test(words.as_ptr(), words.len(), reading.as_ptr(), reading.len())
+    }
+}
+
+pub fn entry(reading: &[u8], number: usize) -> u64 {
+    unsafe { library::desk_entry(reading.as_ptr(), reading.len(), number) }
+}
+
+pub fn entry_refusal(reading: &[u8], number: usize) -> u64 {
+    unsafe { library::desk_entry_refusal(reading.as_ptr(), reading.len(), number) }
+}
+
+pub fn read_text(text: &[u8], words: &mut [u32]) -> u64 {
+    unsafe { library::desk_read_text(text.as_ptr(), text.len(), words.as_mut_ptr(), words.len()) }
+}
+
+pub fn write_text(words: &[u32], text: &mut [u8]) -> u64 {
+    unsafe { library::desk_write_text(words.as_ptr(), words.len(), text.as_mut_ptr(), text.len()) }
+}
+
+pub fn verdict(words: &[u32], reading: &mut [u8]) -> u64 {
+    unsafe {
+        library::desk_verdict(
+            words.as_ptr(),
+            words.len(),
+            reading.as_mut_ptr(),
+            reading.len(),
+        )
+    }
+}

@@ -1,0 +1,173 @@
+//! The hours desk for Rust: the operations of document 01, from the desk's
+//! static library.
+//!
+//! Every function takes any content: a refusal is an `Err`. On a refusal every
+//! buffer is as it was; an operation that fills a buffer writes from its start
+//! and leaves what lies beyond.
+//!
+//! Nothing is kept between calls, so threads may call at the same time.
+//! [`verdict`] needs 1,400 KiB of stack: the main thread and the threads of
+//! `std` have more, unless told otherwise.
+
+mod calls;
+
+/// Why an operation was turned away; its discriminant is document 01's number.
+#[derive(Clone, Copy, Debug, PartialEq, Eq)]
+#[repr(u8)]
+pub enum Refusal {
+    /// A word has no minutes.
+    NoMinutes = 1,
+    /// The total passes 120,960 minutes.
+    TotalPassed = 2,
+    /// The list has fewer elements than there are long rests.
+    ListTooShort = 3,
+    /// The reading buffer is under three bytes for each long rest.
+    ReadingBufferTooShort = 4,
+    /// The stretch is over the total.
+    StretchOverTotal = 5,
+    /// The byte count is not three for each long rest, or no multiple of three.
+    ReadingByteCount = 6,
+    /// The reading has no entry of that number.
+    NoEntry = 7,
+    /// The text is not of the form.
+    TextForm = 8,
+    /// Fewer words than run lines.
+    TooFewWords = 9,
+    /// Fewer bytes than the text has.
+    TooFewBytes = 10,
+}
+
+impl Refusal {
+    /// Document 01's number.
+    pub fn number(self) -> u8 {
+        self as u8
+    }
+
+    fn of(number: u64) -> Refusal {
+        match number {
+            1 => Refusal::NoMinutes,
+            2 => Refusal::TotalPassed,
+            3 => Refusal::ListTooShort,
+            4 => Refusal::ReadingBufferTooShort,
+            5 => Refusal::StretchOverTotal,
+            6 => Refusal::ReadingByteCount,
+            7 => Refusal::NoEntry,
+            8 => Refusal::TextForm,
+            9 => Refusal::TooFewWords,
+            10 => Refusal::TooFewBytes,
+            other => unreachable!("the desk has no refusal {other}"),
+        }
+    }
+}
+
+/// What weighing gives.
+#[derive(Clone, Copy, Debug, PartialEq, Eq)]
+pub struct Measure {
+    /// N, the minutes of the recording.
+    pub total: u32,
+    /// S, the judged end.
+    pub judged_end: u32,
+    /// k, the count of long rests.
+    pub long_rests: u32,
+}
+
+/// What the verdict answers.
+#[derive(Clone, Copy, Debug, PartialEq, Eq)]
+pub enum Verdict {
+    /// The first lawful reading stands in the buffer, of so many bytes.
+    Pass { written: usize },
+    /// The least stretch without a lawful reading; and the smallest of rules 1
+    /// to 5 broken there, or 6.
+    Breach { minute: u32, article: u8 },
+}
+
+/// An answer is at least one unit; less is a refusal.
+const ANSWER: u64 = 1 << 48;
+
+/// N and S each have so many numbers in an answer of weighing.
+const MINUTES: u64 = 1 << 17;
+
+/// A breach's article is the remainder by this.
+const ARTICLES: u64 = 8;
+
+/// The value of an answer, or the refusal.
+fn value(answer: u64) -> Result<u64, Refusal> {
+    if answer < ANSWER {
+        return Err(Refusal::of(answer));
+    }
+    Ok(answer - ANSWER)
+}
+
+fn count(answer: u64) -> Result<usize, Refusal> {
+    value(answer).map(|count| count as usize)
+}
+
+fn rule(answer: u64) -> Result<u8, Refusal> {
+    value(answer).map(|rule| rule as u8)
+}
+
+/// Weighing.
+pub fn weigh(words: &[u32]) -> Result<Measure, Refusal> {
+    let value = value(calls::weigh(words))?;
+    Ok(Measure {
+        total: (value % MINUTES) as u32,
+        judged_end: (value / MINUTES % MINUTES) as u32,
+        long_rests: (value / MINUTES / MINUTES) as u32,
+    })
+}
+
+/// The starts and the ends of the long rests, and their count.
+pub fn list_rests(words: &[u32], starts: &mut [u32], ends: &mut [u32]) -> Result<usize, Refusal> {
+    count(calls::list_rests(words, starts, ends))
+}
+
+/// The smallest of rules 1 to 5 that the first m minutes break, or 0.
+pub fn fixed_test(words: &[u32], m: u32) -> Result<u8, Refusal> {
+    rule(calls::fixed_test(words, m))
+}
+
+/// The smallest of rules 1 to 11 that the recording with this reading breaks,
+/// or 0.
+pub fn reading_test(words: &[u32], reading: &[u8]) -> Result<u8, Refusal> {
+    rule(calls::reading_test(words, reading))
+}
+
+/// The three bytes of an entry, kind, week and carrier, in the reading itself.
+/// Entries are numbered from 1.
+pub fn entry(reading: &[u8], number: usize) -> Result<&[u8], Refusal> {
+    count(calls::entry(reading, number)).map(|place| &reading[place..place + 3])
+}
+
+/// Why a reading has no entry of that number; `None` where it has one.
+pub fn entry_refusal(reading: &[u8], number: usize) -> Option<Refusal> {
+    match calls::entry_refusal(reading, number) {
+        0 => None,
+        refusal => Some(Refusal::of(refusal)),
+    }
+}
+
+/// The words of a bracket text, one a run line, and their count.
+pub fn read_text(text: &[u8], words: &mut [u32]) -> Result<usize, Refusal> {
+    count(calls::read_text(text, words))
+}
+
+/// The bracket text of a recording, and its length.
+pub fn write_text(words: &[u32], text: &mut [u8]) -> Result<usize, Refusal> {
+    count(calls::write_text(words, text))
+}
+
+/// The verdict. A pass writes the first lawful reading, three bytes for each
+/// long rest; a breach writes nothing.
+pub fn verdict(words: &[u32], reading: &mut [u8]) -> Result<Verdict, Refusal> {
+    let value = value(calls::verdict(words, reading))?;
+    if value < ANSWER {
+        return Ok(Verdict::Pass {
+            written: value as usize,
+        });
+    }
+    let breach = value - ANSWER;
+    Ok(Verdict::Breach {
+        minute: (breach / ARTICLES) as u32,
+        article: (breach % ARTICLES) as u8,
+    })
+}

@@ -1,0 +1,123 @@
+//! Every operation on small inputs: answers, refusals, and what a buffer holds.
+
+use hours_desk::{
+    entry, entry_refusal, fixed_test, list_rests, read_text, reading_test, verdict, weigh,
+    write_text, Measure, Refusal, Verdict,
+};
+
+/// 240 of driving, 660 of rest, 60 of work, 2,700 of rest, a minute of work.
+const WORDS: [u32; 5] = [4 * 240 + 3, 4 * 660, 4 * 60 + 2, 4 * 2_700, 4 + 2];
+
+const NO_MINUTES: [u32; 1] = [2];
+const TOO_LONG: [u32; 2] = [4 * 120_960, u32::MAX];
+
+#[test]
+fn weighing() {
+    let measure = |total, judged_end, long_rests| Measure {
+        total,
+        judged_end,
+        long_rests,
+    };
+    assert_eq!(weigh(&WORDS), Ok(measure(3_661, 3_661, 2)));
+    assert_eq!(weigh(&WORDS[..2]), Ok(measure(900, 240, 0)));
+    assert_eq!(weigh(&[]), Ok(measure(0, 0, 0)));
+    assert_eq!(weigh(&[4 * 120_960 + 3]), Ok(measure(120_960, 120_960, 0)));
+    assert_eq!(weigh(&NO_MINUTES), Err(Refusal::NoMinutes));
+    assert_eq!(weigh(&TOO_LONG), Err(Refusal::TotalPassed));
+}
+
+#[test]
+fn listing() {
+    let (mut starts, mut ends) = ([7; 3], [8; 2]);
+    assert_eq!(list_rests(&WORDS, &mut starts, &mut ends), Ok(2));
+    assert_eq!((starts, ends), ([240, 960, 7], [900, 3_660]));
+    let (mut starts, mut ends) = ([7; 1], [8; 2]);
+    let refused = list_rests(&WORDS, &mut starts, &mut ends);
+    assert_eq!(refused, Err(Refusal::ListTooShort));
+    assert_eq!((starts, ends), ([7], [8, 8]));
+    assert_eq!(list_rests(&[], &mut [], &mut []), Ok(0));
+}
+
+#[test]
+fn tests() {
+    assert_eq!(fixed_test(&WORDS, 3_661), Ok(0));
+    assert_eq!(fixed_test(&[4 * 901 + 2], 901), Ok(5));
+    assert_eq!(fixed_test(&WORDS, 3_662), Err(Refusal::StretchOverTotal));
+    assert_eq!(reading_test(&WORDS, &[0, 0, 0, 1, 0, 0]), Ok(0));
+    assert_eq!(reading_test(&WORDS, &[0, 0, 0, 1, 9, 0]), Ok(6));
+    assert_eq!(
+        reading_test(&WORDS, &[0; 7]),
+        Err(Refusal::ReadingByteCount)
+    );
+    assert_eq!(reading_test(&[], &[]), Ok(0));
+}
+
+#[test]
+fn entries() {
+    let reading = [1, 2, 3, 4, 5, 6];
+    let second = entry(&reading, 2).unwrap();
+    assert!(std::ptr::eq(second, &reading[3..6]));
+    assert_eq!(entry_refusal(&reading, 2), None);
+    for number in [0, 3, usize::MAX] {
+        assert_eq!(entry(&reading, number), Err(Refusal::NoEntry));
+        assert_eq!(entry_refusal(&reading, number), Some(Refusal::NoEntry));
+    }
+    assert_eq!(entry(&reading[..5], 1), Err(Refusal::ReadingByteCount));
+    assert_eq!(entry(&[], 1), Err(Refusal::NoEntry));
+}
+
+#[test]
+fn texts() {
+    let expected = b"(recording\n(week\n(drive 240)\n(rest 660)\n)\n)\n";
+    let mut text = [b'#'; 50];
+    let length = write_text(&WORDS[..2], &mut text).unwrap();
+    assert_eq!(text[..length], expected[..]);
+    assert!(text[length..].iter().all(|&byte| byte == b'#'));
+    let mut short = vec![b'#'; length - 1];
+    let refused = write_text(&WORDS[..2], &mut short);
+    assert_eq!(refused, Err(Refusal::TooFewBytes));
+
+    let mut words = [7; 3];
+    assert_eq!(read_text(expected, &mut words), Ok(2));
+    assert_eq!(words, [WORDS[0], WORDS[1], 7]);
+    assert_eq!(
+        read_text(&expected[1..], &mut words),
+        Err(Refusal::TextForm)
+    );
+    let refused = read_text(expected, &mut words[..1]);
+    assert_eq!(refused, Err(Refusal::TooFewWords));
+    assert_eq!(read_text(&[], &mut []), Err(Refusal::TextForm));
+}
+
+#[test]
+fn verdicts() {
+    let mut reading = [9; 8];
+    let pass = Verdict::Pass { written: 6 };
+    assert_eq!(verdict(&WORDS, &mut reading), Ok(pass));
+    assert_eq!(reading, [0, 0, 0, 0, 0, 0, 9, 9]);
+    let breach = Verdict::Breach {
+        minute: 901,
+        article: 5,
+    };
+    assert_eq!(verdict(&[4 * 901 + 2], &mut reading), Ok(breach));
+    assert_eq!(reading, [0, 0, 0, 0, 0, 0, 9, 9]);
+    let refused = verdict(&WORDS, &mut reading[..5]);
+    assert_eq!(refused, Err(Refusal::ReadingBufferTooShort));
+    assert_eq!(verdict(&[], &mut []), Ok(Verdict::Pass { written: 0 }));
+}
+
+/// Verdicts on four threads at a time, with the stack that `std` gives them.
+#[test]
+fn threads() {
+    let judged = || {
+        (0..50).all(|_| {
+            let mut reading = [9; 6];
+            verdict(&WORDS, &mut reading) == Ok(Verdict::Pass { written: 6 })
+        })
+    };
+    let threads = [(); 4].map(|()| std::thread::spawn(judged));
+    assert!(threads
+        .map(|thread| thread.join().unwrap())
+        .iter()
+        .all(|&right| right));
+}
