@@ -1,0 +1,116 @@
+//! All inputs of the comparison, kind by kind, from fixed seeds.
+
+use second::dice::Dice;
+use second::grow;
+
+use crate::edges;
+use crate::inputs::{self, Try};
+use crate::recordings;
+
+/// How many recordings of each kind, and how many readings for the entry.
+pub struct Plan {
+    pub random: u64,
+    pub few_days: u64,
+    pub ordinary: u64,
+    pub grown: u64,
+    /// Of each grown recording, so many cuts and as many changed ones.
+    pub stages: u64,
+    pub hard: u64,
+    pub scarce: u64,
+    pub entries: u64,
+}
+
+/// What the comparison does with each input; whether it goes on.
+pub type Visit<'a> = &'a mut dyn FnMut(&'static str, Try) -> bool;
+
+/// Visits the inputs, the shorter kinds first; whether it came to the end.
+pub fn each(plan: &Plan, visit: Visit) -> bool {
+    edges_of_the_document(visit)
+        && texts(visit)
+        && each_entry(plan, visit)
+        && recordings_of(plan.random, 1, "random words", recordings::random, visit)
+        && recordings_of(plan.few_days, 2, "few days", recordings::few_days, visit)
+        && few_days_changed(plan, visit)
+        && recordings_of(plan.ordinary, 4, "ordinary weeks", grow::ordinary, visit)
+        && grown(plan, visit)
+        && recordings_of(plan.hard, 6, "hard", |dice| grow::hard(dice, 150), visit)
+        && recordings_of(plan.scarce, 7, "scarce", grow::scarce, visit)
+}
+
+fn all(kind: &'static str, tries: Vec<Try>, visit: Visit) -> bool {
+    tries.into_iter().all(|attempt| visit(kind, attempt))
+}
+
+fn edges_of_the_document(visit: Visit) -> bool {
+    let mut dice = Dice::new(101);
+    let kinds = [
+        ("on the edge", edges::on_the_edge()),
+        ("numbers at their edge", edges::constants()),
+    ];
+    kinds.into_iter().all(|(kind, edges)| {
+        edges.iter().all(|edge| {
+            let tries = inputs::of_recording(&mut dice, &edge.words, &edge.readings);
+            all(kind, tries, visit)
+        })
+    })
+}
+
+fn texts(visit: Visit) -> bool {
+    let mut dice = Dice::new(102);
+    edges::texts().into_iter().all(|text| {
+        let text = text.into_bytes();
+        let mut tries = vec![
+            inputs::reading(&mut dice, "just fits", text.clone()),
+            inputs::reading(&mut dice, "short by one", text.clone()),
+            inputs::reading(&mut dice, "empty", text.clone()),
+            inputs::reading(&mut dice, "longer", text.clone()),
+        ];
+        inputs::of_text(&mut dice, &text, &mut tries);
+        all("texts at their edge", tries, visit)
+    })
+}
+
+fn each_entry(plan: &Plan, visit: Visit) -> bool {
+    let mut dice = Dice::new(103);
+    (0..plan.entries).all(|_| all("readings", inputs::entries(&mut dice), visit))
+}
+
+fn recordings_of(
+    count: u64,
+    seed: u64,
+    kind: &'static str,
+    make: impl Fn(&mut Dice) -> Vec<u32>,
+    visit: Visit,
+) -> bool {
+    (0..count).all(|number| {
+        let mut dice = Dice::new(1_000_000 * seed + number);
+        let words = make(&mut dice);
+        all(kind, inputs::of_recording(&mut dice, &words, &[]), visit)
+    })
+}
+
+fn few_days_changed(plan: &Plan, visit: Visit) -> bool {
+    let make = |dice: &mut Dice| {
+        let words = recordings::few_days(dice);
+        recordings::changed(dice, &words)
+    };
+    recordings_of(plan.few_days, 3, "few days, changed", make, visit)
+}
+
+/// Recordings grown rest by rest up to twelve weeks, as they were while they
+/// grew, and changed.
+fn grown(plan: &Plan, visit: Visit) -> bool {
+    (0..plan.grown).all(|number| {
+        let mut dice = Dice::new(5_000_000 + number);
+        let words = grow::grown(&mut dice);
+        let whole = inputs::of_recording(&mut dice, &words, &[]);
+        all("grown", whole, visit)
+            && (0..plan.stages).all(|_| {
+                let cut = recordings::cut(&mut dice, &words);
+                let cut = inputs::of_recording(&mut dice, &cut, &[]);
+                let changed = recordings::changed(&mut dice, &words);
+                let changed = inputs::of_recording(&mut dice, &changed, &[]);
+                all("while growing", cut, visit) && all("grown, changed", changed, visit)
+            })
+    })
+}

@@ -1,0 +1,100 @@
+//! A difference between two programs, and how it is shown.
+
+use std::fmt;
+
+use crate::inputs::Try;
+use crate::operation::{Answer, Input, Operation, Program};
+use crate::shrink;
+
+/// An input on which two programs differ, with both answers.
+pub struct Difference {
+    pub operation: Operation,
+    pub input: Input,
+    pub ours: Answer,
+    pub theirs: Answer,
+}
+
+impl Difference {
+    /// A difference on this input, or the answer that both give.
+    pub fn between(ours: Program, theirs: Program, attempt: &Try) -> Result<Difference, Answer> {
+        Difference::on(ours, theirs, attempt.operation, &attempt.input)
+    }
+
+    fn on(
+        ours: Program,
+        theirs: Program,
+        operation: Operation,
+        input: &Input,
+    ) -> Result<Difference, Answer> {
+        let (ours, theirs) = (ours(operation, input), theirs(operation, input));
+        if ours == theirs {
+            return Err(ours);
+        }
+        Ok(Difference {
+            operation,
+            input: input.clone(),
+            ours,
+            theirs,
+        })
+    }
+
+    /// The same programs' difference on the smallest input found.
+    pub fn smallest(self, ours: Program, theirs: Program) -> Difference {
+        let operation = self.operation;
+        let differs = |input: &Input| ours(operation, input) != theirs(operation, input);
+        let input = shrink::smallest(operation, self.input.clone(), &differs);
+        Difference::on(ours, theirs, operation, &input).unwrap_or(self)
+    }
+}
+
+impl Difference {
+    /// The recording, as in the document: "d, r, a, w are driving, rest,
+    /// availability, work."
+    pub fn recording(&self) -> String {
+        if self.input.words.is_empty() {
+            return "no words".into();
+        }
+        let letter = |word: u32| ['r', 'a', 'w', 'd'][(word % 4) as usize];
+        let words = self.input.words.iter();
+        let runs = words.map(|&word| format!("{}{}", letter(word), word / 4));
+        runs.collect::<Vec<_>>().join(" ")
+    }
+}
+
+impl fmt::Display for Difference {
+    fn fmt(&self, to: &mut fmt::Formatter) -> fmt::Result {
+        let input = &self.input;
+        writeln!(to, "a difference in {}", self.operation.name())?;
+        writeln!(to, "  recording {}", self.recording())?;
+        writeln!(to, "  words     {:?}", input.words)?;
+        if self.operation == Operation::ReadText {
+            writeln!(
+                to,
+                "  text      {:?}",
+                String::from_utf8_lossy(&input.bytes)
+            )?;
+        }
+        writeln!(to, "  bytes     {:?}", input.bytes)?;
+        writeln!(to, "  number    {}", input.number)?;
+        writeln!(
+            to,
+            "  lent      {}",
+            lent(&input.lent_bytes, &input.lent_words, &input.lent_ends)
+        )?;
+        writeln!(to, "  desk      {}", answered(&self.ours))?;
+        write!(to, "  second    {}", answered(&self.theirs))
+    }
+}
+
+fn answered(answer: &Answer) -> String {
+    let told = match &answer.told {
+        Ok(values) => format!("answers {values:?}"),
+        Err(number) => format!("refuses {number}"),
+    };
+    let lent = lent(&answer.lent_bytes, &answer.lent_words, &answer.lent_ends);
+    format!("{told}, lent {lent}")
+}
+
+fn lent(bytes: &[u8], words: &[u32], ends: &[u32]) -> String {
+    format!("bytes {bytes:?}, words {words:?}, ends {ends:?}")
+}

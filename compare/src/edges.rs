@@ -1,0 +1,344 @@
+//! The cases of "On the edge", and recordings at the edge of each number of
+//! document 01, with readings to test them by.
+
+use second::recording::Span;
+
+use crate::shorthand::{around, attempt, days, general_figure, span, tight_weeks, times, words};
+
+/// A recording, and readings of it that are worth testing.
+pub struct Edge {
+    pub words: Vec<u32>,
+    pub readings: Vec<Vec<u8>>,
+}
+
+fn edge(shorthand: &str) -> Edge {
+    read(shorthand, &[])
+}
+
+fn read(shorthand: &str, readings: &[&[u8]]) -> Edge {
+    Edge {
+        words: words(shorthand),
+        readings: readings.iter().map(|reading| reading.to_vec()).collect(),
+    }
+}
+
+fn whole(words: Vec<u32>) -> Edge {
+    Edge {
+        words,
+        readings: Vec::new(),
+    }
+}
+
+/// "On the edge", and the figures of source document 000.
+pub fn on_the_edge() -> Vec<Edge> {
+    let mut edges: Vec<Edge> = [
+        "",
+        "d270",
+        "d271",
+        "d135 r15 d135 r30 d270",
+        "d135 r14 d135 r30 d270",
+        "d135 r30 d135 r15 d1",
+        "d270 a45 d1",
+        "w900",
+        "w901",
+        "w900 r539 w1",
+        "w900 r540 w1",
+        "d240 r660 w60",
+    ]
+    .map(edge)
+    .into();
+    for count in [3, 4] {
+        edges.push(edge(&(times(count, "w840 r600") + "w1")));
+    }
+    for tail in ["", "w1"] {
+        edges.push(edge(&(times(6, "w780 r660") + tail)));
+    }
+    for own in [1_440, 2_699, 2_700] {
+        edges.push(read(&format!("r{own} w1"), &[&[1, 0, 0], &[0, 0, 0]]));
+    }
+    edges.extend([60_480, 60_479].map(|total| whole(around(&figure_1(), total))));
+    edges.extend(figures());
+    edges
+}
+
+/// Figure 1 of source document 000: from Saturday 00:00 to Monday 20:00, three
+/// times from Sunday 00:00 to Tuesday 20:00, then in the sixth week from Monday
+/// 20:00 to Wednesday 17:00.
+fn figure_1() -> Vec<Span> {
+    let at = |week: i64, day: i64, hour: i64| 10_080 * week + 1_440 * day + 60 * hour;
+    let mut rests = vec![span(at(0, 5, 0), at(1, 0, 20))];
+    rests.extend((1..4).map(|week| span(at(week, 6, 0), at(week + 1, 1, 20))));
+    rests.push(span(at(5, 0, 20), at(5, 2, 17)));
+    rests
+}
+
+/// Figures 2 to 6, and the figure 1 of the case program, whose days differ.
+fn figures() -> Vec<Edge> {
+    let mut edges = vec![edge(
+        &[
+            days(4, "w60 r660 w720 r4080"),
+            days(5, "w240 r4080"),
+            days(4, "w240 r4080"),
+            days(4, "w240 r4080"),
+            days(5, "w60 r660 w720 r2700"),
+            days(4, "w420"),
+        ]
+        .concat(),
+    )];
+    for weeks in 6..=12 {
+        let rests = general_figure(weeks);
+        for part in [&rests[..], &rests[1..], &rests[..weeks - 1]] {
+            edges.push(edge(&tight_weeks(part)));
+        }
+    }
+    let figure_2 = general_figure(6);
+    for sixth in [2700 + 60 + 1260, 2700 + 60, 2700 + 59] {
+        edges.push(edge(&tight_weeks(&[&figure_2[..5], &[sixth]].concat())));
+    }
+    edges.push(edge(&tight_weeks(&[&figure_2[1..], &[3960]].concat())));
+    let readings = [0, 19, 25, 32].map(|carrier| second::reading::bytes(&attempt(carrier)));
+    edges.push(Edge {
+        words: words(&tight_weeks(&figure_2)),
+        readings: readings.into(),
+    });
+    edges
+}
+
+/// Each number of the document a minute under, at and over its edge.
+pub fn constants() -> Vec<Edge> {
+    let mut edges = totals();
+    for change in [-1, 0, 1] {
+        edges.extend(fixed_rules(change));
+        edges.extend(readings(change));
+        edges.extend(weekly_rests(change));
+    }
+    edges
+}
+
+/// 120,960 minutes, in one word and in many; words of no minutes and huge ones;
+/// 223 long rests.
+fn totals() -> Vec<Edge> {
+    let mut edges = vec![
+        whole(vec![0]),
+        whole(vec![3]),
+        whole(vec![u32::MAX]),
+        whole(vec![u32::MAX; 8]),
+        whole(vec![4 * 120_960, 0]),
+        whole(vec![4 * 120_961, 0]),
+        whole(vec![0, 4 * 120_961]),
+        edge(&times(223, "r540 w1")),
+        edge(&times(224, "r540")),
+        edge("r20160 w1"),
+        edge("w1 r540"),
+        edge("r270 r270 w1"),
+    ];
+    for minutes in [120_959, 120_960, 120_961] {
+        edges.push(whole(vec![4 * minutes]));
+        edges.push(whole(vec![4; minutes as usize]));
+        edges.push(whole(vec![4 * (minutes - 1), 7]));
+    }
+    edges
+}
+
+/// Rules 1 to 5.
+fn fixed_rules(change: i64) -> Vec<Edge> {
+    let at = |edge: i64| edge + change;
+    let day = |driving: i64| format!("d270 r45 d{} r45 d60", driving - 330);
+    let extended = format!("{} r600", day(541));
+    // 3,360 minutes of driving by minute 7,200, and 1,530 from the next Monday on.
+    let days = |count, driving| times(count, &(day(driving) + " r660"));
+    let week = days(2, 600) + &days(3, 540);
+    let fortnight = format!("{week}{} r2880 {}", day(540), days(3, 510));
+    [
+        format!("d{}", at(270)),
+        format!("d270 r{} d1", at(45)),
+        format!("d100 r15 d170 r{} d1", at(30)),
+        format!("d100 r{} d170 r30 d1", at(15)),
+        format!("d100 r{} d170 r30 d270", at(30)),
+        format!("d100 r15 d100 r{} d270 r30 d1", at(45)),
+        format!("r15 d{} r30 d1", at(270)),
+        day(at(600)),
+        format!("{}{}", times(2, &extended), day(at(540))),
+        format!("r{} w1 {}{}", at(7_616), times(2, &extended), day(541)),
+        format!("{week}{} r660 d{}", day(530), at(10)),
+        format!("{fortnight}{}", day(at(510))),
+        format!("w{} r540 w1", at(900)),
+        format!("w900 r540 w{}", at(900)),
+        format!("w900 r{} w1", at(540)),
+        format!("w400 r{} w1", at(499)),
+    ]
+    .iter()
+    .map(|shorthand| edge(shorthand))
+    .collect()
+}
+
+/// Rules 6 to 9, by readings.
+fn readings(change: i64) -> Vec<Edge> {
+    let at = |edge: i64| edge + change;
+    let one: [&[u8]; 9] = [
+        &[0, 0, 0],
+        &[1, 0, 0],
+        &[2, 0, 0],
+        &[255, 0, 0],
+        &[0, 1, 0],
+        &[0, 0, 1],
+        &[1, 1, 0],
+        &[1, 0, 1],
+        &[1, 0, 2],
+    ];
+    let two: [&[u8]; 7] = [
+        &[0, 0, 0, 0, 0, 0],
+        &[1, 0, 2, 0, 0, 0],
+        &[1, 0, 2, 1, 0, 0],
+        &[1, 0, 3, 1, 0, 0],
+        &[1, 0, 1, 1, 0, 0],
+        &[1, 0, 0, 1, 0, 1],
+        &[1, 0, 2, 1, 0, 2],
+    ];
+    let three: [&[u8]; 3] = [
+        &[1, 0, 2, 1, 0, 0, 1, 1, 0],
+        &[1, 0, 2, 1, 0, 3, 1, 1, 0],
+        &[1, 0, 0, 1, 0, 3, 1, 1, 0],
+    ];
+    let carried = [&[1, 0, 2][..], &[0; 12]].concat();
+    vec![
+        read(&format!("w1 r{} w1", at(1_440)), &one),
+        read(&format!("w1 r{} w1", at(2_700)), &one),
+        read(&format!("r1440 w1 r{} w1", at(1_800)), &two),
+        read(&format!("r1440 w1 r{} w1", at(2_700)), &two),
+        read(&format!("r{} w1 r5000 w1", at(2_700)), &two),
+        read(&format!("w1 r2699 w1 r{} w1", at(2_701)), &two),
+        read(&format!("r1440 w1 r{} w1 r6000 w1", at(3_960)), &three),
+        read(
+            &format!("r1440 w1 r{} w1 {}w1", at(1_920), times(3, "w780 r600")),
+            &[&carried],
+        ),
+        edge(&(times(4, &format!("w780 r{}", at(660))) + "w1")),
+        edge(&(times(4, &format!("w{} r700", at(780))) + "w1")),
+        edge(&format!(
+            "{}w600 r{} {}w1",
+            times(3, "w800 r640"),
+            at(1_440),
+            times(3, "w800 r640")
+        )),
+    ]
+}
+
+/// Rules 6, 8, 10 and 11: where weekly rests lie.
+fn weekly_rests(change: i64) -> Vec<Edge> {
+    let at = |edge: i64| edge + change;
+    let owed = [
+        span(5_000, 6_440),
+        span(14_000, 16_700),
+        span(24_000, 25_440),
+    ];
+    let unpaid = [&owed[..], &[span(34_000, 36_700)]].concat();
+    let end = at(40_320);
+    let paid = [&owed[..], &[span(30_500, 31_940), span(end - 3_960, end)]].concat();
+    let shared = [
+        span(5_000, 6_440),
+        span(14_000, 16_700),
+        span(24_000, 26_400),
+        span(30_500, 33_200),
+        span(36_000, 36_000 + at(2_100)),
+        span(41_500, 42_940),
+        span(48_900, 50_340),
+        span(58_000, 60_700),
+    ];
+    let from_a_last_minute = [
+        span(4_000, at(10_080)),
+        span(10_700, at(20_160)),
+        span(20_200, at(30_240)),
+    ];
+    let reduced = [span(7_000, 9_699), span(17_000, at(19_700))];
+    let over_a_week = [
+        span(at(10_080), 20_160),
+        span(28_000, 30_700),
+        span(38_000, 40_700),
+    ];
+    let gap = at(8_640);
+    let between = [span(2_000, 4_700), span(4_700 + gap, 7_400 + gap)];
+    [
+        around(&unpaid, at(40_320)),
+        around(&paid, 44_000),
+        around(&shared, 60_800),
+        around(&from_a_last_minute, 30_300),
+        around(&reduced, 20_300),
+        around(&[span(8_000, 11_600)], at(20_160)),
+        around(&[span(8_000, 20_200), span(28_000, 30_700)], at(40_320)),
+        around(&over_a_week, 41_000),
+        around(&[span(at(8_640), 11_400)], 11_500),
+        around(&between, 7_500 + gap),
+    ]
+    .map(whole)
+    .into()
+}
+
+/// Texts at the edge of the form.
+pub fn texts() -> Vec<String> {
+    let recording = |weeks: &str| format!("(recording\n{weeks})\n");
+    let week = |runs: &str| format!("(week\n{runs})\n");
+    let one_week = |runs: &str| recording(&week(runs));
+    let full = week("(rest 10080)\n");
+    let mut texts = vec![
+        String::new(),
+        "\n".into(),
+        ")\n".into(),
+        "(recording\n".into(),
+        "(recording\n)".into(),
+        "(recording\n)\n\n".into(),
+        recording(""),
+        recording(&week("")),
+        recording("(rest 1)\n"),
+        recording(&week(&week("(rest 1)\n"))),
+        one_week("(rest 3)\n(rest 3)\n(drive 1)\n"),
+        one_week("(drive 240)\n(rest 660)\n(work 60)\n"),
+        one_week(&"(avail 1)\n".repeat(10_080)),
+        one_week(&"(avail 1)\n".repeat(10_081)),
+        one_week("(Rest 1)\n"),
+        one_week("(driving 1)\n"),
+        one_week(" (rest 1)\n"),
+        one_week("(rest  1)\n"),
+    ];
+    for number in [
+        "0",
+        "1",
+        "9",
+        "10",
+        "01",
+        "00",
+        "",
+        " ",
+        "-1",
+        "+1",
+        "1 ",
+        "1.0",
+        "x",
+        "1x",
+        "1\t",
+        "1\r",
+        "10079",
+        "10080",
+        "10081",
+        "99999",
+        "100800",
+        "4294967297",
+        "18446744073709551617",
+        "0x10",
+    ] {
+        texts.push(one_week(&format!("(rest {number})\n")));
+    }
+    for weeks in [1, 11, 12, 13] {
+        texts.push(recording(&full.repeat(weeks)));
+        texts.push(recording(
+            &(full.repeat(weeks - 1) + &week("(work 10079)\n")),
+        ));
+    }
+    for second in [10_079, 10_080, 10_081] {
+        let uneven = week(&format!("(rest {})\n(work 1)\n", second - 1));
+        texts.push(recording(&uneven));
+        texts.push(recording(&(uneven.clone() + &full)));
+        texts.push(recording(&(full.clone() + &uneven)));
+    }
+    texts
+}

@@ -1,0 +1,423 @@
+//! The inputs of every operation on a recording, on a reading and on a text:
+//! buffers that just fit, are too short by one, empty or longer; readings
+//! lawful, nearly lawful and random; texts whole and damaged.
+
+use second::dice::Dice;
+use second::fast::Judge;
+use second::runs::{Course, LongRest};
+use second::verdict::Outcome;
+use second::Limits;
+
+use crate::operation::{Input, Operation};
+
+/// An input, and what is tried by it.
+pub struct Try {
+    pub operation: Operation,
+    pub variant: &'static str,
+    pub input: Input,
+}
+
+fn attempt(operation: Operation, variant: &'static str, input: Input) -> Try {
+    Try {
+        operation,
+        variant,
+        input,
+    }
+}
+
+/// How much a buffer has beside what is needed.
+const ROOMS: [&str; 4] = ["just fits", "short by one", "empty", "longer"];
+
+fn room(dice: &mut Dice, variant: &str, need: usize) -> usize {
+    match variant {
+        "just fits" => need,
+        "short by one" => need.saturating_sub(1),
+        "empty" => 0,
+        _ => need + dice.between(1, 40) as usize,
+    }
+}
+
+/// A buffer of numbers that tell where they lie.
+fn lent<T: From<u8>>(dice: &mut Dice, length: usize) -> Vec<T> {
+    let start = dice.below(256) as usize;
+    (start..start + length)
+        .map(|number| T::from((number * 7 % 251 + 1) as u8))
+        .collect()
+}
+
+/// Every operation on a recording. The readings are tested beside others.
+pub fn of_recording(dice: &mut Dice, words: &[u32], readings: &[Vec<u8>]) -> Vec<Try> {
+    let recording = Input {
+        words: words.to_vec(),
+        ..Input::default()
+    };
+    let mut tries = vec![attempt(Operation::Weigh, "words", recording.clone())];
+    match second::recording::weigh(words) {
+        Ok(_) => weighed(dice, &recording, readings, &mut tries),
+        Err(_) => turned_away(dice, &recording, &mut tries),
+    }
+    tries
+}
+
+/// Words that weighing turns away, with any buffers.
+fn turned_away(dice: &mut Dice, recording: &Input, tries: &mut Vec<Try>) {
+    for operation in [
+        Operation::ListRests,
+        Operation::FixedTest,
+        Operation::ReadingTest,
+        Operation::WriteText,
+        Operation::Verdict,
+    ] {
+        let mut length = || dice.below(9) as usize;
+        let (words, ends, bytes, lent_bytes) = (length(), length(), length(), length());
+        let input = Input {
+            bytes: lent(dice, bytes),
+            number: dice.below(2_000) as usize,
+            lent_bytes: lent(dice, lent_bytes),
+            lent_words: lent(dice, words),
+            lent_ends: lent(dice, ends),
+            ..recording.clone()
+        };
+        tries.push(attempt(operation, "any", input));
+    }
+}
+
+fn weighed(dice: &mut Dice, recording: &Input, readings: &[Vec<u8>], tries: &mut Vec<Try>) {
+    let limits = Limits::document();
+    let mut judge = Judge::new(&recording.words, &limits);
+    let outcome = judge.outcome();
+    let course = Course::new(&recording.words, &limits);
+    list_rests(dice, recording, course.long_rests.len(), tries);
+    fixed_tests(dice, recording, course.total as u32, &outcome, tries);
+    let first = match &outcome {
+        Outcome::Pass(reading) => reading.clone(),
+        Outcome::Breach { minute, .. } => {
+            let mut before = judge.first_reading(minute - 1).unwrap_or_default();
+            before.resize(3 * course.long_rests.len(), 0);
+            before
+        }
+    };
+    let passes = matches!(outcome, Outcome::Pass(_));
+    reading_tests(dice, recording, &course.long_rests, &first, passes, tries);
+    for reading in readings {
+        let input = Input {
+            bytes: reading.clone(),
+            ..recording.clone()
+        };
+        tries.push(attempt(Operation::ReadingTest, "nearly lawful", input));
+    }
+    verdicts(dice, recording, first.len(), tries);
+    texts(dice, recording, tries);
+}
+
+fn list_rests(dice: &mut Dice, recording: &Input, count: usize, tries: &mut Vec<Try>) {
+    let other = ROOMS[dice.between(1, 3) as usize];
+    for (variant, starts, ends) in [
+        ("just fits", "just fits", "just fits"),
+        (other, other, "just fits"),
+        (other, "longer", other),
+    ] {
+        let (starts, ends) = (room(dice, starts, count), room(dice, ends, count));
+        let input = Input {
+            lent_words: lent(dice, starts),
+            lent_ends: lent(dice, ends),
+            ..recording.clone()
+        };
+        tries.push(attempt(Operation::ListRests, variant, input));
+    }
+}
+
+/// Stretches: all of it, some of it, up to the breach, and past the end.
+fn fixed_tests(
+    dice: &mut Dice,
+    recording: &Input,
+    total: u32,
+    outcome: &Outcome,
+    tries: &mut Vec<Try>,
+) {
+    let breach = match outcome {
+        Outcome::Pass(_) => dice.below(total + 1),
+        Outcome::Breach { minute, .. } => *minute as u32,
+    };
+    for (variant, m) in [
+        ("whole", total),
+        ("some of it", dice.below(total + 1)),
+        ("up to the breach", breach),
+        ("up to the breach", breach.saturating_sub(1)),
+        (
+            "over the total",
+            [total + 1, u32::MAX, total + 2 + dice.below(1_000)][dice.below(3) as usize],
+        ),
+    ] {
+        let input = Input {
+            number: m as usize,
+            ..recording.clone()
+        };
+        tries.push(attempt(Operation::FixedTest, variant, input));
+    }
+}
+
+fn reading_tests(
+    dice: &mut Dice,
+    recording: &Input,
+    rests: &[LongRest],
+    first: &[u8],
+    passes: bool,
+    tries: &mut Vec<Try>,
+) {
+    let mut push = |variant, bytes| {
+        let input = Input {
+            bytes,
+            ..recording.clone()
+        };
+        tries.push(attempt(Operation::ReadingTest, variant, input));
+    };
+    push(
+        if passes { "lawful" } else { "nearly lawful" },
+        first.to_vec(),
+    );
+    for _ in 0..2 {
+        push("nearly lawful", nearly(dice, rests, first));
+    }
+    push("random", random_reading(dice, rests));
+    let length = match dice.below(4) {
+        0 => first.len() + 3,
+        1 => first.len().saturating_sub(1),
+        2 => dice.below(700) as usize,
+        _ => first.len() + 1,
+    };
+    let mut other = first.to_vec();
+    other.resize(length, 0);
+    push("another size", other);
+}
+
+/// The reading with one entry or one byte changed.
+fn nearly(dice: &mut Dice, rests: &[LongRest], reading: &[u8]) -> Vec<u8> {
+    let mut reading = reading.to_vec();
+    if rests.is_empty() {
+        return reading;
+    }
+    let index = dice.below(rests.len() as u32) as usize;
+    let byte = dice.below(reading.len() as u32) as usize;
+    match dice.below(6) {
+        0 => reading[byte] ^= 1,
+        1 => reading[byte] = reading[byte].wrapping_add(1),
+        2 => reading[byte] = dice.below(256) as u8,
+        3 => reading[3 * index..3 * index + 3].fill(0),
+        4 => reading[3 * index + 2] = later(dice, rests, index),
+        _ => {
+            let entry = plausible(dice, rests, index);
+            reading[3 * index..3 * index + 3].copy_from_slice(&entry);
+        }
+    }
+    reading
+}
+
+/// An entry that a rest could have: daily, or weekly in one of its weeks.
+fn plausible(dice: &mut Dice, rests: &[LongRest], index: usize) -> [u8; 3] {
+    let rest = rests[index].span;
+    if rest.length() < 1_440 && !dice.one_in(20) {
+        return [0; 3];
+    }
+    let minute = [rest.start, rest.end - 1][dice.below(2) as usize];
+    let week = (minute / 10_080) as u8;
+    let carrier = if rest.length() < 2_700 && dice.one_in(2) {
+        later(dice, rests, index)
+    } else {
+        0
+    };
+    [1, week, carrier]
+}
+
+/// The number of a later rest, now and then of any.
+fn later(dice: &mut Dice, rests: &[LongRest], index: usize) -> u8 {
+    let count = rests.len() as u32;
+    if dice.one_in(10) {
+        return dice.below(count + 2) as u8;
+    }
+    (index as u32 + 1 + dice.between(0, 4)).min(count) as u8
+}
+
+fn random_reading(dice: &mut Dice, rests: &[LongRest]) -> Vec<u8> {
+    if dice.one_in(4) {
+        return (0..3 * rests.len())
+            .map(|_| dice.below(256) as u8)
+            .collect();
+    }
+    (0..rests.len())
+        .flat_map(|index| plausible(dice, rests, index))
+        .collect()
+}
+
+/// One verdict with room enough and one without.
+fn verdicts(dice: &mut Dice, recording: &Input, need: usize, tries: &mut Vec<Try>) {
+    let enough = [ROOMS[0], ROOMS[3]][dice.below(2) as usize];
+    let too_few = [ROOMS[1], ROOMS[2]][dice.below(2) as usize];
+    let count = if need > 0 { 2 } else { 1 };
+    for variant in [enough, too_few].into_iter().take(count) {
+        let length = room(dice, variant, need);
+        let input = Input {
+            lent_bytes: lent(dice, length),
+            ..recording.clone()
+        };
+        tries.push(attempt(Operation::Verdict, variant, input));
+    }
+}
+
+/// Writing the recording's text, and reading it, whole and damaged.
+fn texts(dice: &mut Dice, recording: &Input, tries: &mut Vec<Try>) {
+    let mut text = vec![0; 24 * recording.words.len() + 400];
+    let length = second::text::write(&recording.words, &mut text).expect("the words were weighed");
+    text.truncate(length);
+    for variant in [
+        "just fits",
+        "short by one",
+        ROOMS[dice.between(2, 3) as usize],
+    ] {
+        let length = room(dice, variant, length);
+        let input = Input {
+            lent_bytes: lent(dice, length),
+            ..recording.clone()
+        };
+        tries.push(attempt(Operation::WriteText, variant, input));
+    }
+    let variant = ROOMS[dice.below(4) as usize];
+    tries.push(reading(dice, variant, text.clone()));
+    of_text(dice, &text, tries);
+}
+
+/// Reading a text with this room for its words.
+pub fn reading(dice: &mut Dice, variant: &'static str, text: Vec<u8>) -> Try {
+    let runs = second::text::parse(&text).map_or(0, |words| words.len());
+    let length = room(dice, variant, runs);
+    let input = Input {
+        bytes: text,
+        lent_words: lent(dice, length),
+        ..Input::default()
+    };
+    attempt(Operation::ReadText, variant, input)
+}
+
+/// Reading a text with a byte or a line damaged, with words enough.
+pub fn of_text(dice: &mut Dice, text: &[u8], tries: &mut Vec<Try>) {
+    for variant in [
+        "damaged by a byte",
+        "damaged by a byte",
+        "damaged in a line",
+    ] {
+        let damaged = match variant {
+            "damaged by a byte" => damaged_byte(dice, text),
+            _ => damaged_line(dice, text),
+        };
+        let attempt = reading(dice, "longer", damaged);
+        tries.push(Try { variant, ..attempt });
+    }
+}
+
+fn damaged_byte(dice: &mut Dice, text: &[u8]) -> Vec<u8> {
+    let mut text = text.to_vec();
+    if text.is_empty() {
+        return text;
+    }
+    let index = dice.below(text.len() as u32) as usize;
+    let other = b"()\n 0123456789\r\tr"[dice.below(17) as usize];
+    match dice.below(6) {
+        0 => text[index] = dice.below(256) as u8,
+        1 => text[index] = other,
+        2 => text.insert(index, other),
+        3 => text.truncate(index),
+        4 => {
+            let last = text.len() - 1;
+            text.swap(index, (index + 1).min(last));
+        }
+        _ => {
+            text.remove(index);
+        }
+    }
+    text
+}
+
+/// A line left out, doubled or moved, a run cut in two, or its number changed.
+fn damaged_line(dice: &mut Dice, text: &[u8]) -> Vec<u8> {
+    let mut lines: Vec<Vec<u8>> = (text.split_inclusive(|&byte| byte == b'\n'))
+        .map(<[u8]>::to_vec)
+        .collect();
+    if lines.is_empty() {
+        return text.to_vec();
+    }
+    let index = dice.below(lines.len() as u32) as usize;
+    let other = dice.below(lines.len() as u32) as usize;
+    match dice.below(6) {
+        0 => {
+            lines.remove(index);
+        }
+        1 => lines.insert(index, lines[other].clone()),
+        2 => lines.swap(index, other),
+        3 => lines.insert(index, b"(week\n".to_vec()),
+        _ => renumber(dice, &mut lines, index),
+    }
+    lines.concat()
+}
+
+/// The run nearest to a line with another number, or as two runs.
+fn renumber(dice: &mut Dice, lines: &mut Vec<Vec<u8>>, index: usize) {
+    let is_run = |line: &Vec<u8>| line.contains(&b' ');
+    let Some(index) = (index..lines.len())
+        .chain(0..index)
+        .find(|&line| is_run(&lines[line]))
+    else {
+        return;
+    };
+    let line = String::from_utf8_lossy(&lines[index]).into_owned();
+    let (name, rest) = line.split_once(' ').expect("a run has a space");
+    let minutes: u32 = rest.trim_end_matches(")\n").parse().unwrap_or(1);
+    let run = |number: &str| format!("{name} {number})\n").into_bytes();
+    match dice.below(8) {
+        0 => lines[index] = run(&(minutes + 1).to_string()),
+        1 => lines[index] = run(&(minutes - 1).to_string()),
+        2 => lines[index] = run(&format!("0{minutes}")),
+        3 => {
+            lines[index] =
+                run(["0", "10080", "10081", "", "99999999999999999999"][dice.below(5) as usize])
+        }
+        4 => lines[index] = run(&(u64::from(minutes) + (1 << 32)).to_string()),
+        _ if minutes > 1 => {
+            let first = dice.between(1, minutes - 1);
+            lines[index] = run(&first.to_string());
+            lines.insert(index, run(&(minutes - first).to_string()));
+        }
+        _ => {}
+    }
+}
+
+/// An entry of some bytes and its companion, by numbers in and out of range.
+pub fn entries(dice: &mut Dice) -> Vec<Try> {
+    let count = dice.below(40) as usize;
+    let damage = if dice.one_in(3) {
+        dice.between(1, 2) as usize
+    } else {
+        0
+    };
+    let bytes: Vec<u8> = (0..3 * count + damage)
+        .map(|_| dice.below(256) as u8)
+        .collect();
+    let (variant, number) = match dice.below(8) {
+        0 => ("number 0", 0),
+        1 => ("number over", count + 1),
+        2 => (
+            "number over",
+            [usize::MAX, usize::MAX / 3 + 2, 1 << 63, 1 << 32][dice.below(4) as usize],
+        ),
+        3 => ("last number", count),
+        _ => ("some number", dice.between(1, count as u32 + 1) as usize),
+    };
+    let variant = if damage > 0 { "another size" } else { variant };
+    let input = Input {
+        bytes,
+        number,
+        ..Input::default()
+    };
+    [Operation::Entry, Operation::EntryRefusal]
+        .map(|operation| attempt(operation, variant, input.clone()))
+        .into()
+}

@@ -1,0 +1,227 @@
+//! An operation with its input, and what the desk and the second program
+//! answer to it.
+
+use second::recording::Span;
+use second::verdict::Verdict;
+use second::Refusal;
+
+/// The operations of document 01.
+#[derive(Clone, Copy, Debug, PartialEq, Eq)]
+pub enum Operation {
+    Weigh,
+    ListRests,
+    FixedTest,
+    ReadingTest,
+    Entry,
+    EntryRefusal,
+    ReadText,
+    WriteText,
+    Verdict,
+}
+
+impl Operation {
+    pub const ALL: [Operation; 9] = [
+        Operation::Weigh,
+        Operation::ListRests,
+        Operation::FixedTest,
+        Operation::ReadingTest,
+        Operation::Entry,
+        Operation::EntryRefusal,
+        Operation::ReadText,
+        Operation::WriteText,
+        Operation::Verdict,
+    ];
+
+    pub fn name(self) -> &'static str {
+        match self {
+            Operation::Weigh => "weighing",
+            Operation::ListRests => "listing long rests",
+            Operation::FixedTest => "fixed test",
+            Operation::ReadingTest => "reading test",
+            Operation::Entry => "entry",
+            Operation::EntryRefusal => "its companion",
+            Operation::ReadText => "reading text",
+            Operation::WriteText => "writing text",
+            Operation::Verdict => "verdict",
+        }
+    }
+
+    /// A column's title.
+    pub fn short_name(self) -> &'static str {
+        match self {
+            Operation::Weigh => "weigh",
+            Operation::ListRests => "list",
+            Operation::FixedTest => "fixed",
+            Operation::ReadingTest => "reading",
+            Operation::Entry => "entry",
+            Operation::EntryRefusal => "refusal",
+            Operation::ReadText => "read",
+            Operation::WriteText => "write",
+            Operation::Verdict => "verdict",
+        }
+    }
+
+    /// The refusals of document 01, in their order.
+    pub fn refusals(self) -> &'static [u8] {
+        match self {
+            Operation::Weigh => &[1, 2],
+            Operation::ListRests => &[1, 2, 3],
+            Operation::FixedTest => &[1, 2, 5],
+            Operation::ReadingTest => &[1, 2, 6],
+            Operation::Entry | Operation::EntryRefusal => &[6, 7],
+            Operation::ReadText => &[8, 9],
+            Operation::WriteText => &[1, 2, 10],
+            Operation::Verdict => &[1, 2, 4],
+        }
+    }
+}
+
+/// What is passed to an operation: a lent buffer with all its content.
+#[derive(Clone, Debug, Default, PartialEq, Eq)]
+pub struct Input {
+    pub words: Vec<u32>,
+    /// The reading or the text that is passed to be read.
+    pub bytes: Vec<u8>,
+    /// The stretch m, or the number of an entry.
+    pub number: usize,
+    /// The lent buffer of bytes: a reading or a text.
+    pub lent_bytes: Vec<u8>,
+    /// The lent buffers of numbers: the words of a text, or starts and ends.
+    pub lent_words: Vec<u32>,
+    pub lent_ends: Vec<u32>,
+}
+
+/// What an operation answers, and all that the lent buffers hold then.
+#[derive(Clone, Debug, PartialEq, Eq)]
+pub struct Answer {
+    /// The values of the answer, or the number of the refusal.
+    pub told: Result<Vec<u64>, u8>,
+    pub lent_bytes: Vec<u8>,
+    pub lent_words: Vec<u32>,
+    pub lent_ends: Vec<u32>,
+}
+
+/// A program that answers for every operation.
+pub type Program = fn(Operation, &Input) -> Answer;
+
+/// A breach is told as 1, its minute and its article; a pass as 0 and its count.
+const PASS: u64 = 0;
+const BREACH: u64 = 1;
+
+pub fn desk(operation: Operation, input: &Input) -> Answer {
+    let mut after = input.clone();
+    let (words, bytes, number) = (&input.words, &input.bytes, input.number);
+    let told = match operation {
+        Operation::Weigh => hours_desk::weigh(words).map(|measure| {
+            [measure.total, measure.judged_end, measure.long_rests]
+                .map(u64::from)
+                .to_vec()
+        }),
+        Operation::ListRests => {
+            hours_desk::list_rests(words, &mut after.lent_words, &mut after.lent_ends).map(one)
+        }
+        Operation::FixedTest => hours_desk::fixed_test(words, number as u32).map(one),
+        Operation::ReadingTest => hours_desk::reading_test(words, bytes).map(one),
+        Operation::Entry => hours_desk::entry(bytes, number).map(|part| placed(bytes, part)),
+        Operation::EntryRefusal => match hours_desk::entry_refusal(bytes, number) {
+            None => Ok(vec![]),
+            Some(refusal) => Err(refusal),
+        },
+        Operation::ReadText => hours_desk::read_text(bytes, &mut after.lent_words).map(one),
+        Operation::WriteText => hours_desk::write_text(words, &mut after.lent_bytes).map(one),
+        Operation::Verdict => {
+            hours_desk::verdict(words, &mut after.lent_bytes).map(|verdict| match verdict {
+                hours_desk::Verdict::Pass { written } => vec![PASS, written as u64],
+                hours_desk::Verdict::Breach { minute, article } => {
+                    vec![BREACH, minute.into(), article.into()]
+                }
+            })
+        }
+    };
+    answer(told.map_err(hours_desk::Refusal::number), after)
+}
+
+pub fn second(operation: Operation, input: &Input) -> Answer {
+    let mut after = input.clone();
+    let (words, bytes, number) = (&input.words, &input.bytes, input.number);
+    let told = match operation {
+        Operation::Weigh => second::recording::weigh(words).map(|measure| {
+            vec![
+                measure.total as u64,
+                measure.judged_end as u64,
+                measure.long_rests as u64,
+            ]
+        }),
+        Operation::ListRests => second_list(words, &mut after.lent_words, &mut after.lent_ends),
+        Operation::FixedTest => second::fixed::test(words, number).map(one),
+        Operation::ReadingTest => second::reading::test(words, bytes).map(one),
+        Operation::Entry => second_entry(bytes, number),
+        Operation::EntryRefusal => match second::entry::entry_refusal(bytes, number) {
+            0 => Ok(vec![]),
+            number => return answer(Err(number), after),
+        },
+        Operation::ReadText => second::text::read(bytes, &mut after.lent_words).map(one),
+        Operation::WriteText => second::text::write(words, &mut after.lent_bytes).map(one),
+        Operation::Verdict => {
+            second::verdict::verdict(words, &mut after.lent_bytes).map(verdict_values)
+        }
+    };
+    answer(told.map_err(Refusal::number), after)
+}
+
+pub fn verdict_values(verdict: Verdict) -> Vec<u64> {
+    match verdict {
+        Verdict::Pass { written } => vec![PASS, written as u64],
+        Verdict::Breach { minute, article } => vec![BREACH, minute as u64, article.into()],
+    }
+}
+
+/// The second program lists into one slice of records, as long as the shorter
+/// of the two.
+fn second_list(words: &[u32], starts: &mut [u32], ends: &mut [u32]) -> Result<Vec<u64>, Refusal> {
+    let mut list: Vec<Span> = (starts.iter().zip(ends.iter()))
+        .map(|(&start, &end)| Span {
+            start: start.into(),
+            end: end.into(),
+        })
+        .collect();
+    let count = second::recording::list_long_rests(words, &mut list)?;
+    for (index, span) in list.iter().enumerate() {
+        starts[index] = span.start as u32;
+        ends[index] = span.end as u32;
+    }
+    Ok(one(count))
+}
+
+/// The part is empty if there is a refusal, and only then.
+fn second_entry(reading: &[u8], number: usize) -> Result<Vec<u64>, Refusal> {
+    let part = second::entry::entry(reading, number);
+    if !part.is_empty() {
+        return Ok(placed(reading, part));
+    }
+    match second::entry::entry_refusal(reading, number) {
+        6 => Err(Refusal::ReadingByteCount),
+        7 => Err(Refusal::EntryNumber),
+        _ => Ok(vec![]),
+    }
+}
+
+/// Where a part of a reading begins in it, and its bytes.
+fn placed(reading: &[u8], part: &[u8]) -> Vec<u64> {
+    let place = part.as_ptr() as usize - reading.as_ptr() as usize;
+    let bytes = part.iter().map(|&byte| byte.into());
+    std::iter::once(place as u64).chain(bytes).collect()
+}
+
+fn one(value: impl TryInto<u64>) -> Vec<u64> {
+    value.try_into().ok().into_iter().collect()
+}
+
+fn answer(told: Result<Vec<u64>, u8>, after: Input) -> Answer {
+    Answer {
+        told,
+        lent_bytes: after.lent_bytes,
+        lent_words: after.lent_words,
+        lent_ends: after.lent_ends,
+    }
+}

@@ -1,0 +1,241 @@
+//! The smallest input found that still shows a difference: words left out,
+//! joined and shortened, texts and buffers shortened, as long as it shows.
+
+use std::time::{Duration, Instant};
+
+use second::recording::{weigh, word, word_activity, word_minutes};
+
+use crate::operation::{Input, Operation};
+
+const TIME: Duration = Duration::from_secs(30);
+
+/// What a buffer is filled up with.
+const FILLING: u8 = 0xAA;
+
+struct Shrinking<'a> {
+    operation: Operation,
+    best: Input,
+    differs: &'a dyn Fn(&Input) -> bool,
+    until: Instant,
+}
+
+pub fn smallest(operation: Operation, input: Input, differs: &dyn Fn(&Input) -> bool) -> Input {
+    let mut shrinking = Shrinking {
+        operation,
+        best: input,
+        differs,
+        until: Instant::now() + TIME,
+    };
+    loop {
+        let before = shrinking.best.clone();
+        shrinking.leave_out_words();
+        shrinking.join_words();
+        shrinking.shorten_words();
+        shrinking.shorten_bytes();
+        shrinking.shorten_buffers();
+        shrinking.lessen_number();
+        if shrinking.best == before {
+            return before;
+        }
+    }
+}
+
+impl Shrinking<'_> {
+    /// Goes on from this input if it shows the difference too.
+    fn take(&mut self, input: Input) -> bool {
+        let shows = Instant::now() < self.until && (self.differs)(&input);
+        if shows {
+            self.best = input;
+        }
+        shows
+    }
+
+    /// The same with other words, and with the buffers as they are or fitted to
+    /// them.
+    fn take_words(&mut self, words: Vec<u32>) -> bool {
+        fitted(self.operation, &self.best, words)
+            .into_iter()
+            .any(|input| self.take(input))
+    }
+
+    fn leave_out_words(&mut self) {
+        let mut count = self.best.words.len();
+        while count > 0 {
+            let mut at = 0;
+            while at < self.best.words.len() {
+                if !self.take_words(without(&self.best.words, at, count)) {
+                    at += count;
+                }
+            }
+            count /= 2;
+        }
+    }
+
+    fn join_words(&mut self) {
+        let mut at = 0;
+        while at + 1 < self.best.words.len() {
+            let words = &self.best.words;
+            let minutes = word_minutes(words[at]) + word_minutes(words[at + 1]);
+            let as_one = |chosen: u32| {
+                let mut joined = without(words, at, 1);
+                joined[at] = word(minutes as u32, word_activity(chosen));
+                joined
+            };
+            let candidates = [as_one(words[at]), as_one(words[at + 1])];
+            let fits = minutes < 1 << 30;
+            if !(fits && candidates.into_iter().any(|words| self.take_words(words))) {
+                at += 1;
+            }
+        }
+    }
+
+    fn shorten_words(&mut self) {
+        for at in 0..self.best.words.len() {
+            let mut less = word_minutes(self.best.words[at]) as u32;
+            while less > 0 {
+                let mut words = self.best.words.clone();
+                let shorter = words[at] / 4 >= less;
+                words[at] = words[at].saturating_sub(4 * less);
+                if !(shorter && self.take_words(words)) {
+                    less /= 2;
+                }
+            }
+        }
+    }
+
+    /// A text or a reading that is passed.
+    fn shorten_bytes(&mut self) {
+        let mut count = self.best.bytes.len();
+        while count > 0 {
+            let mut at = 0;
+            while at < self.best.bytes.len() {
+                let mut input = self.best.clone();
+                input.bytes = without(&input.bytes, at, count);
+                if !self.take(input) {
+                    at += count;
+                }
+            }
+            count /= 2;
+        }
+    }
+
+    fn shorten_buffers(&mut self) {
+        let lengths = |input: &Input| {
+            [
+                input.lent_bytes.len(),
+                input.lent_words.len(),
+                input.lent_ends.len(),
+            ]
+        };
+        for buffer in 0..3 {
+            let mut less = lengths(&self.best)[buffer];
+            while less > 0 {
+                let mut kept = lengths(&self.best);
+                let shorter = kept[buffer] >= less;
+                kept[buffer] = kept[buffer].saturating_sub(less);
+                let mut input = self.best.clone();
+                input.lent_bytes.truncate(kept[0]);
+                input.lent_words.truncate(kept[1]);
+                input.lent_ends.truncate(kept[2]);
+                if !(shorter && self.take(input)) {
+                    less /= 2;
+                }
+            }
+        }
+    }
+
+    fn lessen_number(&mut self) {
+        let mut less = self.best.number;
+        while less > 0 {
+            let mut input = self.best.clone();
+            let smaller = input.number >= less;
+            input.number = input.number.saturating_sub(less);
+            if !(smaller && self.take(input)) {
+                less /= 2;
+            }
+        }
+    }
+}
+
+fn without<T: Clone>(list: &[T], at: usize, count: usize) -> Vec<T> {
+    let end = (at + count).min(list.len());
+    [&list[..at], &list[end..]].concat()
+}
+
+/// The input with other words: with what is passed beside them as it is, and
+/// with as much room, or as many entries, as before beside what they need.
+fn fitted(operation: Operation, input: &Input, words: Vec<u32>) -> Vec<Input> {
+    let (old, new) = (needs(&input.words), needs(&words));
+    let rests = new.rests - old.rests;
+    let same = Input {
+        words,
+        ..input.clone()
+    };
+    let mut fitted = same.clone();
+    match operation {
+        Operation::ListRests => {
+            resize(&mut fitted.lent_words, rests);
+            resize(&mut fitted.lent_ends, rests);
+        }
+        Operation::Verdict => resize(&mut fitted.lent_bytes, 3 * rests),
+        Operation::WriteText => resize(&mut fitted.lent_bytes, new.text - old.text),
+        Operation::FixedTest => {
+            let moved = fitted.number as i64 + new.total - old.total;
+            fitted.number = moved.max(0) as usize;
+        }
+        Operation::ReadingTest if rests < 0 => {
+            let entries = without_entries(&same, -rests);
+            return std::iter::once(same).chain(entries).collect();
+        }
+        _ => return vec![same],
+    }
+    vec![same, fitted]
+}
+
+/// The reading with so many entries left out, from each number on.
+fn without_entries(input: &Input, count: i64) -> Vec<Input> {
+    let count = count as usize;
+    let entries = input.bytes.len() / 3;
+    (0..=entries.saturating_sub(count))
+        .map(|from| {
+            let mut input = input.clone();
+            input.bytes = without(&input.bytes, 3 * from, 3 * count);
+            for entry in input.bytes.chunks_exact_mut(3) {
+                if usize::from(entry[2]) > from + count {
+                    entry[2] -= count as u8;
+                }
+            }
+            input
+        })
+        .collect()
+}
+
+fn resize<T: Clone + From<u8>>(buffer: &mut Vec<T>, change: i64) {
+    let length = (buffer.len() as i64 + change).max(0);
+    buffer.resize(length as usize, T::from(FILLING));
+}
+
+struct Needs {
+    total: i64,
+    rests: i64,
+    text: i64,
+}
+
+/// The minutes of words, their long rests and the length of their text; 0 where
+/// weighing turns them away.
+fn needs(words: &[u32]) -> Needs {
+    let Ok(measure) = weigh(words) else {
+        return Needs {
+            total: 0,
+            rests: 0,
+            text: 0,
+        };
+    };
+    let mut text = vec![0; 24 * words.len() + 400];
+    let length = second::text::write(words, &mut text).expect("the words were weighed");
+    Needs {
+        total: measure.total,
+        rests: measure.long_rests as i64,
+        text: length as i64,
+    }
+}

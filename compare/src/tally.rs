@@ -1,0 +1,132 @@
+//! What the comparison has met.
+
+use std::collections::BTreeSet;
+
+use crate::operation::{Answer, Operation};
+
+/// Inputs by operation, in rows by kind, in the order in which they came.
+#[derive(Default)]
+struct Table(Vec<(&'static str, [usize; 9])>);
+
+impl Table {
+    fn count(&mut self, row: &'static str, operation: Operation) {
+        let at = self.0.iter().position(|known| known.0 == row);
+        let at = at.unwrap_or_else(|| {
+            self.0.push((row, [0; 9]));
+            self.0.len() - 1
+        });
+        self.0[at].1[operation as usize] += 1;
+    }
+
+    fn sums(&self) -> [usize; 9] {
+        let mut sums = [0; 9];
+        for (_, counts) in &self.0 {
+            for (sum, count) in sums.iter_mut().zip(counts) {
+                *sum += count;
+            }
+        }
+        sums
+    }
+
+    fn print(&self, title: &str) {
+        print!("{title:22}");
+        for operation in Operation::ALL {
+            print!("{:>10}", operation.short_name());
+        }
+        println!();
+        for (row, counts) in &self.0 {
+            print!("{row:22}");
+            for &count in counts {
+                match count {
+                    0 => print!("{:>10}", "-"),
+                    _ => print!("{count:10}"),
+                }
+            }
+            println!();
+        }
+    }
+}
+
+#[derive(Default)]
+pub struct Tally {
+    kinds: Table,
+    variants: Table,
+    /// The refusals, rules and articles that each operation answered with.
+    told: BTreeSet<(usize, String)>,
+}
+
+impl Tally {
+    pub fn count(
+        &mut self,
+        kind: &'static str,
+        variant: &'static str,
+        operation: Operation,
+        answer: &Answer,
+    ) {
+        self.kinds.count(kind, operation);
+        self.variants.count(variant, operation);
+        self.told
+            .insert((operation as usize, class(operation, answer)));
+    }
+
+    pub fn inputs(&self) -> usize {
+        self.kinds.sums().iter().sum()
+    }
+
+    pub fn print(&self) {
+        self.kinds.print("recordings and texts");
+        println!();
+        self.variants.print("beside them");
+        println!();
+        print!("{:22}", "inputs");
+        for sum in self.kinds.sums() {
+            print!("{sum:10}");
+        }
+        println!();
+    }
+
+    /// The operations with fewer inputs than asked for, and the answers that
+    /// were never met.
+    pub fn missing(&self, at_least: usize) -> Vec<String> {
+        let mut missing = Vec::new();
+        for (operation, sum) in Operation::ALL.into_iter().zip(self.kinds.sums()) {
+            if sum < at_least {
+                missing.push(format!("{}: {sum} inputs", operation.name()));
+            }
+            for class in classes(operation) {
+                if !self.told.contains(&(operation as usize, class.clone())) {
+                    missing.push(format!("{}: {class}", operation.name()));
+                }
+            }
+        }
+        missing
+    }
+}
+
+/// What kind of answer it is: a refusal, a rule, a pass or an article.
+fn class(operation: Operation, answer: &Answer) -> String {
+    match (&answer.told, operation) {
+        (Err(number), _) => format!("refusal {number}"),
+        (Ok(values), Operation::FixedTest | Operation::ReadingTest) => {
+            format!("rule {}", values[0])
+        }
+        (Ok(values), Operation::Verdict) if values.len() == 3 => format!("article {}", values[2]),
+        (Ok(_), _) => "answer".into(),
+    }
+}
+
+/// Every kind of answer that an operation has.
+fn classes(operation: Operation) -> Vec<String> {
+    let refusals = operation.refusals().iter();
+    let refusals = refusals.map(|number| format!("refusal {number}"));
+    let answers: Vec<String> = match operation {
+        Operation::FixedTest => (0..=5).map(|rule| format!("rule {rule}")).collect(),
+        Operation::ReadingTest => (0..=11).map(|rule| format!("rule {rule}")).collect(),
+        Operation::Verdict => (1..=6)
+            .map(|article| format!("article {article}"))
+            .chain(["answer".into()])
+            .collect(),
+        _ => vec!["answer".into()],
+    };
+    refusals.chain(answers).collect()
+}
