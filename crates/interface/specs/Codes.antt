@@ -1,6 +1,8 @@
 -- An answer as one number, for callers in C. Assumes nothing.
-use Prim.Native.Nat.{ℕ, _+_, _-_, _*_}
+use Prim.Native.Nat.{ℕ, _+_, _-_, _*_, _/_, _%_}
 use mathlib.Core.List.{List}
+use lib.Dec.{ltb}
+use Rattle.recording.specs.Tests.{pick}
 use Rattle.recording.specs.Answers.{Answer, refused, answered}
 use Rattle.recording.specs.declared.Measure.{Measure}
 use Rattle.rules.specs.Reading.{entryBytes}
@@ -43,3 +45,13 @@ entryPlace number = entryBytes * (number - 1)
 
 abbrev pub entryCode : List ℕ → ℕ → ℕ
 entryCode reading number = codeOf (λ _. entryPlace number) (entryAt reading number)
+
+-- ---- how a caller reads a code
+abbrev pub answerIn : {A : Type 0} → (ℕ → A) → ℕ → Answer A
+answerIn reads code = pick (ltb code answerUnit) (refused code) (answered (reads (code - answerUnit)))
+
+abbrev pub measureIn : ℕ → Measure
+measureIn v = record { total = v % judgedUnit; judged = v / judgedUnit % judgedUnit; count = v / countUnit }
+
+abbrev pub outcomeIn : ℕ → Outcome
+outcomeIn v = pick (ltb v answerUnit) (passed v) (breached ((v - answerUnit) / articleUnit) ((v - answerUnit) % articleUnit))

@@ -1,0 +1,206 @@
+-- A code tells its answer: each operation's answer is read back from its number. Assumes nothing.
+use mathlib.Core.Path.{_≡_, refl, ap, _∙_}
+use mathlib.Core.Bool.{Bool, true, false, not}
+use mathlib.Core.List.{List, [], _∷_}
+use mathlib.Core.Option.{Option, none, some}
+use Prim.Native.Nat.{ℕ, zero, suc, _+_, _-_, _*_, _/_, _%_, _≤_, _<_}
+use native.Mathlib.Omega.{arith}
+use lib.Dec.{eqb, ltb}
+use lib.Arith.{digits-div, digits-mod}
+use lib.ListN.{length, take, drop}
+use borrow.Author.Tests.{lt-ltb, le-ltb}
+use Rattle.recording.specs.Tests.{pick, _or_}
+use Rattle.recording.specs.Answers.{Answer, refused, answered, andThen, refuseIf, counted}
+use Rattle.recording.specs.Words.{minutesIn, minutesOf}
+use Rattle.recording.specs.Days.{days, drivingIn}
+use Rattle.recording.specs.Weeks.{weeksOf}
+use Rattle.recording.specs.Rests.{judgedEnd}
+use Rattle.recording.specs.Operations.{totalAtMost, faultOf, unlessFault, totalFrom, measured, listed}
+use Rattle.recording.specs.declared.Measure.{Measure}
+use Rattle.recording.proofs.Walks.{judged-within}
+use Rattle.recording.proofs.LongRests.{few-rests}
+use Rattle.recording.proofs.Listing.{Measured, measured-is}
+use Rattle.rules.specs.Broken.{unless as unlessBroken}
+use Rattle.rules.specs.Fixed.{rule1, rule2, rule3, rule4, rule5, firstBroken, fixedTest}
+use Rattle.rules.specs.Reading.{entryBytes, readingSize}
+use Rattle.rules.specs.Verdict.{prefix, firstLawful, breachMinute, articleBy, article, Verdict, verdictBy, verdict}
+use Rattle.rules.specs.Operations.{Outcome, passed, breached, outcomeOf, outcome, fixedTested, readingTested, judged, entryAt}
+use Rattle.rules.proofs.EntryLaws.{first-size}
+use Rattle.text.specs.Reading.{linesIn, wordsOf, isText, unless, textRead}
+use Rattle.text.specs.Writing.{textOfMinutes, textWritten}
+use Rattle.interface.specs.Codes.{answerUnit, judgedUnit, countUnit, articleUnit, codeOf, itself, measureValue, outcomeValue, entryPlace, entryCode, answerIn, measureIn, outcomeIn}
+
+-- ---- an answer whose refusal, if it is one, is below the unit
+data Told {A : Type 0} : Answer A → Type 0 where
+  by-number : {n : ℕ} → n < answerUnit → Told (refused n)
+  by-value : (a : A) → Told (answered a)
+
+told-then : {A B : Type 0} {a : Answer A} {f : A → Answer B} → Told a → ((x : A) → Told (f x)) → Told (andThen a f)
+told-then (by-number h) g = by-number h
+told-then (by-value x) g = g x
+
+told-if : {A : Type 0} (b : Bool) {n : ℕ} {later : Answer A} → n < answerUnit → Told later → Told (refuseIf b n later)
+told-if true h t = by-number h
+told-if false h t = t
+
+told-unless : {A : Type 0} (b : Bool) {n : ℕ} {later : Answer A} → n < answerUnit → Told later → Told (unless b n later)
+told-unless true h t = t
+told-unless false h t = by-number h
+
+told-counted : {A : Type 0} {a : Answer (List A)} → Told a → Told (counted a)
+told-counted (by-number h) = by-number h
+told-counted (by-value xs) = by-value (length xs)
+
+-- ---- each operation's answer is such
+fault-small : (a b : Bool) → pick a 1 (pick b 2 0) < answerUnit
+fault-small true b = omega arith
+fault-small false true = omega arith
+fault-small false false = omega arith
+
+told-fault : {A : Type 0} (n : ℕ) {later : Answer A} → n < answerUnit → Told later → Told (unlessFault n later)
+told-fault zero h t = t
+told-fault (suc n) h t = by-number h
+
+told-total : (total : ℕ) (ws : List ℕ) → Told (totalFrom total ws)
+unfolding totalFrom faultOf
+told-total total [] = by-value total
+told-total total (w ∷ ws) = told-fault (faultOf total w) (fault-small (eqb (minutesIn w) 0) (ltb totalAtMost (total + minutesIn w))) (told-total (total + minutesIn w) ws)
+
+told-measured : (ws : List ℕ) → Told (measured ws)
+unfolding measured
+told-measured ws = told-then (told-total 0 ws) (λ _. by-value _)
+
+-- ---- a code of such an answer is read back, if its value is
+read-back : {A : Type 0} (value : A → ℕ) (reads : ℕ → A) {a : Answer A} → Told a → ((x : A) → a ≡ answered x → reads (value x) ≡ x)
+    → answerIn reads (codeOf value a) ≡ a
+read-back value reads (by-number {n} h) e = rw (lt-ltb n answerUnit h)
+read-back value reads (by-value x) e =
+    let past : ltb (answerUnit + value x) answerUnit ≡ false = le-ltb (answerUnit + value x) answerUnit (omega arith) in
+    let same : answerUnit + value x - answerUnit ≡ value x = omega arith in
+    rw past (ap (λ v. answered (reads v)) same ∙ ap answered (e x refl))
+
+count-back : {a : Answer ℕ} → Told a → answerIn itself (codeOf itself a) ≡ a
+count-back t = read-back itself itself t (λ x e. refl)
+
+-- ---- weighing: N and S are below their unit
+measure-back : (m : Measure) → m .total < judgedUnit → m .judged < judgedUnit → measureIn (measureValue m) ≡ m
+measure-back m t j =
+    let by-total : measureValue m ≡ (m .judged + judgedUnit * m .count) * judgedUnit + m .total = omega arith in
+    let by-judged : m .judged + judgedUnit * m .count ≡ m .count * judgedUnit + m .judged = omega arith in
+    let by-count : measureValue m ≡ m .count * countUnit + (m .total + judgedUnit * m .judged) = omega arith in
+    let past : measureValue m / judgedUnit ≡ m .judged + judgedUnit * m .count = ap (λ v. v / judgedUnit) by-total ∙ digits-div _ t in
+    let a : measureValue m % judgedUnit ≡ m .total = ap (λ v. v % judgedUnit) by-total ∙ digits-mod _ t in
+    let b : measureValue m / judgedUnit % judgedUnit ≡ m .judged = ap (λ v. v % judgedUnit) (past ∙ by-judged) ∙ digits-mod _ j in
+    let rest : m .total + judgedUnit * m .judged < countUnit = omega arith in
+    let c : measureValue m / countUnit ≡ m .count = ap (λ v. v / countUnit) by-count ∙ digits-div _ rest in
+    λ i. record { total = a i; judged = b i; count = c i }
+
+module _ (ws : List ℕ) where
+  measured-back : (m : Measure) → Measured ws m → measureIn (measureValue m) ≡ m
+  measured-back m is =
+      let t : m .total ≡ length (minutesOf ws) = ap (λ (x : Measure). x .total) (is .is) in
+      let j : m .judged ≡ judgedEnd (minutesOf ws) = ap (λ (x : Measure). x .judged) (is .is) in
+      measure-back m (omega (arith, is .within)) (omega (arith, is .within, judged-within (minutesOf ws)))
+
+  pub weigh-back : answerIn measureIn (codeOf measureValue (measured ws)) ≡ measured ws
+  weigh-back = read-back measureValue measureIn (told-measured ws) (λ m e. measured-back m (measured-is ws e))
+
+  pub list-back : (room : ℕ) → answerIn itself (codeOf itself (counted (listed ws room))) ≡ counted (listed ws room)
+  unfolding listed
+  list-back room = count-back (told-counted (told-then (told-measured ws) (λ m. told-if (ltb room (m .count)) (omega arith) (by-value _))))
+
+  pub fixed-test-back : (m : ℕ) → answerIn itself (codeOf itself (fixedTested ws m)) ≡ fixedTested ws m
+  unfolding fixedTested
+  fixed-test-back m = count-back (told-then (told-measured ws) (λ k. told-if (ltb (k .total) m) (omega arith) (by-value _)))
+
+  pub reading-test-back : (reading : List ℕ) → answerIn itself (codeOf itself (readingTested ws reading)) ≡ readingTested ws reading
+  unfolding readingTested
+  reading-test-back reading = count-back (told-then (told-measured ws) (λ k. told-if (not (eqb (length reading) (entryBytes * k .count))) (omega arith) (by-value _)))
+
+  pub write-back : (room : ℕ) → answerIn itself (codeOf itself (counted (textWritten ws room))) ≡ counted (textWritten ws room)
+  unfolding textWritten
+  write-back room = count-back (told-counted (told-then (told-measured ws) (λ _. told-if (ltb room (length (textOfMinutes (minutesOf ws)))) (omega arith) (by-value _))))
+
+pub read-text-back : (text : List ℕ) (room : ℕ) → answerIn itself (codeOf itself (counted (textRead text room))) ≡ counted (textRead text room)
+unfolding textRead
+read-text-back text room = count-back (told-counted (told-unless (isText text) (omega arith) (told-if (ltb room (length (wordsOf (linesIn text)))) (omega arith) (by-value _))))
+
+-- ---- the entry of a reading: the three bytes from its place on
+module _ (reading : List ℕ) (number : ℕ) where
+  abbrev bytesFrom : ℕ → List ℕ
+  bytesFrom place = take entryBytes (drop place reading)
+
+  abbrev uneven : Bool
+  uneven = not (eqb (length reading % entryBytes) 0)
+
+  abbrev absent : Bool
+  absent = eqb number 0 or ltb (length reading / entryBytes) number
+
+  pub entry-back : answerIn bytesFrom (entryCode reading number) ≡ entryAt reading number
+  unfolding entryAt
+  entry-back = read-back (λ _. entryPlace number) bytesFrom (told-if uneven (omega arith) (told-if absent (omega arith) (by-value _))) (λ part e. there uneven absent e)
+    where
+      there : (a b : Bool) {part : List ℕ} → refuseIf a 6 (refuseIf b 7 (answered (bytesFrom (entryPlace number)))) ≡ answered part → bytesFrom (entryPlace number) ≡ part
+      there true b e = let z : _≡_ {A = ℕ} 0 1 = cc in absurd (omega arith)
+      there false true e = let z : _≡_ {A = ℕ} 0 1 = cc in absurd (omega arith)
+      there false false e = cc
+
+-- ---- the verdict: a count is below the unit, an article below its own
+data Within : Outcome → Type 0 where
+  passing : {n : ℕ} → n < answerUnit → Within (passed n)
+  breaching : (m : ℕ) {a : ℕ} → a < articleUnit → Within (breached m a)
+
+outcome-back : {o : Outcome} → Within o → outcomeIn (outcomeValue o) ≡ o
+outcome-back (passing {n} h) = rw (lt-ltb n answerUnit h)
+outcome-back (breaching m {a} h) =
+    let past : ltb (answerUnit + articleUnit * m + a) answerUnit ≡ false = le-ltb (answerUnit + articleUnit * m + a) answerUnit (omega arith) in
+    let parts : answerUnit + articleUnit * m + a - answerUnit ≡ m * articleUnit + a = omega arith in
+    let minute : (answerUnit + articleUnit * m + a - answerUnit) / articleUnit ≡ m = ap (λ v. v / articleUnit) parts ∙ digits-div m h in
+    let rule : (answerUnit + articleUnit * m + a - answerUnit) % articleUnit ≡ a = ap (λ v. v % articleUnit) parts ∙ digits-mod m h in
+    rw past (λ i. breached (minute i) (rule i))
+
+broken-small : (a b c d e : Bool) → articleBy (unlessBroken a 1 (unlessBroken b 2 (unlessBroken c 3 (unlessBroken d 4 (unlessBroken e 5 0))))) < articleUnit
+broken-small false b c d e = omega arith
+broken-small true false c d e = omega arith
+broken-small true true false d e = omega arith
+broken-small true true true false e = omega arith
+broken-small true true true true false = omega arith
+broken-small true true true true true = omega arith
+
+article-small : (ms : List ℕ) → article ms < articleUnit
+unfolding article fixedTest firstBroken
+article-small ms =
+    broken-small (rule1 ms) (rule2 (drivingIn ms) (weeksOf ms) (days ms)) (rule3 (drivingIn ms) (weeksOf ms)) (rule4 (drivingIn ms) (weeksOf ms)) (rule5 (days ms))
+
+verdict-within : (ms : List ℕ) → length ms ≤ totalAtMost → Within (outcomeOf (verdict ms))
+unfolding verdict readingSize
+verdict-within ms h = at (firstLawful ms) refl
+  where
+    at : (f : Option (List ℕ)) → firstLawful ms ≡ f → Within (outcomeOf (verdictBy f (breachMinute ms) (article (prefix (breachMinute ms) ms))))
+    at none e = breaching _ (article-small _)
+    at (some r) e = passing {n = length r} (omega (arith, first-size ms r e, few-rests ms h))
+
+told-outcome : {a : Answer Verdict} → Told a → Told (outcome a)
+told-outcome (by-number h) = by-number h
+told-outcome (by-value v) = by-value (outcomeOf v)
+
+module _ (ws : List ℕ) (room : ℕ) where
+  within : {o : Outcome} → outcome (judged ws room) ≡ answered o → Within o
+  unfolding judged
+  within {o} e = at (measured ws) refl e
+    where
+      here : (b : Bool) → length (minutesOf ws) ≤ totalAtMost → outcome (refuseIf b 4 (answered (verdict (minutesOf ws)))) ≡ answered o → Within o
+      here true h e = let z : _≡_ {A = ℕ} 0 1 = cc in absurd (omega arith)
+      here false h e = let same : outcomeOf (verdict (minutesOf ws)) ≡ o = cc in rw (← same) (verdict-within (minutesOf ws) h)
+
+      at : (a : Answer Measure) → measured ws ≡ a
+          → outcome (andThen a (λ k. refuseIf (ltb room (entryBytes * k .count)) 4 (answered (verdict (minutesOf ws))))) ≡ answered o → Within o
+      at (refused n) q e = let z : _≡_ {A = ℕ} 0 1 = cc in absurd (omega arith)
+      at (answered k) q e = here (ltb room (entryBytes * k .count)) (measured-is ws q .within) e
+
+  pub verdict-back : answerIn outcomeIn (codeOf outcomeValue (outcome (judged ws room))) ≡ outcome (judged ws room)
+  unfolding judged
+  verdict-back =
+      read-back outcomeValue outcomeIn
+      (told-outcome (told-then (told-measured ws) (λ k. told-if (ltb room (entryBytes * k .count)) (omega arith) (by-value _))))
+      (λ o e. outcome-back (within e))
