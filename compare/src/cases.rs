@@ -4,7 +4,7 @@ use second::dice::Dice;
 use second::grow;
 
 use crate::edges;
-use crate::inputs::{self, Try};
+use crate::inputs::{self, Room, Try};
 use crate::recordings;
 
 /// How many recordings of each kind, and how many readings for the entry.
@@ -59,12 +59,9 @@ fn texts(visit: Visit) -> bool {
     let mut dice = Dice::new(102);
     edges::texts().into_iter().all(|text| {
         let text = text.into_bytes();
-        let mut tries = vec![
-            inputs::reading(&mut dice, "just fits", text.clone()),
-            inputs::reading(&mut dice, "short by one", text.clone()),
-            inputs::reading(&mut dice, "empty", text.clone()),
-            inputs::reading(&mut dice, "longer", text.clone()),
-        ];
+        let mut tries: Vec<Try> = (Room::ALL.into_iter())
+            .map(|room| inputs::reading(&mut dice, room, text.clone()))
+            .collect();
         inputs::of_text(&mut dice, &text, &mut tries);
         all("texts at their edge", tries, visit)
     })

@@ -2,7 +2,6 @@
 
 use std::fmt;
 
-use crate::inputs::Try;
 use crate::operation::{Answer, Input, Operation, Program};
 use crate::shrink;
 
@@ -14,37 +13,33 @@ pub struct Difference {
     pub theirs: Answer,
 }
 
-impl Difference {
-    /// A difference on this input, or the answer that both give.
-    pub fn between(ours: Program, theirs: Program, attempt: &Try) -> Result<Difference, Answer> {
-        Difference::on(ours, theirs, attempt.operation, &attempt.input)
+/// The answer that both programs give, or their difference.
+pub fn compared(
+    ours: Program,
+    theirs: Program,
+    operation: Operation,
+    input: &Input,
+) -> Result<Answer, Box<Difference>> {
+    let (ours, theirs) = (ours(operation, input), theirs(operation, input));
+    if ours == theirs {
+        return Ok(ours);
     }
+    Err(Box::new(Difference {
+        operation,
+        input: input.clone(),
+        ours,
+        theirs,
+    }))
+}
 
-    fn on(
-        ours: Program,
-        theirs: Program,
-        operation: Operation,
-        input: &Input,
-    ) -> Result<Difference, Answer> {
-        let (ours, theirs) = (ours(operation, input), theirs(operation, input));
-        if ours == theirs {
-            return Err(ours);
-        }
-        Ok(Difference {
-            operation,
-            input: input.clone(),
-            ours,
-            theirs,
-        })
-    }
-
-    /// The same programs' difference on the smallest input found.
-    pub fn smallest(self, ours: Program, theirs: Program) -> Difference {
-        let operation = self.operation;
-        let differs = |input: &Input| ours(operation, input) != theirs(operation, input);
-        let input = shrink::smallest(operation, self.input.clone(), &differs);
-        Difference::on(ours, theirs, operation, &input).unwrap_or(self)
-    }
+/// A difference of these programs on the smallest input found.
+pub fn smallest(ours: Program, theirs: Program, found: Box<Difference>) -> Box<Difference> {
+    let operation = found.operation;
+    let differs = |input: &Input| ours(operation, input) != theirs(operation, input);
+    let input = shrink::smallest(operation, found.input.clone(), &differs);
+    compared(ours, theirs, operation, &input)
+        .err()
+        .unwrap_or(found)
 }
 
 impl Difference {

@@ -25,16 +25,40 @@ fn attempt(operation: Operation, variant: &'static str, input: Input) -> Try {
     }
 }
 
-/// How much a buffer has beside what is needed.
-const ROOMS: [&str; 4] = ["just fits", "short by one", "empty", "longer"];
+/// How long a buffer is beside what is needed.
+#[derive(Clone, Copy, PartialEq, Eq)]
+pub enum Room {
+    JustFits,
+    ShortByOne,
+    Empty,
+    Longer,
+}
 
-fn room(dice: &mut Dice, variant: &str, need: usize) -> usize {
-    match variant {
-        "just fits" => need,
-        "short by one" => need.saturating_sub(1),
-        "empty" => 0,
-        _ => need + dice.between(1, 40) as usize,
+impl Room {
+    pub const ALL: [Room; 4] = [Room::JustFits, Room::ShortByOne, Room::Empty, Room::Longer];
+
+    fn length(self, dice: &mut Dice, need: usize) -> usize {
+        match self {
+            Room::JustFits => need,
+            Room::ShortByOne => need.saturating_sub(1),
+            Room::Empty => 0,
+            Room::Longer => need + dice.between(1, 40) as usize,
+        }
     }
+}
+
+/// What such a buffer is told by in the table.
+fn beside(length: usize, need: usize) -> &'static str {
+    match length {
+        _ if length == need => "just fits",
+        _ if length > need => "longer",
+        _ if length + 1 == need => "short by one",
+        _ => "empty",
+    }
+}
+
+fn one_of<T: Copy>(dice: &mut Dice, choices: &[T]) -> T {
+    choices[dice.below(choices.len() as u32) as usize]
 }
 
 /// A buffer of numbers that tell where they lie.
@@ -111,18 +135,19 @@ fn weighed(dice: &mut Dice, recording: &Input, readings: &[Vec<u8>], tries: &mut
 }
 
 fn list_rests(dice: &mut Dice, recording: &Input, count: usize, tries: &mut Vec<Try>) {
-    let other = ROOMS[dice.between(1, 3) as usize];
-    for (variant, starts, ends) in [
-        ("just fits", "just fits", "just fits"),
-        (other, other, "just fits"),
-        (other, "longer", other),
+    let other = one_of(dice, &[Room::ShortByOne, Room::Empty, Room::Longer]);
+    for (starts, ends) in [
+        (Room::JustFits, Room::JustFits),
+        (other, Room::JustFits),
+        (Room::Longer, other),
     ] {
-        let (starts, ends) = (room(dice, starts, count), room(dice, ends, count));
+        let (starts, ends) = (starts.length(dice, count), ends.length(dice, count));
         let input = Input {
             lent_words: lent(dice, starts),
             lent_ends: lent(dice, ends),
             ..recording.clone()
         };
+        let variant = beside(starts.min(ends), count);
         tries.push(attempt(Operation::ListRests, variant, input));
     }
 }
@@ -139,15 +164,17 @@ fn fixed_tests(
         Outcome::Pass(_) => dice.below(total + 1),
         Outcome::Breach { minute, .. } => *minute as u32,
     };
+    let over = match dice.below(3) {
+        0 => total + 1,
+        1 => total + 2 + dice.below(1_000),
+        _ => u32::MAX,
+    };
     for (variant, m) in [
         ("whole", total),
         ("some of it", dice.below(total + 1)),
         ("up to the breach", breach),
         ("up to the breach", breach.saturating_sub(1)),
-        (
-            "over the total",
-            [total + 1, u32::MAX, total + 2 + dice.below(1_000)][dice.below(3) as usize],
-        ),
+        ("over the total", over),
     ] {
         let input = Input {
             number: m as usize,
@@ -219,7 +246,7 @@ fn plausible(dice: &mut Dice, rests: &[LongRest], index: usize) -> [u8; 3] {
     if rest.length() < 1_440 && !dice.one_in(20) {
         return [0; 3];
     }
-    let minute = [rest.start, rest.end - 1][dice.below(2) as usize];
+    let minute = one_of(dice, &[rest.start, rest.end - 1]);
     let week = (minute / 10_080) as u8;
     let carrier = if rest.length() < 2_700 && dice.one_in(2) {
         later(dice, rests, index)
@@ -251,65 +278,60 @@ fn random_reading(dice: &mut Dice, rests: &[LongRest]) -> Vec<u8> {
 
 /// One verdict with room enough and one without.
 fn verdicts(dice: &mut Dice, recording: &Input, need: usize, tries: &mut Vec<Try>) {
-    let enough = [ROOMS[0], ROOMS[3]][dice.below(2) as usize];
-    let too_few = [ROOMS[1], ROOMS[2]][dice.below(2) as usize];
-    let count = if need > 0 { 2 } else { 1 };
-    for variant in [enough, too_few].into_iter().take(count) {
-        let length = room(dice, variant, need);
+    let enough = one_of(dice, &[Room::JustFits, Room::Longer]);
+    let too_few = one_of(dice, &[Room::ShortByOne, Room::Empty]);
+    for room in [enough, too_few] {
+        let length = room.length(dice, need);
+        if length == need && room != Room::JustFits {
+            continue;
+        }
         let input = Input {
             lent_bytes: lent(dice, length),
             ..recording.clone()
         };
-        tries.push(attempt(Operation::Verdict, variant, input));
+        tries.push(attempt(Operation::Verdict, beside(length, need), input));
     }
 }
 
 /// Writing the recording's text, and reading it, whole and damaged.
 fn texts(dice: &mut Dice, recording: &Input, tries: &mut Vec<Try>) {
     let mut text = vec![0; 24 * recording.words.len() + 400];
-    let length = second::text::write(&recording.words, &mut text).expect("the words were weighed");
-    text.truncate(length);
-    for variant in [
-        "just fits",
-        "short by one",
-        ROOMS[dice.between(2, 3) as usize],
-    ] {
-        let length = room(dice, variant, length);
+    let need = second::text::write(&recording.words, &mut text).expect("the words were weighed");
+    text.truncate(need);
+    let other = one_of(dice, &[Room::Empty, Room::Longer]);
+    for room in [Room::JustFits, Room::ShortByOne, other] {
+        let length = room.length(dice, need);
         let input = Input {
             lent_bytes: lent(dice, length),
             ..recording.clone()
         };
-        tries.push(attempt(Operation::WriteText, variant, input));
+        tries.push(attempt(Operation::WriteText, beside(length, need), input));
     }
-    let variant = ROOMS[dice.below(4) as usize];
-    tries.push(reading(dice, variant, text.clone()));
+    let room = one_of(dice, &Room::ALL);
+    tries.push(reading(dice, room, text.clone()));
     of_text(dice, &text, tries);
 }
 
 /// Reading a text with this room for its words.
-pub fn reading(dice: &mut Dice, variant: &'static str, text: Vec<u8>) -> Try {
+pub fn reading(dice: &mut Dice, room: Room, text: Vec<u8>) -> Try {
     let runs = second::text::parse(&text).map_or(0, |words| words.len());
-    let length = room(dice, variant, runs);
+    let length = room.length(dice, runs);
     let input = Input {
         bytes: text,
         lent_words: lent(dice, length),
         ..Input::default()
     };
-    attempt(Operation::ReadText, variant, input)
+    attempt(Operation::ReadText, beside(length, runs), input)
 }
 
 /// Reading a text with a byte or a line damaged, with words enough.
 pub fn of_text(dice: &mut Dice, text: &[u8], tries: &mut Vec<Try>) {
-    for variant in [
-        "damaged by a byte",
-        "damaged by a byte",
-        "damaged in a line",
+    for (variant, text) in [
+        ("damaged by a byte", damaged_byte(dice, text)),
+        ("damaged by a byte", damaged_byte(dice, text)),
+        ("damaged in a line", damaged_line(dice, text)),
     ] {
-        let damaged = match variant {
-            "damaged by a byte" => damaged_byte(dice, text),
-            _ => damaged_line(dice, text),
-        };
-        let attempt = reading(dice, "longer", damaged);
+        let attempt = reading(dice, Room::Longer, text);
         tries.push(Try { variant, ..attempt });
     }
 }
@@ -320,7 +342,7 @@ fn damaged_byte(dice: &mut Dice, text: &[u8]) -> Vec<u8> {
         return text;
     }
     let index = dice.below(text.len() as u32) as usize;
-    let other = b"()\n 0123456789\r\tr"[dice.below(17) as usize];
+    let other = one_of(dice, b"()\n 0123456789\r\tr");
     match dice.below(6) {
         0 => text[index] = dice.below(256) as u8,
         1 => text[index] = other,
@@ -377,8 +399,10 @@ fn renumber(dice: &mut Dice, lines: &mut Vec<Vec<u8>>, index: usize) {
         1 => lines[index] = run(&(minutes - 1).to_string()),
         2 => lines[index] = run(&format!("0{minutes}")),
         3 => {
-            lines[index] =
-                run(["0", "10080", "10081", "", "99999999999999999999"][dice.below(5) as usize])
+            lines[index] = run(one_of(
+                dice,
+                &["0", "10080", "10081", "", "99999999999999999999"],
+            ))
         }
         4 => lines[index] = run(&(u64::from(minutes) + (1 << 32)).to_string()),
         _ if minutes > 1 => {
@@ -406,7 +430,7 @@ pub fn entries(dice: &mut Dice) -> Vec<Try> {
         1 => ("number over", count + 1),
         2 => (
             "number over",
-            [usize::MAX, usize::MAX / 3 + 2, 1 << 63, 1 << 32][dice.below(4) as usize],
+            one_of(dice, &[usize::MAX, usize::MAX / 3 + 2, 1 << 63, 1 << 32]),
         ),
         3 => ("last number", count),
         _ => ("some number", dice.between(1, count as u32 + 1) as usize),

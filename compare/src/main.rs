@@ -19,7 +19,7 @@ use std::process::exit;
 use std::time::Instant;
 
 use cases::Plan;
-use difference::Difference;
+use difference::{compared, smallest};
 use operation::{desk, second};
 use tally::Tally;
 
@@ -33,25 +33,26 @@ fn main() {
     let plan = Plan {
         random: 9_000,
         few_days: 5_000,
-        ordinary: 1_000,
-        grown: 160,
+        ordinary: 1_500,
+        grown: 240,
         stages: 5,
-        hard: 20,
+        hard: 30,
         scarce: if scarce { 400 } else { 0 },
         entries: 20_000,
     };
     let mut tally = Tally::default();
-    let ended = cases::each(&plan, &mut |kind, attempt| match Difference::between(
-        desk, second, &attempt,
-    ) {
-        Err(answer) => {
-            tally.count(kind, attempt.variant, attempt.operation, &answer);
-            true
-        }
-        Ok(difference) => {
-            println!("{kind}, {}:", attempt.variant);
-            println!("{}", difference.smallest(desk, second));
-            false
+    let ended = cases::each(&plan, &mut |kind, attempt| {
+        let operation = attempt.operation;
+        match compared(desk, second, operation, &attempt.input) {
+            Ok(answer) => {
+                tally.count(kind, attempt.variant, operation, &answer);
+                true
+            }
+            Err(difference) => {
+                println!("{kind}, {}:", attempt.variant);
+                println!("{}", smallest(desk, second, difference));
+                false
+            }
         }
     });
     if !ended {

@@ -6,7 +6,7 @@ use second::verdict::{Outcome, Verdict};
 use second::Limits;
 
 use crate::cases::{self, Plan};
-use crate::difference::Difference;
+use crate::difference::{compared, smallest, Difference};
 use crate::operation::{desk, second, verdict_values, Answer, Input, Operation, Program};
 
 /// A wrong program, and how many words its smallest difference has at most.
@@ -16,11 +16,16 @@ struct Wrong {
     most_words: usize,
 }
 
-const WRONG: [Wrong; 4] = [
+const WRONG: [Wrong; 5] = [
     Wrong {
         name: "rule 10 a minute late",
         program: rule_10_a_minute_late,
-        most_words: 14,
+        most_words: 4,
+    },
+    Wrong {
+        name: "rule 8 a week late",
+        program: rule_8_a_week_late,
+        most_words: 8,
     },
     Wrong {
         name: "a byte beyond the text",
@@ -66,28 +71,42 @@ pub fn run() {
 }
 
 /// The first difference from a wrong program, on the smallest input.
-fn noticed(wrong: Program) -> Difference {
+fn noticed(wrong: Program) -> Box<Difference> {
     let mut first = None;
     cases::each(&PLAN, &mut |_, attempt| {
-        first = Difference::between(desk, wrong, &attempt).ok();
+        first = compared(desk, wrong, attempt.operation, &attempt.input).err();
         first.is_none()
     });
     let first = first.expect("a wrong program is noticed");
-    first.smallest(desk, wrong)
+    smallest(desk, wrong, first)
 }
 
 /// 8,641 minutes between weekly rests.
 fn rule_10_a_minute_late(operation: Operation, input: &Input) -> Answer {
-    let mut answer = second(operation, input);
-    if operation != Operation::Verdict || answer.told.is_err() {
-        return answer;
-    }
     let limits = Limits {
         between_weekly_rests: 8_641,
         ..Limits::document()
     };
+    judged_by(&limits, operation, input)
+}
+
+/// A debt due a week late.
+fn rule_8_a_week_late(operation: Operation, input: &Input) -> Answer {
+    let limits = Limits {
+        due_weeks: 5,
+        ..Limits::document()
+    };
+    judged_by(&limits, operation, input)
+}
+
+/// The second program with other numbers in the verdict.
+fn judged_by(limits: &Limits, operation: Operation, input: &Input) -> Answer {
+    let mut answer = second(operation, input);
+    if operation != Operation::Verdict || answer.told.is_err() {
+        return answer;
+    }
     answer.lent_bytes = input.lent_bytes.clone();
-    let verdict = match Judge::new(&input.words, &limits).outcome() {
+    let verdict = match Judge::new(&input.words, limits).outcome() {
         Outcome::Pass(reading) => {
             answer.lent_bytes[..reading.len()].copy_from_slice(&reading);
             Verdict::Pass {
