@@ -10,11 +10,13 @@
  *    3 the list is too short           8 the text is not of the form
  *    4 the reading buffer is too short 9 too few words for the text's run lines
  *    5 m is over the total            10 too few bytes for the text
- * Otherwise the operation answered, with answer - DESK_ANSWER as its value, or by the macros below. On a refusal every
- * buffer is as it was. An operation that fills a buffer writes from its start and leaves what lies beyond.
+ * Otherwise the operation answered, and the macros below give its value. Only desk_entry_refusal answers with a bare
+ * number. On a refusal every buffer is as it was. An operation that fills a buffer writes from its start and leaves what
+ * lies beyond.
  *
  * Each promise stands with its function in crates/interface/src/lib.rt, and is proved. Nothing is kept between calls, so
- * threads may call at the same time, each on buffers that no other is using. desk_verdict needs 1,400 KiB of stack. */
+ * threads may call at the same time, each on buffers that no other is using. desk_verdict needs 1,400 KiB of stack.
+ */
 #ifndef DESK_H
 #define DESK_H
 
@@ -26,6 +28,10 @@ extern "C" {
 #endif
 
 #define DESK_ANSWER ((uint64_t)1 << 48)
+
+/* A recording has at most so many long rests, so lists of this length and readings of three times as many bytes are never
+ * too short. */
+#define DESK_LONG_RESTS_AT_MOST 223
 
 /* Whether an answer is one, and not a refusal; then its value: a count, a rule or a place. */
 #define DESK_ANSWERED(answer) ((answer) >= DESK_ANSWER)

@@ -1,6 +1,19 @@
 //! The hours desk for Rust: the operations of document 01, from the desk's
 //! static library.
 //!
+//! ```
+//! use hours_desk::{verdict, Verdict, LONG_RESTS_AT_MOST};
+//!
+//! // A word is 4 × minutes + activity: rest 0, availability 1, work 2, driving 3.
+//! let words = [4 * 240 + 3, 4 * 660, 4 * 60 + 2];
+//! let mut reading = [0; 3 * LONG_RESTS_AT_MOST];
+//! match verdict(&words, &mut reading) {
+//!     Ok(Verdict::Pass { written }) => assert_eq!(reading[..written], [0, 0, 0]),
+//!     Ok(Verdict::Breach { minute, article }) => panic!("a breach at {minute}, {article}"),
+//!     Err(refusal) => panic!("refused, {}", refusal.number()),
+//! }
+//! ```
+//!
 //! Every function takes any content: a refusal is an `Err`. On a refusal every
 //! buffer is as it was; an operation that fills a buffer writes from its start
 //! and leaves what lies beyond.
@@ -10,6 +23,10 @@
 //! `std` have more, unless told otherwise.
 
 mod calls;
+
+/// A recording has at most so many long rests, so lists of this length and
+/// readings of three times as many bytes are never too short.
+pub const LONG_RESTS_AT_MOST: usize = 223;
 
 /// Why an operation was turned away; its discriminant is document 01's number.
 #[derive(Clone, Copy, Debug, PartialEq, Eq)]
