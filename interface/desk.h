@@ -52,6 +52,15 @@ extern "C" {
 /* Weighing: N, S and k, or refusal 1 or 2. */
 uint64_t desk_weigh(const uint32_t *words, size_t words_count);
 
+/* A record of a list: the minutes from start up to end, which is not included. */
+struct desk_span {
+    uint32_t start;
+    uint32_t end;
+};
+
+/* The long rests, one record each; refusal 1, 2, or 3 where the list has fewer than k records. The value is k. */
+uint64_t desk_list(const uint32_t *words, size_t words_count, struct desk_span *list, size_t list_count);
+
 /* The starts and ends of the long rests, into two slices; refusal 1, 2, or 3 where one of them has fewer than k elements.
  * The value is k. */
 uint64_t desk_list_rests(const uint32_t *words, size_t words_count, uint32_t *starts, size_t starts_count, uint32_t *ends,

@@ -86,6 +86,7 @@ pub fn of_recording(dice: &mut Dice, words: &[u32], readings: &[Vec<u8>]) -> Vec
 /// Words that weighing turns away, with any buffers.
 fn turned_away(dice: &mut Dice, recording: &Input, tries: &mut Vec<Try>) {
     for operation in [
+        Operation::List,
         Operation::ListRests,
         Operation::FixedTest,
         Operation::ReadingTest,
@@ -111,6 +112,7 @@ fn weighed(dice: &mut Dice, recording: &Input, readings: &[Vec<u8>], tries: &mut
     let mut judge = Judge::new(&recording.words, &limits);
     let outcome = judge.outcome();
     let course = Course::new(&recording.words, &limits);
+    list(dice, recording, course.long_rests.len(), tries);
     list_rests(dice, recording, course.long_rests.len(), tries);
     fixed_tests(dice, recording, course.total as u32, &outcome, tries);
     let first = match &outcome {
@@ -132,6 +134,18 @@ fn weighed(dice: &mut Dice, recording: &Input, readings: &[Vec<u8>], tries: &mut
     }
     verdicts(dice, recording, first.len(), tries);
     texts(dice, recording, tries);
+}
+
+fn list(dice: &mut Dice, recording: &Input, count: usize, tries: &mut Vec<Try>) {
+    for variant in ["just fits", ROOMS[dice.between(1, 3) as usize]] {
+        let records = room(dice, variant, count);
+        let input = Input {
+            lent_words: lent(dice, records),
+            lent_ends: lent(dice, records),
+            ..recording.clone()
+        };
+        tries.push(attempt(Operation::List, variant, input));
+    }
 }
 
 fn list_rests(dice: &mut Dice, recording: &Input, count: usize, tries: &mut Vec<Try>) {

@@ -9,6 +9,7 @@ use second::Refusal;
 #[derive(Clone, Copy, Debug, PartialEq, Eq)]
 pub enum Operation {
     Weigh,
+    List,
     ListRests,
     FixedTest,
     ReadingTest,
@@ -20,8 +21,9 @@ pub enum Operation {
 }
 
 impl Operation {
-    pub const ALL: [Operation; 9] = [
+    pub const ALL: [Operation; 10] = [
         Operation::Weigh,
+        Operation::List,
         Operation::ListRests,
         Operation::FixedTest,
         Operation::ReadingTest,
@@ -35,7 +37,8 @@ impl Operation {
     pub fn name(self) -> &'static str {
         match self {
             Operation::Weigh => "weighing",
-            Operation::ListRests => "listing long rests",
+            Operation::List => "listing long rests",
+            Operation::ListRests => "listing into two slices",
             Operation::FixedTest => "fixed test",
             Operation::ReadingTest => "reading test",
             Operation::Entry => "entry",
@@ -50,7 +53,8 @@ impl Operation {
     pub fn short_name(self) -> &'static str {
         match self {
             Operation::Weigh => "weigh",
-            Operation::ListRests => "list",
+            Operation::List => "list",
+            Operation::ListRests => "slices",
             Operation::FixedTest => "fixed",
             Operation::ReadingTest => "reading",
             Operation::Entry => "entry",
@@ -65,7 +69,7 @@ impl Operation {
     pub fn refusals(self) -> &'static [u8] {
         match self {
             Operation::Weigh => &[1, 2],
-            Operation::ListRests => &[1, 2, 3],
+            Operation::List | Operation::ListRests => &[1, 2, 3],
             Operation::FixedTest => &[1, 2, 5],
             Operation::ReadingTest => &[1, 2, 6],
             Operation::Entry | Operation::EntryRefusal => &[6, 7],
@@ -86,7 +90,8 @@ pub struct Input {
     pub number: usize,
     /// The lent buffer of bytes: a reading or a text.
     pub lent_bytes: Vec<u8>,
-    /// The lent buffers of numbers: the words of a text, or starts and ends.
+    /// The lent buffers of numbers: the words of a text, or starts and ends, also
+    /// those of the records of a list.
     pub lent_words: Vec<u32>,
     pub lent_ends: Vec<u32>,
 }
@@ -117,6 +122,7 @@ pub fn desk(operation: Operation, input: &Input) -> Answer {
                 .map(u64::from)
                 .to_vec()
         }),
+        Operation::List => desk_list(words, &mut after.lent_words, &mut after.lent_ends).map(one),
         Operation::ListRests => {
             hours_desk::list_rests(words, &mut after.lent_words, &mut after.lent_ends).map(one)
         }
@@ -152,7 +158,9 @@ pub fn second(operation: Operation, input: &Input) -> Answer {
                 measure.long_rests as u64,
             ]
         }),
-        Operation::ListRests => second_list(words, &mut after.lent_words, &mut after.lent_ends),
+        Operation::List | Operation::ListRests => {
+            second_list(words, &mut after.lent_words, &mut after.lent_ends)
+        }
         Operation::FixedTest => second::fixed::test(words, number).map(one),
         Operation::ReadingTest => second::reading::test(words, bytes).map(one),
         Operation::Entry => second_entry(bytes, number),
@@ -174,6 +182,23 @@ pub fn verdict_values(verdict: Verdict) -> Vec<u64> {
         Verdict::Pass { written } => vec![PASS, written as u64],
         Verdict::Breach { minute, article } => vec![BREACH, minute as u64, article.into()],
     }
+}
+
+/// The records' starts and ends go to a list, and come back whatever the answer.
+fn desk_list(
+    words: &[u32],
+    starts: &mut [u32],
+    ends: &mut [u32],
+) -> Result<usize, hours_desk::Refusal> {
+    let mut list: Vec<hours_desk::Span> = (starts.iter().zip(ends.iter()))
+        .map(|(&start, &end)| hours_desk::Span { start, end })
+        .collect();
+    let told = hours_desk::list_long_rests(words, &mut list);
+    for (index, span) in list.iter().enumerate() {
+        starts[index] = span.start;
+        ends[index] = span.end;
+    }
+    told
 }
 
 /// The second program lists into one slice of records, as long as the shorter

@@ -6,20 +6,20 @@ use crate::operation::{Answer, Operation};
 
 /// Inputs by operation, in rows by kind, in the order in which they came.
 #[derive(Default)]
-struct Table(Vec<(&'static str, [usize; 9])>);
+struct Table(Vec<(&'static str, [usize; 10])>);
 
 impl Table {
     fn count(&mut self, row: &'static str, operation: Operation) {
         let at = self.0.iter().position(|known| known.0 == row);
         let at = at.unwrap_or_else(|| {
-            self.0.push((row, [0; 9]));
+            self.0.push((row, [0; 10]));
             self.0.len() - 1
         });
         self.0[at].1[operation as usize] += 1;
     }
 
-    fn sums(&self) -> [usize; 9] {
-        let mut sums = [0; 9];
+    fn sums(&self) -> [usize; 10] {
+        let mut sums = [0; 10];
         for (_, counts) in &self.0 {
             for (sum, count) in sums.iter_mut().zip(counts) {
                 *sum += count;

@@ -52,6 +52,7 @@ int main(void)
     const uint32_t long_day[] = {WORD(901, WORK)};
     const uint32_t no_minutes[] = {WORD(0, AVAILABILITY)};
     const uint8_t reading[] = {0, 0, 0, 1, 0, 0};
+    struct desk_span list[3] = {{7, 8}, {7, 8}, {7, 8}};
     uint32_t starts[3] = {7, 7, 7};
     uint32_t ends[3] = {7, 7, 7};
     uint32_t read[8] = {7, 7, 7, 7, 7, 7, 7, 7};
@@ -62,10 +63,15 @@ int main(void)
     print_weighing(words, 0);
     print_weighing(no_minutes, 1);
 
-    print_value("listing long rests", desk_list_rests(words, 5, starts, 3, ends, 3));
+    print_value("listing long rests", desk_list(words, 5, list, 3));
+    for (size_t i = 0; i < 3; i++)
+        printf("  %" PRIu32 " to %" PRIu32 "\n", list[i].start, list[i].end);
+    print_value("listing long rests", desk_list(words, 5, list, 1));
+
+    print_value("listing into two slices", desk_list_rests(words, 5, starts, 3, ends, 3));
     for (size_t i = 0; i < 3; i++)
         printf("  %" PRIu32 " to %" PRIu32 "\n", starts[i], ends[i]);
-    print_value("listing long rests", desk_list_rests(words, 5, starts, 3, ends, 1));
+    print_value("listing into two slices", desk_list_rests(words, 5, starts, 3, ends, 1));
 
     print_value("fixed test", desk_fixed_test(words, 5, 3661));
     print_value("fixed test", desk_fixed_test(long_day, 1, 901));

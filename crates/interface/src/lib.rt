@@ -1,6 +1,7 @@
-// The operations for callers in C: numbers and slices of numbers in, one number out.
+// The operations for callers in C: numbers and slices of numbers or of records in, one number out.
 use fixed::Tested;
 use recording::Filling;
+use recording::Span;
 use recording::Weighing;
 use verdict::Outcome;
 ghost use mathlib.Core.Path.{_≡_};
@@ -12,7 +13,7 @@ ghost use Rattle.recording.specs.Scan.{eachOf};
 ghost use Rattle.recording.specs.declared.Span.{Span};
 ghost use Rattle.fixed.specs.Walk.{tested};
 ghost use Rattle.rules.specs.Operations.{fixedTested, readingTested, entryAt, entryRefusal, judged, outcome, readingAfter};
-ghost use Rattle.text.specs.Reading.{textRead};
+ghost use Rattle.lines.specs.Reading.{textRead};
 ghost use Rattle.text.specs.Writing.{textWritten};
 ghost use Rattle.verdict.specs.Verdicts.{outcomeBy};
 ghost use Rattle.interface.specs.Codes.{codeOf, itself, measureValue, outcomeValue, entryCode};
@@ -78,6 +79,15 @@ pub extern "C" fn desk_list_rests(words: &[u32], starts: &mut [u32], ends: &mut 
     ensures { λ r. ⌜ now (ends .exit) ≡ filled (eachOf (λ (s : Span). s .end) (listed (now (words .entry)) (min (length (now (starts .entry))) (length (now (ends .entry)))))) (now (ends .entry)) ⌝ }
 {
     count_code(recording::list_rests(words, starts, ends))
+}
+
+// Listing long rests into a list of records: a refusal's number; or ANSWER and their count.
+#[no_mangle]
+pub extern "C" fn desk_list(words: &[u32], list: &mut [Span]) -> u64
+    ensures { λ r. ⌜ r ≡ codeOf itself (counted (listed (now (words .entry)) (length (now (list .entry))))) ⌝ }
+    ensures { λ r. ⌜ now (list .exit) ≡ filled (listed (now (words .entry)) (length (now (list .entry)))) (now (list .entry)) ⌝ }
+{
+    count_code(listing::list_long_rests(words, list))
 }
 
 // Testing fixed rules for a stretch of m: a refusal's number; or ANSWER and the smallest broken rule, or 0.

@@ -5,9 +5,20 @@
 //! it is empty, and nothing else refers to a `&mut` one. No contract there has
 //! a `requires`, so every call is fine.
 
+use crate::Span;
+
 mod library {
+    use crate::Span;
+
     extern "C" {
         pub fn desk_weigh(words: *const u32, words_count: usize) -> u64;
+
+        pub fn desk_list(
+            words: *const u32,
+            words_count: usize,
+            list: *mut Span,
+            list_count: usize,
+        ) -> u64;
 
         pub fn desk_list_rests(
             words: *const u32,
@@ -56,6 +67,10 @@ mod library {
 
 pub fn weigh(words: &[u32]) -> u64 {
     unsafe { library::desk_weigh(words.as_ptr(), words.len()) }
+}
+
+pub fn list_long_rests(words: &[u32], list: &mut [Span]) -> u64 {
+    unsafe { library::desk_list(words.as_ptr(), words.len(), list.as_mut_ptr(), list.len()) }
 }
 
 pub fn list_rests(words: &[u32], starts: &mut [u32], ends: &mut [u32]) -> u64 {

@@ -88,6 +88,15 @@ pub struct Measure {
     pub long_rests: u32,
 }
 
+/// A record of a list: the minutes from `start` up to `end`, which is not
+/// included.
+#[derive(Clone, Copy, Debug, Default, PartialEq, Eq)]
+#[repr(C)]
+pub struct Span {
+    pub start: u32,
+    pub end: u32,
+}
+
 /// What the verdict answers.
 #[derive(Clone, Copy, Debug, PartialEq, Eq)]
 pub enum Verdict {
@@ -131,6 +140,11 @@ pub fn weigh(words: &[u32]) -> Result<Measure, Refusal> {
         judged_end: (value / MINUTES % MINUTES) as u32,
         long_rests: (value / MINUTES / MINUTES) as u32,
     })
+}
+
+/// The long rests, one record each, and their count.
+pub fn list_long_rests(words: &[u32], list: &mut [Span]) -> Result<usize, Refusal> {
+    count(calls::list_long_rests(words, list))
 }
 
 /// The starts and the ends of the long rests, and their count.

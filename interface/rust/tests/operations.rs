@@ -1,8 +1,8 @@
 //! Every operation on small inputs: answers, refusals, and what a buffer holds.
 
 use hours_desk::{
-    entry, entry_refusal, fixed_test, list_rests, read_text, reading_test, verdict, weigh,
-    write_text, Measure, Refusal, Verdict,
+    entry, entry_refusal, fixed_test, list_long_rests, list_rests, read_text, reading_test,
+    verdict, weigh, write_text, Measure, Refusal, Span, Verdict,
 };
 
 /// 240 of driving, 660 of rest, 60 of work, 2,700 of rest, a minute of work.
@@ -28,6 +28,27 @@ fn weighing() {
 
 #[test]
 fn listing() {
+    let record = |start, end| Span { start, end };
+    let mut list = [record(7, 8); 3];
+    assert_eq!(list_long_rests(&WORDS, &mut list), Ok(2));
+    assert_eq!(list, [record(240, 900), record(960, 3_660), record(7, 8)]);
+    let mut list = [record(7, 8); 2];
+    assert_eq!(list_long_rests(&WORDS, &mut list), Ok(2));
+    assert_eq!(list, [record(240, 900), record(960, 3_660)]);
+    let mut list = [record(7, 8); 1];
+    let refused = list_long_rests(&WORDS, &mut list);
+    assert_eq!(refused, Err(Refusal::ListTooShort));
+    assert_eq!(list, [record(7, 8)]);
+    let refused = list_long_rests(&NO_MINUTES, &mut list);
+    assert_eq!(refused, Err(Refusal::NoMinutes));
+    let refused = list_long_rests(&TOO_LONG, &mut list);
+    assert_eq!(refused, Err(Refusal::TotalPassed));
+    assert_eq!(list, [record(7, 8)]);
+    assert_eq!(list_long_rests(&[], &mut []), Ok(0));
+}
+
+#[test]
+fn listing_into_two_slices() {
     let (mut starts, mut ends) = ([7; 3], [8; 2]);
     assert_eq!(list_rests(&WORDS, &mut starts, &mut ends), Ok(2));
     assert_eq!((starts, ends), ([240, 960, 7], [900, 3_660]));
