@@ -3,27 +3,30 @@ use mathlib.Core.Path.{_≡_, refl, sym, ap, subst, _∙_}
 use mathlib.Core.Bool.{Bool, true, false, not}
 use mathlib.Core.List.{List, [], _∷_, _++_}
 use mathlib.Core.Option.{Option, none, some}
-use Prim.Native.Nat.{ℕ, zero, suc, _+_, _*_, _≤_, _<_}
+use Prim.Native.Nat.{ℕ, zero, suc, _*_, _≤_, _<_}
 use native.Mathlib.Omega.{arith}
-use lib.Dec.{ltb}
 use lib.ListN.{length, take, drop}
 use lib.Seq.{length-take-le, take-length}
 use borrow.Author.Tests.{lt-ltb, le-ltb}
-use Rattle.recording.specs.Answers.{Answer, refused, answered, andThen, refuseIf, filled}
+use Rattle.recording.specs.Answers.{Answer, refused, answered, andThen}
 use Rattle.recording.specs.Words.{minutesOf}
 use Rattle.recording.specs.Rests.{longRests, longRestsAtMost}
 use Rattle.recording.specs.Operations.{totalAtMost, measureOf, measured}
 use Rattle.recording.specs.declared.Measure.{Measure}
 use Rattle.recording.proofs.TestLaws.{clash}
 use Rattle.recording.proofs.LongRests.{few-rests}
-use Rattle.recording.proofs.Listing.{Measured, measured-is}
+use Rattle.recording.proofs.Listing.{measured-is}
 use Rattle.rules.specs.Reading.{entryBytes, readingSize}
 use Rattle.rules.specs.Order.{Bytes}
 use Rattle.rules.specs.Verdict.{prefix, isNone, firstLawful, Verdict, pass, breach, verdict}
-use Rattle.rules.specs.Operations.{judged, Outcome, passed, breached, outcomeOf, outcome, readingAfter}
+use Rattle.rules.specs.Operations.{judged, Outcome, passed, breached, outcome, readingAfter}
 use Rattle.rules.proofs.Breach.{first-sound, verdict-pass, some-first}
-use Rattle.verdict.specs.Verdicts.{HasReading, Finding, unbroken, broken, findingOf, found}
-use Rattle.verdict.proofs.Lawfulness.{to-has}
+use Rattle.fixed.specs.Account.{accountFrom, opening}
+use Rattle.completion.specs.Completable.{Course, Lies}
+use Rattle.first_reading.specs.First.{Least, restsOnly}
+use Rattle.verdict.specs.Verdicts.{Cut, ByRule, HasReading, Finding, unbroken, broken, findingOf, found, AllRests}
+use Rattle.verdict.specs.declared.Rests.{Rests}
+use Rattle.verdict.proofs.Lawfulness.{to-has, starts-size, ends-size, rests-lie, rests-few, judged-low, lawful-there, all-rests, first-there, reading-size, first-least-there}
 
 -- a first lawful reading, where the answer says that there is one
 first-is : (ms : List ℕ) → true ≡ not (isNone (firstLawful ms)) → (f : List ℕ) × (firstLawful ms ≡ some f)
@@ -33,7 +36,7 @@ first-is ms e = at (firstLawful ms) refl e
     at none q e = clash true refl e
     at (some f) q e = (f, q)
 
-pub none-is : (ms : List ℕ) → false ≡ not (isNone (firstLawful ms)) → HasReading ms → ⊥
+none-is : (ms : List ℕ) → false ≡ not (isNone (firstLawful ms)) → HasReading ms → ⊥
 none-is ms e h = clash true refl (sym (e ∙ ap not (some-first ms (to-has h))))
 
 bytes-length : (n : ℕ) (r : List ℕ) → Bytes n r → length r ≡ n
@@ -70,7 +73,7 @@ module _ (ws : List ℕ) where
     pub within : length (minutesOf ws) ≤ totalAtMost
     within = measured-is ws q .within
 
-    pub total-is : k .total ≡ length (minutesOf ws)
+    total-is : k .total ≡ length (minutesOf ws)
     total-is = ap (λ (x : Measure). x .total) is
 
     count-is : k .count ≡ length (longRests (minutesOf ws))
@@ -82,9 +85,34 @@ module _ (ws : List ℕ) where
     whole : prefix (k .total) (minutesOf ws) ≡ minutesOf ws
     whole = ap (λ (n : ℕ). take n (minutesOf ws)) total-is ∙ take-length (minutesOf ws)
 
-    -- the answer on the stretch of the total is that on the whole
-    pub answer-whole : {r : Bool} → r ≡ not (isNone (firstLawful (prefix (k .total) (minutesOf ws)))) → r ≡ not (isNone (firstLawful (minutesOf ws)))
-    answer-whole e = e ∙ ap (λ (l : List ℕ). not (isNone (firstLawful l))) whole
+    -- the long rests of the whole, as one walk leaves them in two slices
+    module _ {r : Rests} {starts ends : List ℕ} (c : Cut ws (k .total) r starts ends) where
+      abbrev lentRests : Course
+      lentRests = restsOnly (take (r .count) starts) (take (r .count) ends) (r .judged)
+
+      pub starts-there : r .count ≡ length (take (r .count) starts)
+      starts-there = starts-size ws (k .total) within c
+
+      pub ends-there : r .count ≡ length (take (r .count) ends)
+      ends-there = ends-size ws (k .total) within c
+
+      pub rests-there : Lies lentRests × (length (take (r .count) starts) ≤ longRestsAtMost) × (r .judged ≤ totalAtMost)
+      rests-there = (rests-lie ws (k .total) within c, rests-few ws (k .total) within c, judged-low ws (k .total) within c)
+
+      pub whole-lawful : {t : Bool} → ByRule lentRests (r .rule) t → t ≡ not (isNone (firstLawful (minutesOf ws)))
+      whole-lawful a = lawful-there ws (k .total) within c a ∙ ap (λ (l : List ℕ). not (isNone (firstLawful l))) whole
+
+      pub breach-there : {t : Bool} → ByRule lentRests (r .rule) t → t ≡ false
+          → (length (minutesOf ws) ≤ totalAtMost) × AllRests (minutesOf ws) (take (r .count) starts) (take (r .count) ends) × (k .total ≡ length (minutesOf ws))
+          × (r .first ≡ accountFrom opening (minutesOf ws) .first) × (HasReading (minutesOf ws) → ⊥)
+      breach-there a f =
+          (within, all-rests ws (k .total) within c total-is, total-is, first-there ws (k .total) within c total-is, none-is _ (sym f ∙ whole-lawful a))
+
+      pub size-there : {n : ℕ} → n ≡ readingSize (minutesOf ws) → n ≡ entryBytes * length (take (r .count) starts)
+      size-there = reading-size ws (k .total) within c total-is
+
+      pub least-there : {f : List ℕ} → firstLawful (minutesOf ws) ≡ some f → Least lentRests f
+      least-there = first-least-there ws (k .total) within c total-is
 
     found-is : found ws ≡ answered (findingOf (verdict (minutesOf ws)))
     found-is = ap (λ (a : Answer Measure). andThen a (λ _. answered (findingOf (verdict (minutesOf ws))))) q

@@ -1,73 +1,71 @@
--- The least stretch without a lawful reading, found by halving; and the breach that follows. Assumes nothing.
+-- The day of the breach, found by halving; and the breach that follows from its minute. Assumes nothing.
 use mathlib.Core.Path.{_≡_, refl, sym, ap, subst, _∙_}
 use mathlib.Core.Logic.{_⊎_, inl, inr}
 use mathlib.Core.Bool.{Bool, true, false}
-use mathlib.Core.List.{List}
-use Prim.Native.Nat.{ℕ, zero, suc, _+_, _-_, _*_, _/_, _≤_, _<_}
+use mathlib.Core.List.{List, []}
+use Prim.Native.Nat.{ℕ, zero, suc, _+_, _-_, _≤_, _<_, zero-le}
 use native.Mathlib.Omega.{arith}
-use lib.ListN.{length, take}
+use lib.ListN.{length}
 use lib.Seq.{take-length}
 use Rattle.rules.specs.Fixed.{fixedTest}
-use Rattle.rules.specs.Verdict.{prefix, firstLawful, breachMinute, article, Verdict, breach, verdict}
-use Rattle.rules.proofs.Breach.{HasLawful, prefix-lawful, Breach, breach-is, breach-after, only-breach, is-none}
+use Rattle.rules.specs.Verdict.{prefix, breachMinute, article, verdict}
+use Rattle.rules.specs.Opened.{opened}
+use Rattle.rules.proofs.Breach.{HasLawful, prefix-lawful, Breach, breach-is, breach-after, is-none}
 use Rattle.fixed.specs.Account.{accountFrom, opening}
 use Rattle.fixed.specs.declared.Break.{Break}
 use Rattle.fixed.proofs.AccountRight.{First, unbroken, broken as broken-at, account-right, first-least}
 use Rattle.recording.proofs.TestLaws.{less-or-not}
-use Rattle.verdict.specs.Verdicts.{HasReading, Readable, Bound, Finding, broken, findingOf}
-use Rattle.verdict.proofs.Lawfulness.{fixed-first, to-has, from-has}
+use Rattle.reading.specs.Items.{spansFrom}
+use Rattle.completion.specs.States.{advance}
+use Rattle.completion.specs.Runs.{Runs}
+use Rattle.first_reading.specs.First.{restsOnly}
+use Rattle.verdict.specs.Verdicts.{HasKept, HasReading, Bound, broken, findingOf, firstRests, dayStart, DayReadable, LastDay}
+use Rattle.verdict.proofs.Lawfulness.{fixed-first, from-has}
 
--- between a stretch with a lawful reading and one without
-pub record Halving (ms : List ℕ) (low high : ℕ) : Type 0 where
+-- no rests, at the beginning: the empty reading keeps the rules
+kept-nothing : HasKept (restsOnly [] [] 0)
+unfolding opened Runs advance spansFrom
+kept-nothing = ([], tt, record { six = refl; seven = refl; eight = refl; runs = (zero-le, tt) })
+
+-- between a number of long rests after which there is a reading that keeps rules 6 to 11 and one after which there is none, below the bound
+pub record Halving (starts ends : List ℕ) (bound low high : ℕ) : Type 0 where
   pub order : low < high
-  pub within : high ≤ length ms
-  pub fixed : (m : ℕ) → m < high → fixedTest (prefix m ms) ≡ 0
-  pub with-one : HasReading (prefix low ms)
-  pub without : HasReading (prefix high ms) → ⊥
+  pub within : high ≤ length starts + 1
+  pub below : dayStart ends low < bound
+  pub kept : HasKept (firstRests starts ends low (dayStart ends low))
+  pub none : high ≤ length starts → dayStart ends high < bound → HasKept (firstRests starts ends high (dayStart ends high)) → ⊥
 
+pub start-halving : (starts ends : List ℕ) {bound high : ℕ} → 0 < bound → high ≡ length starts + 1 → Halving starts ends bound 0 high
+start-halving starts ends h e = record { order = omega arith; within = omega arith; below = h; kept = kept-nothing; none = λ l. absurd (omega arith) }
+
+module _ {starts ends : List ℕ} {bound low high middle : ℕ} (h : Halving starts ends bound low high) {r : Bool} (a : DayReadable starts ends bound middle r) (above : low < middle)
+    (below : middle < high) where
+  pub halve-up : r ≡ true → Halving starts ends bound middle high
+  halve-up t = record { order = below; within = h .within; below = a .yes t .0; kept = a .yes t .1; none = h .none }
+
+  pub halve-down : r ≡ false → Halving starts ends bound low middle
+  halve-down t = record { order = above; within = omega (arith, h .within); below = h .below; kept = h .kept; none = λ l. a .no t }
+
+pub halved : {starts ends : List ℕ} {bound low high : ℕ} → Halving starts ends bound low high → high - low ≤ 1 → LastDay starts ends bound low
+halved {starts} {ends} {bound} {low} {high} h l =
+    let e : high ≡ suc low = omega (arith, h .order) in
+    record {
+      within = omega (arith, h .within, h .order);
+      below = h .below;
+      kept = h .kept;
+      next = subst (λ (n : ℕ). n ≤ length starts → dayStart ends n < bound → HasKept (firstRests starts ends n (dayStart ends n)) → ⊥) e (h .none);
+    }
+
+-- a stretch without a lawful reading is not the empty one
 module _ (ms : List ℕ) where
-  pub no-whole : (m : ℕ) → (HasReading (prefix m ms) → ⊥) → HasLawful ms → ⊥
+  no-whole : (m : ℕ) → (HasReading (prefix m ms) → ⊥) → HasLawful ms → ⊥
   no-whole m n h = n (from-has (prefix-lawful m ms h))
 
-  -- the empty stretch has a lawful reading
-  empty-has : (HasLawful ms → ⊥) → HasReading (prefix 0 ms)
-  empty-has n =
-      let b = breach-is ms n in
-      let p = breach-after ms n in
-      from-has (b .shorter 0 (omega (arith, p .1)))
-
-  above-none : (m : ℕ) → (HasReading (prefix m ms) → ⊥) → 0 < m
-  above-none zero n = absurd (n (empty-has (no-whole 0 n)))
-  above-none (suc m) n = omega arith
-
-  pub start-halving : {bound : ℕ} → Bound ms bound → Halving ms 0 bound
-  start-halving {bound} b =
-      record {
-        order = above-none bound (b .broken);
-        within = b .within;
-        fixed = b .fixed;
-        with-one = empty-has (no-whole bound (b .broken));
-        without = b .broken;
-      }
-
-module _ {ms : List ℕ} {low high middle : ℕ} (h : Halving ms low high) {r : Bool} (a : Readable (prefix middle ms) r) (above : low < middle) (below : middle < high) where
-  pub halve-up : r ≡ true → Halving ms middle high
-  halve-up t = record { order = below; within = h .within; fixed = h .fixed; with-one = a .yes t (h .fixed middle below); without = h .without }
-
-  pub halve-down : r ≡ false → Halving ms low middle
-  halve-down t = record {
-    order = above;
-    within = omega (arith, h .within);
-    fixed = λ m l. h .fixed m (omega arith);
-    with-one = h .with-one;
-    without = a .no t;
-  }
-
-pub halved : {ms : List ℕ} {low high : ℕ} → Halving ms low high → high - low ≤ 1 → high ≡ breachMinute ms
-halved {ms} {low} {high} h l =
-    let e : suc low ≡ high = omega (arith, h .order) in
-    let w : suc low ≤ length ms = omega (arith, h .within) in
-    sym (only-breach ms low w (to-has (h .with-one)) (λ k. h .without (subst (λ (m : ℕ). HasReading (prefix m ms)) e (from-has k))) ∙ e)
+  pub bound-above : (bound : ℕ) → Bound ms bound → 0 < bound
+  bound-above zero b =
+      let n = no-whole 0 (b .broken) in
+      absurd (b .broken (from-has (breach-is ms n .shorter 0 (omega (arith, breach-after ms n .1)))))
+  bound-above (suc bound) b = omega arith
 
 -- ---- the breach
 module _ (ms : List ℕ) (n : HasReading ms → ⊥) where

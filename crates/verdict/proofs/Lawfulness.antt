@@ -2,18 +2,16 @@
 use mathlib.Core.Path.{_≡_, refl, sym, ap, subst, _∙_}
 use mathlib.Core.Logic.{_⊎_, inl, inr}
 use mathlib.Core.Bool.{Bool, true, false, not}
-use mathlib.Core.List.{List, [], _∷_, map}
-use mathlib.Core.Option.{Option, none, some}
+use mathlib.Core.List.{List, [], map}
+use mathlib.Core.Option.{Option, some}
 use Prim.Native.Nat.{ℕ, zero, suc, _+_, _*_, _≤_, _<_, min, zero-le}
-use native.Mathlib.Nat.{le-refl, le-trans}
+use native.Mathlib.Nat.{le-refl}
 use native.Mathlib.Omega.{arith}
-use lib.Dec.{eqb}
 use lib.ListN.{length, getD, take, replicate, length-map, length-replicate, getD-replicate, List·getD-eq-default, length-take}
 use lib.Seq.{length-take-le, getD-take, take-length}
 use borrow.Author.Tests.{eqb-true, eq-eqb}
-use Rattle.recording.specs.Tests.{pick}
 use Rattle.recording.specs.Words.{minutesOf}
-use Rattle.recording.specs.Rests.{longRestMinutes, lengthOf, judgedEnd, longRests, longRestsAtMost}
+use Rattle.recording.specs.Rests.{judgedEnd, longRests, longRestsAtMost}
 use Rattle.recording.specs.Operations.{totalAtMost}
 use Rattle.recording.specs.declared.Span.{Span}
 use Rattle.recording.proofs.TestLaws.{less-or-not}
@@ -21,23 +19,24 @@ use Rattle.recording.proofs.Walks.{judged-within}
 use Rattle.recording.proofs.LongRests.{Ordered, none as no-rest, next, rests-ordered, few-rests}
 use Rattle.rules.specs.Broken.{ifNone}
 use Rattle.rules.specs.Fixed.{fixedTest}
-use Rattle.rules.specs.Reading.{Entry, entryBytes, readingSize, compensationOf, entriesFrom, entries}
-use Rattle.rules.specs.ReadingRules.{laterTest, readingTest}
-use Rattle.rules.specs.Order.{byteValues, Bytes, NotAfter}
+use Rattle.rules.specs.Reading.{entryBytes, readingSize, compensationOf, entries}
+use Rattle.rules.specs.ReadingRules.{readingTest}
+use Rattle.rules.specs.Order.{Bytes}
 use Rattle.rules.specs.Verdict.{lawful, prefix, isNone, firstLawful}
-use Rattle.rules.proofs.RestWeekLaws.{insideRest, reading-by-rests}
-use Rattle.rules.proofs.Breach.{Lawful, HasLawful, first-sound, first-least, is-none, some-first}
+use Rattle.rules.proofs.RestWeekLaws.{reading-by-rests}
+use Rattle.rules.proofs.Breach.{HasLawful, first-sound, first-least, is-none, some-first}
 use Rattle.reading.specs.Items.{spansFrom, spansIn, restWeeks, Zeros}
 use Rattle.reading.proofs.LaterLaws.{nowhere, map-at, spans-are, if-zero}
 use Rattle.completion.specs.States.{startState}
 use Rattle.completion.specs.Runs.{Kept}
-use Rattle.completion.specs.Completable.{Course, at, count, spansOf, restWeek, Completable, Lies}
+use Rattle.completion.specs.Completable.{Course, at, count, restWeek, Completable, Lies}
 use Rattle.completion.proofs.Carriers.{extend, extended}
 use Rattle.completion.proofs.RunLaws.{later-kept, kept-later}
 use Rattle.search.specs.Search.{Found, courseOf, Sound, Lent}
 use Rattle.hopeless.specs.Table.{levelWords}
 use Rattle.first_reading.specs.First.{KeptBy, Least, restsOnly}
-use Rattle.verdict.specs.Verdicts.{Cut, Some, HasReading, Readable}
+use Rattle.fixed.specs.Account.{accountFrom, opening}
+use Rattle.verdict.specs.Verdicts.{Cut, HasKept, Some, ByRule, HasReading, Readable, AllRests}
 use Rattle.verdict.specs.declared.Rests.{Rests}
 
 -- ---- the front of an array of zeros
@@ -116,18 +115,18 @@ module _ (rs : List Span) where
       (λ j h. ap (λ (n : ℕ). getD starts n 0) (let e : 0 + j ≡ j = omega arith in e) ∙ map-at (λ r. r .start) rs j nowhere h)
       (λ j h. ap (λ (n : ℕ). getD ends n 0) (let e : 0 + j ≡ j = omega arith in e) ∙ map-at (λ r. r .end) rs j nowhere h)
 
-record Neighbours (to from : ℕ) (rs : List Span) (i : ℕ) : Type 0 where
-  from-on : from ≤ getD rs i nowhere .start
-  proper : getD rs i nowhere .start < getD rs i nowhere .end
-  over : getD rs i nowhere .end ≤ to
-  before-next : suc i < length rs → getD rs i nowhere .end ≤ getD rs (suc i) nowhere .start
+pub record Neighbours (to from : ℕ) (rs : List Span) (i : ℕ) : Type 0 where
+  pub from-on : from ≤ getD rs i nowhere .start
+  pub proper : getD rs i nowhere .start < getD rs i nowhere .end
+  pub over : getD rs i nowhere .end < to
+  pub before-next : suc i < length rs → getD rs i nowhere .end < getD rs (suc i) nowhere .start
 
-neighbours : {to from : ℕ} {rs : List Span} → Ordered to from rs → (i : ℕ) → i < length rs → Neighbours to from rs i
+pub neighbours : {to from : ℕ} {rs : List Span} → Ordered to from rs → (i : ℕ) → i < length rs → Neighbours to from rs i
 neighbours no-rest i h = absurd (omega arith)
 neighbours {to} {from} (next {r = r} {rs = rs} l n e o) zero h =
     record { from-on = l; proper = omega arith; over = omega arith; before-next = λ g. after (neighbours o 0 (omega arith)) }
   where
-    after : Neighbours to (suc (r .end)) rs 0 → r .end ≤ getD rs 0 nowhere .start
+    after : Neighbours to (suc (r .end)) rs 0 → r .end < getD rs 0 nowhere .start
     after q = omega (arith, q .from-on)
 neighbours {to} {from} (next {r = r} {rs = rs} l n e o) (suc i) h =
     let q = neighbours o i (omega arith) in
@@ -138,8 +137,8 @@ lies-in ms =
     record {
       ends-too = length-map (longRests ms) (λ (r : Span). r .end) ∙ sym (size (longRests ms));
       proper = λ i h. rw (at-start i (there i h), at-end i (there i h)) (neighbours (rests-ordered ms) i (there i h) .proper);
-      ordered = λ i h. rw (at-end i (before i h), at-start (suc i) (there (suc i) h)) (neighbours (rests-ordered ms) i (before i h) .before-next (there (suc i) h));
-      judged = λ i h. rw (at-end i (there i h)) (neighbours (rests-ordered ms) i (there i h) .over);
+      ordered = λ i h. rw (at-end i (before i h), at-start (suc i) (there (suc i) h)) (omega (arith, neighbours (rests-ordered ms) i (before i h) .before-next (there (suc i) h)));
+      judged = λ i h. rw (at-end i (there i h)) (omega (arith, neighbours (rests-ordered ms) i (there i h) .over));
     }
   where
     there : (i : ℕ) → i < count (restsIn ms) → i < length (longRests ms)
@@ -203,12 +202,14 @@ module _ (ms : List ℕ) where
         first = λ t b k. first-least ms e (record { bytes = as-few t b; keeps = kept-lawful (fixed-first f (l .keeps)) t k });
       }
 
+  pub has-kept : HasReading ms → HasKept (restsIn ms)
+  has-kept h = (h .0, as-many (h .0) (h .1), lawful-kept (h .0) (h .2))
+
+  pub kept-has : fixedTest ms ≡ 0 → HasKept (restsIn ms) → HasReading ms
+  kept-has f h = (h .0, as-few (h .0) (h .1), kept-lawful f (h .0) (h .2))
+
   pub readable : {r : Bool} → Some (restsIn ms) r → Readable ms r
-  readable a =
-      record {
-        yes = λ t f. let i = a .yes t in (i .0, as-few (i .0) (i .1), kept-lawful f (i .0) (i .2));
-        no = λ t h. a .no t (h .0) (lawful-kept (h .0) (h .2));
-      }
+  readable a = record { yes = λ t f. kept-has f (a .yes t); no = λ t h. a .no t (h .0) (lawful-kept (h .0) (h .2)) }
 
 -- ---- the answer whether there is a lawful reading
 pub to-has : {ms : List ℕ} → HasReading ms → HasLawful ms
@@ -259,6 +260,14 @@ module _ (ws : List ℕ) (m : ℕ) (within : length (minutesOf ws) ≤ totalAtMo
   pub stretch-readable : {t : Bool} → Some lentRests t → Readable stretch t
   stretch-readable {t} a = readable stretch (subst (λ (c : Course). Some c t) course-is a)
 
+  -- the answer that goes by the fixed rules first
+  pub lawful-there : {t : Bool} → ByRule lentRests (r .rule) t → t ≡ not (isNone (firstLawful stretch))
+  lawful-there {t} a = by-rule (r .rule) refl
+    where
+      by-rule : (n : ℕ) → r .rule ≡ n → t ≡ not (isNone (firstLawful stretch))
+      by-rule zero e = has-it stretch (stretch-readable (a .unfixed e)) (sym (q .fixed) ∙ e)
+      by-rule (suc n) e = a .fixed (λ z. omega arith) ∙ has-none stretch (λ z. let y = q .fixed ∙ z in omega arith)
+
   pub stretch-least : {f : List ℕ} → firstLawful stretch ≡ some f → Least lentRests f
   stretch-least {f} e = subst (λ (c : Course). Least c f) (sym course-is) (least stretch e)
 
@@ -267,6 +276,15 @@ module _ (ws : List ℕ) (m : ℕ) (within : length (minutesOf ws) ≤ totalAtMo
     whole : stretch ≡ minutesOf ws
     whole = ap (λ (n : ℕ). take n (minutesOf ws)) e ∙ take-length (minutesOf ws)
 
+    pub all-rests : AllRests (minutesOf ws) (take (r .count) starts) (take (r .count) ends)
+    all-rests = record {
+      begun = q .begun ∙ ap (λ (l : List ℕ). map (λ (x : Span). x .start) (longRests l)) whole;
+      ended = q .ended ∙ ap (λ (l : List ℕ). map (λ (x : Span). x .end) (longRests l)) whole;
+    }
+
+    pub first-there : r .first ≡ accountFrom opening (minutesOf ws) .first
+    first-there = q .first ∙ ap (λ (l : List ℕ). accountFrom opening l .first) whole
+
     pub reading-size : {n : ℕ} → n ≡ readingSize (minutesOf ws) → n ≡ entryBytes * length (take (r .count) starts)
     unfolding readingSize
     reading-size h =
@@ -274,3 +292,13 @@ module _ (ws : List ℕ) (m : ℕ) (within : length (minutesOf ws) ≤ totalAtMo
 
     pub first-least-there : {f : List ℕ} → firstLawful (minutesOf ws) ≡ some f → Least lentRests f
     first-least-there h = stretch-least (ap firstLawful whole ∙ h)
+
+-- ---- the long rests of the whole, in two lists
+module _ {ms starts ends : List ℕ} (q : AllRests ms starts ends) (within : length ms ≤ totalAtMost) where
+  pub all-lie : Lies (restsOnly starts ends totalAtMost)
+  all-lie =
+      let l : Lies (restsOnly starts ends (judgedEnd ms)) = subst Lies (λ i. restsOnly (sym (q .begun) i) (sym (q .ended) i) (judgedEnd ms)) (lies-in ms) in
+      record { ends-too = l .ends-too; proper = l .proper; ordered = l .ordered; judged = λ i h. omega (arith, l .judged i h, judged-within ms) }
+
+  pub all-few : length starts ≤ longRestsAtMost
+  all-few = omega (arith, ap length (q .begun), size (longRests ms), few-rests ms within)

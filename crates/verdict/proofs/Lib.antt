@@ -1,4 +1,10 @@
+pub mod JudgedEnds
 pub mod Stretches
 pub mod Lawfulness
+pub mod Cuts
+pub mod Least
+pub mod Days
 pub mod Halving
+pub mod Demands
+pub mod Actives
 pub mod Answers

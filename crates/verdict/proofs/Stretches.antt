@@ -1,28 +1,25 @@
 -- The long rests that one walk over a stretch leaves in two slices. Assumes nothing.
-use mathlib.Core.Path.{_≡_, refl, sym, ap, _∙_}
-use mathlib.Core.List.{List, [], _∷_, _++_, map}
-use Prim.Native.Nat.{ℕ, _+_, _≤_, min}
-use native.Mathlib.Nat.{le-trans}
+use mathlib.Core.Path.{_≡_, sym, ap, _∙_}
+use mathlib.Core.List.{List, map}
+use Prim.Native.Nat.{ℕ, _≤_, min}
 use native.Mathlib.Omega.{arith}
-use lib.ListN.{length, take, drop, length-map, length-take}
-use lib.Seq.{sets, sets-eq, take-append-seam, take-length}
+use lib.ListN.{length, take, length-map, length-take}
+use lib.Seq.{sets, sets-eq, take-append-seam}
 use Rattle.recording.specs.Words.{minutesOf}
 use Rattle.recording.specs.Rests.{judgedEnd, longRests, longRestsAtMost}
 use Rattle.recording.specs.Operations.{totalAtMost}
-use Rattle.recording.specs.Scan.{cutAt, origin, placeOf, writtenFrom}
+use Rattle.recording.specs.Scan.{cutAt, origin, writtenFrom}
 use Rattle.recording.specs.declared.Place.{Place}
 use Rattle.recording.specs.declared.Span.{Span}
 use Rattle.recording.proofs.LongRests.{few-rests}
 use Rattle.recording.proofs.ByWord.{cut-at}
 use Rattle.recording.proofs.Scanning.{scan-end, scan-count, scan-written}
 use Rattle.rules.specs.Verdict.{prefix}
-use Rattle.fixed.specs.Account.{accountFrom, opening}
 use Rattle.fixed.specs.Walk.{Surveyed}
 use Rattle.fixed.specs.declared.Account.{Account}
 use Rattle.fixed.specs.declared.Survey.{Survey}
 use Rattle.fixed.proofs.AccountRight.{account-right}
 use Rattle.verdict.specs.Verdicts.{Cut}
-use Rattle.verdict.specs.declared.Rests.{Rests}
 
 -- what is written over the front of a slice
 front : (vs l : List ℕ) → length vs ≤ length l → take (length vs) (sets l 0 vs) ≡ vs
@@ -52,7 +49,7 @@ module _ (ws : List ℕ) (m : ℕ) (within : length (minutesOf ws) ≤ totalAtMo
       ∙ front (map f (longRests ms)) out (omega arith)
 
   pub cut : {k : ℕ} → k ≡ r .place .count → longRestsAtMost ≤ length starts → longRestsAtMost ≤ length ends
-      → Cut ws m (record { count = k; judged = r .place .from; rule = r .account .rule }) starts′ ends′
+      → Cut ws m (record { count = k; judged = r .place .from; rule = r .account .rule; first = r .account .first }) starts′ ends′
   cut {k} q a b =
       let few = count-few in
       record {
@@ -62,11 +59,5 @@ module _ (ws : List ℕ) (m : ℕ) (within : length (minutesOf ws) ≤ totalAtMo
         begun = ap (λ (n : ℕ). take n starts′) q ∙ written (λ s. s .start) starts starts′ a (v .begun);
         ended = ap (λ (n : ℕ). take n ends′) q ∙ written (λ s. s .end) ends ends′ b (v .ended);
         fixed = ap (λ (t : Account). t .rule) (v .account) ∙ account-right ms .rule;
+        first = ap (λ (t : Account). t .first) (v .account);
       }
-
--- the account of the whole
-pub whole-account : (ws : List ℕ) {m : ℕ} {starts ends starts′ ends′ : List ℕ} {r : Survey} → m ≡ length (minutesOf ws) → Surveyed ws m starts ends r starts′ ends′
-    → r .account .first ≡ accountFrom opening (minutesOf ws) .first
-whole-account ws {m} e v =
-    ap (λ (t : Account). t .first) (v .account)
-    ∙ ap (λ (l : List ℕ). accountFrom opening l .first) (ap (λ (n : ℕ). take n (minutesOf ws)) e ∙ take-length (minutesOf ws))

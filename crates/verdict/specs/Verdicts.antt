@@ -1,23 +1,26 @@
 -- What the enums of the verdict say, and what its inner functions answer. The public contracts go by the definitions of rules/specs.
 -- Assumes nothing.
 use mathlib.Core.Path.{_≡_}
+use mathlib.Core.Logic.{_⊎_}
 use mathlib.Core.Bool.{Bool, true, false}
 use mathlib.Core.List.{List, map}
-use Prim.Native.Nat.{ℕ, _*_, _≤_, _<_}
-use lib.ListN.{length, take}
+use Prim.Native.Nat.{ℕ, zero, suc, _+_, _*_, _≤_, _<_}
+use lib.ListN.{length, getD, take}
 use Rattle.recording.specs.Answers.{Answer, refused, answered, andThen}
-use Rattle.recording.specs.Words.{minutesOf}
+use Rattle.recording.specs.Words.{rest, minutesOf}
 use Rattle.recording.specs.Rests.{judgedEnd, longRests, longRestsAtMost}
+use Rattle.recording.specs.Weeks.{weekStart, weekOf}
 use Rattle.recording.specs.Operations.{measured}
 use Rattle.recording.specs.declared.Span.{Span}
 use Rattle.rules.specs.Fixed.{fixedTest}
+use Rattle.fixed.specs.Account.{accountFrom, opening}
 use Rattle.rules.specs.Verdict.{lawful, prefix, Verdict, pass, breach, verdict}
 use Rattle.rules.specs.Operations.{Outcome, passed, breached}
 use Rattle.rules.specs.Order.{Bytes}
 use Rattle.rules.specs.Reading.{entryBytes, readingSize}
-use Rattle.completion.specs.Completable.{Course, count}
-use Rattle.first_reading.specs.First.{KeptBy}
-use Rattle.verdict.specs.declared.Breach.{Breach}
+use Rattle.rules.specs.ReadingRules.{weeklyGap}
+use Rattle.completion.specs.Completable.{Course, at, count}
+use Rattle.first_reading.specs.First.{KeptBy, restsOnly}
 use Rattle.verdict.specs.declared.Judgement.{Judgement}
 use Rattle.verdict.specs.declared.Judgement.the-variants as judgement
 use Rattle.verdict.specs.declared.Outcome.{Outcome as Told}
@@ -55,11 +58,20 @@ pub record Cut (words : List ℕ) (m : ℕ) (r : Rests) (starts ends : List ℕ)
   pub begun : take (r .count) starts ≡ map (λ (s : Span). s .start) (longRests (prefix m (minutesOf words)))
   pub ended : take (r .count) ends ≡ map (λ (s : Span). s .end) (longRests (prefix m (minutesOf words)))
   pub fixed : r .rule ≡ fixedTest (prefix m (minutesOf words))
+  pub first : r .first ≡ accountFrom opening (prefix m (minutesOf words)) .first
 
--- ---- whether long rests have a reading that keeps rules 6 to 11
+-- ---- a reading of long rests that keeps rules 6 to 11, and whether there is one
+abbrev pub HasKept : Course → Type 0
+HasKept c = (bytes : List ℕ) × Bytes (entryBytes * count c) bytes × KeptBy c bytes
+
 pub record Some (c : Course) (r : Bool) : Type 0 where
-  pub yes : r ≡ true → (bytes : List ℕ) × Bytes (entryBytes * count c) bytes × KeptBy c bytes
+  pub yes : r ≡ true → HasKept c
   pub no : r ≡ false → (bytes : List ℕ) → KeptBy c bytes → ⊥
+
+-- the same, where the fixed rules hold; where one is broken the answer is no
+pub record ByRule (c : Course) (rule : ℕ) (r : Bool) : Type 0 where
+  pub unfixed : rule ≡ 0 → Some c r
+  pub fixed : (rule ≡ 0 → ⊥) → r ≡ false
 
 -- a lawful reading; and whether there is one, where the fixed rules hold
 abbrev pub HasReading : List ℕ → Type 0
@@ -74,3 +86,74 @@ pub record Bound (ms : List ℕ) (high : ℕ) : Type 0 where
   pub within : high ≤ length ms
   pub fixed : (m : ℕ) → m < high → fixedTest (prefix m ms) ≡ 0
   pub broken : HasReading (prefix high ms) → ⊥
+
+-- ---- up to the judged end t rules 8, 10 and 11 ask no more of rests with these ends than up to s
+pub record AsksNoMore (ends : List ℕ) (s t : ℕ) : Type 0 where
+  pub week : weekOf t ≤ weekOf s
+  pub from-start : s ≤ weeklyGap → t ≤ weeklyGap
+  pub from-rest : (i : ℕ) → i < length ends → s ≤ at ends i + weeklyGap → t ≤ at ends i + weeklyGap
+
+-- the sooner of another judged end and the first by which rule 10 asks more after a weekly rest that ended there, if that is past s
+pub record Sooner (ended s other r : ℕ) : Type 0 where
+  pub past : s < other → s < r
+  pub least : r ≤ other
+  pub gap : s ≤ ended + weeklyGap → r ≤ ended + weeklyGap + 1
+
+-- r is past s, and no judged end before it is one by which they ask more
+pub record NextDemand (ends : List ℕ) (s r : ℕ) : Type 0 where
+  pub past : s < r
+  pub week : r ≤ weekStart (weekOf s + 1)
+  pub from-start : s ≤ weeklyGap → r ≤ weeklyGap + 1
+  pub from-rest : (i : ℕ) → i < length ends → s ≤ at ends i + weeklyGap → r ≤ at ends i + weeklyGap + 1
+
+-- ---- the search for the breach minute. The long rests of a recording, in two lists
+pub record AllRests (ms starts ends : List ℕ) : Type 0 where
+  pub begun : starts ≡ map (λ (r : Span). r .start) (longRests ms)
+  pub ended : ends ≡ map (λ (r : Span). r .end) (longRests ms)
+
+-- the first n of them, where S is s
+abbrev pub firstRests : List ℕ → List ℕ → ℕ → ℕ → Course
+firstRests starts ends n s = restsOnly (take n starts) (take n ends) s
+
+-- the shortest stretch that has n of them
+abbrev pub dayStart : List ℕ → ℕ → ℕ
+dayStart ends zero = 0
+dayStart ends (suc i) = at ends i + 1
+
+-- whether it lies below a bound and has a reading that keeps rules 6 to 11
+pub record DayReadable (starts ends : List ℕ) (bound n : ℕ) (r : Bool) : Type 0 where
+  pub yes : r ≡ true → (dayStart ends n < bound) × HasKept (firstRests starts ends n (dayStart ends n))
+  pub no : r ≡ false → dayStart ends n < bound → HasKept (firstRests starts ends n (dayStart ends n)) → ⊥
+
+-- it does, and the next such stretch does not
+pub record LastDay (starts ends : List ℕ) (bound n : ℕ) : Type 0 where
+  pub within : n ≤ length starts
+  pub below : dayStart ends n < bound
+  pub kept : HasKept (firstRests starts ends n (dayStart ends n))
+  pub next : n < length starts → dayStart ends (suc n) < bound → HasKept (firstRests starts ends (suc n) (dayStart ends (suc n))) → ⊥
+
+-- the stretch at which the next rest starts, or the last below the bound
+pub record DayTop (starts : List ℕ) (n bound r : ℕ) : Type 0 where
+  pub below : r < bound
+  pub before : n < length starts → r ≤ at starts n
+  pub is : ((n < length starts) × (r ≡ at starts n)) ⊎ (suc r ≡ bound)
+
+-- of the judged ends past `from` and up to `top`, the first that leaves no reading of these rests, or the one past them
+pub record FirstWithout (starts ends : List ℕ) (from top r : ℕ) : Type 0 where
+  pub past : from < r
+  pub within : r ≤ top + 1
+  pub before : HasKept (restsOnly starts ends from) → (t : ℕ) → suc t ≡ r → HasKept (restsOnly starts ends t)
+  pub there : r ≤ top → HasKept (restsOnly starts ends r) → ⊥
+
+-- the later of two
+pub record Later (a b r : ℕ) : Type 0 where
+  pub first : a ≤ r
+  pub second : b ≤ r
+  pub is : (r ≡ a) ⊎ (r ≡ b)
+
+-- of the stretches from x on, the first whose last minute is not rest, or the bound
+pub record NextActive (ms : List ℕ) (x bound r : ℕ) : Type 0 where
+  pub from : x ≤ r
+  pub within : r ≤ bound
+  pub resting : (i : ℕ) → x ≤ suc i → suc i < r → getD ms i 0 ≡ rest
+  pub active : r < bound → (i : ℕ) → suc i ≡ r → getD ms i 0 ≡ rest → ⊥

@@ -2,21 +2,21 @@
 use fixed::Break;
 use recording::Weighing;
 ghost use mathlib.Core.Path.{_≡_};
-ghost use mathlib.Core.Bool.{true, false, not};
+ghost use mathlib.Core.Bool.{not};
 ghost use mathlib.Core.List.{List};
 ghost use mathlib.Core.Option.{some};
-ghost use Prim.Native.Nat.{ℕ, _+_, _-_, _*_, _≤_, _<_};
+ghost use Prim.Native.Nat.{ℕ, _≤_, _<_};
 ghost use lib.ListN.{length};
 ghost use Rattle.recording.specs.Words.{minutesOf};
 ghost use Rattle.recording.specs.Operations.{totalAtMost};
-ghost use Rattle.recording.specs.Rests.{longRests, longRestsAtMost};
-ghost use Rattle.rules.specs.Reading.{entryBytes, readingSize};
+ghost use Rattle.recording.specs.Rests.{longRestsAtMost};
+ghost use Rattle.rules.specs.Reading.{readingSize};
 ghost use Rattle.rules.specs.Verdict.{prefix, isNone, firstLawful, breachMinute, verdict};
 ghost use Rattle.fixed.specs.Account.{accountFrom, opening};
 ghost use Rattle.rules.specs.Operations.{judged, outcome, readingAfter};
-ghost use Rattle.completion.specs.Completable.{Lies};
-ghost use Rattle.first_reading.specs.First.{Least, restsOnly, KeptBy};
-ghost use Rattle.verdict.specs.Verdicts.{outcomeBy, broken, findingOf, found, findingBy, Cut, Some, HasReading, Readable, Bound};
+ghost use Rattle.completion.specs.Completable.{at, Lies};
+ghost use Rattle.first_reading.specs.First.{restsOnly};
+ghost use Rattle.verdict.specs.Verdicts.{outcomeBy, broken, findingOf, found, findingBy, Cut, Some, ByRule, HasReading, Bound, AllRests, dayStart, DayReadable, LastDay, DayTop, Sooner, NextDemand, FirstWithout, Later, NextActive};
 
 // A breach: the length of the shortest stretch without a lawful reading, and its article, 1 to 6.
 pub struct Breach {
@@ -38,11 +38,12 @@ pub enum Judgement {
     Breached(Breach),
 }
 
-// The long rests of a stretch: how many, its judged end, and the smallest fixed rule that it breaks, or 0.
+// The long rests of a stretch: how many, its judged end, the smallest fixed rule that it breaks, or 0, and the first such breach.
 pub struct Rests {
     pub count: usize,
     pub judged: u32,
     pub rule: u32,
+    pub first: Break,
 }
 
 // The article of a breach where all fixed rules hold.
@@ -58,11 +59,13 @@ fn rests_of(words: &[u32], m: u32, starts: &mut [u32], ends: &mut [u32]) -> Rest
     let found = fixed::survey_of(words, m, starts, ends);
     let place = found.place;
     let account = found.account;
+    let first = account.first;
     let count = place.count as usize;
     Rests {
         count: count,
         judged: place.from,
         rule: account.rule,
+        first: first,
     }
 }
 
@@ -78,16 +81,15 @@ fn some_reading(starts: &[u32], ends: &[u32], s: u32) -> bool
     search::possible(starts, ends, &promised[..k], s, &mut owed[..k], &mut table)
 }
 
-// Whether the first m minutes have a reading that keeps rules 6 to 11.
-fn readable_to(words: &[u32], m: u32) -> bool
-    requires { ⌜ length (minutesOf (now words)) ≤ totalAtMost ⌝ }
-    ensures { λ r. ⌜ Readable (prefix m (minutesOf (now (words .entry)))) r ⌝ }
+// Whether the long rests of a stretch have a lawful reading, by the smallest fixed rule that it breaks, or 0.
+fn lawful_by(starts: &[u32], ends: &[u32], s: u32, rule: u32) -> bool
+    requires { ⌜ (Lies (restsOnly (now starts) (now ends) s)) × (length (now starts) ≤ longRestsAtMost) × (s ≤ totalAtMost) ⌝ }
+    ensures { λ r. ⌜ ByRule (restsOnly (now (starts .entry)) (now (ends .entry)) s) rule r ⌝ }
 {
-    let mut starts = [0u32; recording::LONG_RESTS];
-    let mut ends = [0u32; recording::LONG_RESTS];
-    let rests = rests_of(words, m, &mut starts, &mut ends);
-    let k = rests.count;
-    some_reading(&starts[..k], &ends[..k], rests.judged)
+    if rule != 0 {
+        return false;
+    }
+    some_reading(starts, ends, s)
 }
 
 // Whether the first m minutes have a lawful reading.
@@ -97,58 +99,170 @@ pub fn has_reading(words: &[u32], m: u32) -> bool
 {
     let mut starts = [0u32; recording::LONG_RESTS];
     let mut ends = [0u32; recording::LONG_RESTS];
-    let stretch = rests_of(words, m, &mut starts, &mut ends);
-    if stretch.rule != 0 {
-        return false;
-    }
-    let k = stretch.count;
-    some_reading(&starts[..k], &ends[..k], stretch.judged)
+    let rests = rests_of(words, m, &mut starts, &mut ends);
+    let k = rests.count;
+    lawful_by(&starts[..k], &ends[..k], rests.judged, rests.rule)
 }
 
-// The least stretch without a lawful reading, by halving below one that has none.
-fn least_without(words: &[u32], bound: u32) -> u32
-    requires { ⌜ (length (minutesOf (now words)) ≤ totalAtMost) × (Bound (minutesOf (now words)) bound) ⌝ }
-    ensures { λ r. ⌜ r ≡ breachMinute (minutesOf (now (words .entry))) ⌝ }
+// The shortest stretch that has the first n long rests.
+fn day_start(ends: &[u32], n: usize) -> u32
+    requires { ⌜ (n ≤ length (now ends)) × ((i : ℕ) → i < length (now ends) → at (now ends) i ≤ totalAtMost) ⌝ }
+    ensures { λ r. ⌜ r ≡ dayStart (now (ends .entry)) n ⌝ }
+{
+    if n == 0 {
+        return 0;
+    }
+    ends[n - 1] + 1
+}
+
+// Whether the shortest stretch with the first n long rests lies below a bound and has a reading that keeps rules 6 to 11.
+fn day_readable(starts: &[u32], ends: &[u32], bound: u32, n: usize) -> bool
+    requires { ⌜ (Lies (restsOnly (now starts) (now ends) totalAtMost)) × (length (now starts) ≤ longRestsAtMost) × (bound ≤ totalAtMost) × (n ≤ length (now starts)) ⌝ }
+    ensures { λ r. ⌜ DayReadable (now (starts .entry)) (now (ends .entry)) bound n r ⌝ }
+{
+    let from = day_start(ends, n);
+    if bound <= from {
+        return false;
+    }
+    some_reading(&starts[..n], &ends[..n], from)
+}
+
+// After how many long rests the day begins in which the breach lies, by halving.
+fn last_day(starts: &[u32], ends: &[u32], bound: u32) -> usize
+    requires { ⌜ (Lies (restsOnly (now starts) (now ends) totalAtMost)) × (length (now starts) ≤ longRestsAtMost) × (bound ≤ totalAtMost) × (0 < bound) ⌝ }
+    ensures { λ r. ⌜ LastDay (now (starts .entry)) (now (ends .entry)) bound r ⌝ }
 {
     let mut low = 0;
-    let mut high = bound;
+    let mut high = starts.len() + 1;
     while 1 < high - low {
         let middle = low + (high - low) / 2;
-        if readable_to(words, middle) {
+        if day_readable(starts, ends, bound, middle) {
             low = middle;
         } else {
             high = middle;
         }
     }
-    high
+    low
 }
 
-// The first stretch that breaks a fixed rule, with that rule, or rule 0.
-fn first_break(words: &[u32], total: u32) -> Break
-    requires { ⌜ (length (minutesOf (now words)) ≤ totalAtMost) × (total ≡ length (minutesOf (now words))) ⌝ }
-    ensures { λ r. ⌜ r ≡ accountFrom opening (minutesOf (now (words .entry))) .first ⌝ }
+// The stretch at which the long rest after the first n starts, or the last below a bound.
+fn day_top(starts: &[u32], n: usize, bound: u32) -> u32
+    requires { ⌜ 0 < bound ⌝ }
+    ensures { λ r. ⌜ DayTop (now (starts .entry)) n bound r ⌝ }
 {
-    let mut starts = [0u32; 1];
-    let mut ends = [0u32; 1];
-    let found = fixed::survey_of(words, total, &mut starts, &mut ends);
-    let account = found.account;
-    account.first
+    if starts.len() <= n {
+        return bound - 1;
+    }
+    let start = starts[n];
+    if bound <= start {
+        return bound - 1;
+    }
+    start
 }
 
-// The breach of a recording without a lawful reading.
-fn breach_of(words: &[u32], total: u32) -> Breach
-    requires { ⌜ (length (minutesOf (now words)) ≤ totalAtMost) × (total ≡ length (minutesOf (now words))) × ((HasReading (minutesOf (now words)) → ⊥)) ⌝ }
+// The judged end from which rule 10 asks for a weekly rest after one that ended there, where that is past s and before another.
+fn gap_end(ended: u32, s: u32, other: u32) -> u32
+    requires { ⌜ ended ≤ totalAtMost ⌝ }
+    ensures { λ r. ⌜ Sooner ended s other r ⌝ }
+{
+    let last = ended + reading::WEEKLY_GAP;
+    if last < s {
+        return other;
+    }
+    if other <= last {
+        return other;
+    }
+    last + 1
+}
+
+// The first judged end past s by which rules 8, 10 and 11 may ask more of rests with these ends.
+fn next_demand(ends: &[u32], s: u32) -> u32
+    requires { ⌜ (s ≤ totalAtMost) × ((i : ℕ) → i < length (now ends) → at (now ends) i ≤ totalAtMost) ⌝ }
+    ensures { λ r. ⌜ NextDemand (now (ends .entry)) s r ⌝ }
+{
+    let week = s / recording::WEEK_MINUTES + 1;
+    let mut next = gap_end(0, s, week * recording::WEEK_MINUTES);
+    let mut i = ends.len();
+    while 0 < i {
+        i -= 1;
+        next = gap_end(ends[i], s, next);
+    }
+    next
+}
+
+// Of the judged ends past one and up to another, the first that leaves these long rests without a reading, or the one past them.
+fn first_without(starts: &[u32], ends: &[u32], from: u32, top: u32) -> u32
+    requires { ⌜ (Lies (restsOnly (now starts) (now ends) from)) × (length (now starts) ≤ longRestsAtMost) × (from ≤ top) × (top ≤ totalAtMost) ⌝ }
+    ensures { λ r. ⌜ FirstWithout (now (starts .entry)) (now (ends .entry)) from top r ⌝ }
+{
+    let mut next = next_demand(ends, from);
+    while next <= top {
+        if !some_reading(starts, ends, next) {
+            return next;
+        }
+        next = next_demand(ends, next);
+    }
+    top + 1
+}
+
+fn later_of(a: u32, b: u32) -> u32
+    ensures { λ r. ⌜ Later a b r ⌝ }
+{
+    if a < b {
+        return b;
+    }
+    a
+}
+
+// Of the stretches from x on, the first whose last minute is not rest, or the bound.
+fn next_active(words: &[u32], x: u32, bound: u32) -> u32
+    requires { ⌜ (length (minutesOf (now words)) ≤ totalAtMost) × (x ≤ bound) × (bound ≤ length (minutesOf (now words))) ⌝ }
+    ensures { λ r. ⌜ NextActive (minutesOf (now (words .entry))) x bound r ⌝ }
+{
+    let mut at = 0;
+    let mut i = 0;
+    while i < words.len() {
+        let word = words[i];
+        let first = later_of(at + 1, x);
+        at += word / 4;
+        i += 1;
+        if word % 4 != 0 {
+            if first <= at {
+                if bound <= first {
+                    return bound;
+                }
+                return first;
+            }
+        }
+    }
+    bound
+}
+
+// The least stretch without a lawful reading, up to one that has none.
+fn least_without(words: &[u32], starts: &[u32], ends: &[u32], bound: u32) -> u32
+    requires { ⌜ (length (minutesOf (now words)) ≤ totalAtMost) × (AllRests (minutesOf (now words)) (now starts) (now ends)) × (Bound (minutesOf (now words)) bound) ⌝ }
+    ensures { λ r. ⌜ r ≡ breachMinute (minutesOf (now (words .entry))) ⌝ }
+{
+    let n = last_day(starts, ends, bound);
+    let from = day_start(ends, n);
+    let top = day_top(starts, n, bound);
+    let after = first_without(&starts[..n], &ends[..n], from, top);
+    next_active(words, after, bound)
+}
+
+// The breach of a recording without a lawful reading, from its long rests and the first breach of a fixed rule.
+fn breach_of(words: &[u32], starts: &[u32], ends: &[u32], total: u32, first: Break) -> Breach
+    requires { ⌜ (length (minutesOf (now words)) ≤ totalAtMost) × (AllRests (minutesOf (now words)) (now starts) (now ends)) × (total ≡ length (minutesOf (now words))) × (first ≡ accountFrom opening (minutesOf (now words)) .first) × ((HasReading (minutesOf (now words)) → ⊥)) ⌝ }
     ensures { λ r. ⌜ broken (r .minute) (r .article) ≡ findingOf (verdict (minutesOf (now (words .entry)))) ⌝ }
 {
-    let first = first_break(words, total);
     if first.rule == 0 {
-        let minute = least_without(words, total);
+        let minute = least_without(words, starts, ends, total);
         return Breach {
             minute: minute,
             article: NO_FIXED_RULE,
         };
     }
-    let minute = least_without(words, first.at);
+    let minute = least_without(words, starts, ends, first.at);
     if minute < first.at {
         return Breach {
             minute: minute,
@@ -170,10 +284,15 @@ pub fn judge(words: &[u32]) -> Judgement
         return Judgement::Refused(recording::refusal_of(weighing));
     };
     let total = measure.total;
-    if has_reading(words, total) {
+    let mut starts = [0u32; recording::LONG_RESTS];
+    let mut ends = [0u32; recording::LONG_RESTS];
+    let rests = rests_of(words, total, &mut starts, &mut ends);
+    let k = rests.count;
+    if lawful_by(&starts[..k], &ends[..k], rests.judged, rests.rule) {
         return Judgement::Pass;
     }
-    Judgement::Breached(breach_of(words, total))
+    let first = rests.first;
+    Judgement::Breached(breach_of(words, &starts[..k], &ends[..k], total, first))
 }
 
 // The first lawful reading of a recording that has one.
@@ -202,9 +321,15 @@ pub fn verdict(words: &[u32], reading: &mut [u8]) -> Outcome
     if reading.len() < size {
         return Outcome::Refused(4);
     }
-    if has_reading(words, total) {
-        first_reading(words, total, &mut reading[..size]);
+    let mut starts = [0u32; recording::LONG_RESTS];
+    let mut ends = [0u32; recording::LONG_RESTS];
+    let whole = rests_of(words, total, &mut starts, &mut ends);
+    let k = whole.count;
+    let s = whole.judged;
+    if lawful_by(&starts[..k], &ends[..k], s, whole.rule) {
+        first_reading::write_first(&starts[..k], &ends[..k], s, &mut reading[..size]);
         return Outcome::Passed(size as u32);
     }
-    Outcome::Breached(breach_of(words, total))
+    let first = whole.first;
+    Outcome::Breached(breach_of(words, &starts[..k], &ends[..k], total, first))
 }

@@ -1,9 +1,6 @@
 -- `verdict::first_reading` meets its contract. Assumes nothing.
 use denote.Ref.{now}
 use borrow.Author.Needs.{needs}
-use native.Mathlib.Omega.{arith}
-use mathlib.Core.Path.{_≡_, sym, ap, _∙_}
-use Rattle.rules.specs.Verdict.{firstLawful}
 use Rattle.verdict.proofs.Lawfulness.{starts-size, ends-size, rests-lie, rests-few, judged-low, reading-size, first-least-there}
 use Rattle.verdict.proofs.first_reading.Statement.{statement}
 use Rattle.verdict.proofs.first_reading.Tie as tie

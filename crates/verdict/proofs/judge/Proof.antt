@@ -1,27 +1,41 @@
 -- `verdict::judge` meets its contract. Assumes nothing.
 use denote.Ref.{now}
 use borrow.Author.Needs.{needs}
-use native.Mathlib.Omega.{arith}
 use mathlib.Core.Path.{sym, _∙_}
 use Rattle.recording.proofs.Listing.{refused-there, measured-there}
-use Rattle.verdict.proofs.Answers.{none-is, found-refused, within, total-is, answer-whole, found-pass, found-breach}
+use Rattle.verdict.proofs.Answers.{found-refused, within, starts-there, ends-there, rests-there, whole-lawful, breach-there, found-pass, found-breach}
 use Rattle.verdict.proofs.judge.Statement.{statement}
 use Rattle.verdict.proofs.judge.Tie as tie
 
 returns : tie.Need-returns
 returns c = found-refused (now ((c .before .before .before .before .before) .args .words)) (refused-there _ (c .before .before .before .weigh .ensures) (c .before .enum-told .given .1) (c .refusal-of .ensures))
 
-has-reading-requires : tie.Need-has-reading-requires
-has-reading-requires c κs = within (now ((c .before .before .before .before .before) .args .words)) (measured-there _ (c .before .before .before .weigh .ensures) (c .before .weighing .given .1))
+rests-of-requires : tie.Need-rests-of-requires
+rests-of-requires c κs = (within (now ((c .before .before .before .before .before .before .before) .args .words)) (measured-there _ (c .before .before .before .before .before .weigh .ensures) (c .before .before .before .weighing .given .1)), search needs, search needs)
+
+slice-aggregate-lawful-by : tie.Need-slice-aggregate-lawful-by
+slice-aggregate-lawful-by c = starts-there (now ((c .before .before .before .before .before .before .before .before .before .before .before) .args .words)) (measured-there _ (c .before .before .before .before .before .before .before .before .before .weigh .ensures) (c .before .before .before .before .before .before .before .weighing .given .1)) (c .before .before .before .rests-of .ensures)
+
+slice-aggregate-lawful-by-2 : tie.Need-slice-aggregate-lawful-by-2
+slice-aggregate-lawful-by-2 c = ends-there (now ((c .before .before .before .before .before .before .before .before .before .before .before .before) .args .words)) (measured-there _ (c .before .before .before .before .before .before .before .before .before .before .weigh .ensures) (c .before .before .before .before .before .before .before .before .weighing .given .1)) (c .before .before .before .before .rests-of .ensures)
+
+lawful-by-requires : tie.Need-lawful-by-requires
+lawful-by-requires c κs = rests-there (now ((c .before .before .before .before .before .before .before .before .before .before .before .before) .args .words)) (measured-there _ (c .before .before .before .before .before .before .before .before .before .before .weigh .ensures) (c .before .before .before .before .before .before .before .before .weighing .given .1)) (c .before .before .before .before .rests-of .ensures)
 
 returns-2 : tie.Need-returns-2
-returns-2 c = found-pass (now ((c .before .before .before .before .before .before .before) .args .words)) (measured-there _ (c .before .before .before .before .before .weigh .ensures) (c .before .before .before .weighing .given .1)) (answer-whole (now ((c .before .before .before .before .before .before .before) .args .words)) (measured-there _ (c .before .before .before .before .before .weigh .ensures) (c .before .before .before .weighing .given .1)) (sym (c .if1 .taken) ∙ c .before .has-reading .ensures))
+returns-2 c = found-pass (now ((c .before .before .before .before .before .before .before .before .before .before .before .before .before .before) .args .words)) (measured-there _ (c .before .before .before .before .before .before .before .before .before .before .before .before .weigh .ensures) (c .before .before .before .before .before .before .before .before .before .before .weighing .given .1)) (sym (c .if1 .taken) ∙ whole-lawful (now ((c .before .before .before .before .before .before .before .before .before .before .before .before .before .before) .args .words)) (measured-there _ (c .before .before .before .before .before .before .before .before .before .before .before .before .weigh .ensures) (c .before .before .before .before .before .before .before .before .before .before .weighing .given .1)) (c .before .before .before .before .before .before .rests-of .ensures) (c .before .lawful-by .ensures))
+
+slice-aggregate-breach-of : tie.Need-slice-aggregate-breach-of
+slice-aggregate-breach-of c = starts-there (now ((c .before .before .before .before .before .before .before .before .before .before .before .before .before .before .before .before) .args .words)) (measured-there _ (c .before .before .before .before .before .before .before .before .before .before .before .before .before .before .weigh .ensures) (c .before .before .before .before .before .before .before .before .before .before .before .before .weighing .given .1)) (c .before .before .before .before .before .before .before .before .rests-of .ensures)
+
+slice-aggregate-breach-of-2 : tie.Need-slice-aggregate-breach-of-2
+slice-aggregate-breach-of-2 c = ends-there (now ((c .before .before .before .before .before .before .before .before .before .before .before .before .before .before .before .before .before) .args .words)) (measured-there _ (c .before .before .before .before .before .before .before .before .before .before .before .before .before .before .before .weigh .ensures) (c .before .before .before .before .before .before .before .before .before .before .before .before .before .weighing .given .1)) (c .before .before .before .before .before .before .before .before .before .rests-of .ensures)
 
 breach-of-requires : tie.Need-breach-of-requires
-breach-of-requires c κs = (within (now ((c .before .before .before .before .before .before .before) .args .words)) (measured-there _ (c .before .before .before .before .before .weigh .ensures) (c .before .before .before .weighing .given .1)), total-is (now ((c .before .before .before .before .before .before .before) .args .words)) (measured-there _ (c .before .before .before .before .before .weigh .ensures) (c .before .before .before .weighing .given .1)), none-is _ (answer-whole (now ((c .before .before .before .before .before .before .before) .args .words)) (measured-there _ (c .before .before .before .before .before .weigh .ensures) (c .before .before .before .weighing .given .1)) (sym (c .if1 .left) ∙ c .before .has-reading .ensures)))
+breach-of-requires c κs = breach-there (now ((c .before .before .before .before .before .before .before .before .before .before .before .before .before .before .before .before .before) .args .words)) (measured-there _ (c .before .before .before .before .before .before .before .before .before .before .before .before .before .before .before .weigh .ensures) (c .before .before .before .before .before .before .before .before .before .before .before .before .before .weighing .given .1)) (c .before .before .before .before .before .before .before .before .before .rests-of .ensures) (c .before .before .before .before .lawful-by .ensures) (c .before .before .before .if1 .left)
 
 returns-3 : tie.Need-returns-3
-returns-3 c = found-breach (now ((c .before .before .before .before .before .before .before .before) .args .words)) (measured-there _ (c .before .before .before .before .before .before .weigh .ensures) (c .before .before .before .before .weighing .given .1)) (c .breach-of .ensures)
+returns-3 c = found-breach (now ((c .before .before .before .before .before .before .before .before .before .before .before .before .before .before .before .before .before .before) .args .words)) (measured-there _ (c .before .before .before .before .before .before .before .before .before .before .before .before .before .before .before .before .weigh .ensures) (c .before .before .before .before .before .before .before .before .before .before .before .before .before .before .weighing .given .1)) (c .breach-of .ensures)
 
 pub judge-spec : {M : Type 1} → statement M
 judge-spec =
@@ -32,7 +46,18 @@ judge-spec =
     (λ c. search needs)
     (λ c κs. search needs)
     returns
-    has-reading-requires
+    (λ c. search needs)
+    (λ c. search needs)
+    rests-of-requires
+    (λ c. search needs)
+    slice-aggregate-lawful-by
+    (λ c. search needs)
+    slice-aggregate-lawful-by-2
+    lawful-by-requires
     returns-2
+    (λ c. search needs)
+    slice-aggregate-breach-of
+    (λ c. search needs)
+    slice-aggregate-breach-of-2
     breach-of-requires
     returns-3)

@@ -1,75 +1,47 @@
 -- `verdict::least_without` meets its contract. Assumes nothing.
-use Prim.Native.Nat.{_-_, _≤_}
+use denote.Ref.{now}
 use native.Mathlib.Omega.{arith}
-use lib.ListN.{length}
 use Rattle.recording.specs.Words.{minutesOf}
-use Rattle.recording.specs.Operations.{totalAtMost}
-use Rattle.verdict.proofs.Halving.{Halving, start-halving, halve-up, halve-down, halved}
+use Rattle.verdict.proofs.Lawfulness.{all-lie, all-few}
+use Rattle.verdict.proofs.Days.{ends-low, first-starts, first-ends, lies-first}
+use Rattle.verdict.proofs.Halving.{bound-above}
+use Rattle.verdict.proofs.Least.{from-low, least-found}
 use Rattle.verdict.proofs.least_without.Statement.{statement}
 use Rattle.verdict.proofs.least_without.Tie as tie
-use Rattle.verdict.proofs.least_without.Reads as reads
-use Rattle.verdict.proofs.least_without.Lts as lts
-use Rattle.verdict.proofs.readable_to.Reads as readable-to-reads
 
-abbrev Inv-loop : tie.InvT-loop
-Inv-loop words bound low₀ high₀ low high = Halving (minutesOf words) low high × (length (minutesOf words) ≤ totalAtMost)
+last-day-requires : tie.Need-last-day-requires
+last-day-requires c κs = (all-lie ((c .before .before .before) .pre .1) ((c .before .before .before) .pre .0), all-few ((c .before .before .before) .pre .1) ((c .before .before .before) .pre .0), omega (arith, (c .before .before .before) .pre .0, (c .before .before .before) .pre .2 .within), bound-above (minutesOf (now ((c .before .before .before) .args .words))) _ ((c .before .before .before) .pre .2))
 
-abbrev μ-loop : tie.MeasureT-loop
-μ-loop words bound low₀ high₀ low high = high - low
+day-start-requires : tie.Need-day-start-requires
+day-start-requires c κs = (omega (arith, c .last-day .ensures .within, all-lie ((c .before .before .before .before) .pre .1) ((c .before .before .before .before) .pre .0) .ends-too), ends-low (all-lie ((c .before .before .before .before) .pre .1) ((c .before .before .before .before) .pre .0)))
 
--- src/lib.rt:146:5
-loop-holds : tie.Need-loop-holds Inv-loop μ-loop
-loop-holds c = (start-halving _ (c .before .pre .1), c .before .pre .0)
+day-top-requires : tie.Need-day-top-requires
+day-top-requires c κs = bound-above (minutesOf (now ((c .before .before .before .before .before) .args .words))) _ ((c .before .before .before .before .before) .pre .2)
 
--- src/lib.rt:146:15
-sub-loop : tie.Need-sub-loop Inv-loop μ-loop
-sub-loop c = omega (arith, c .loop .inv .0 .order)
+slice-aggregate-first-without : tie.Need-slice-aggregate-first-without
+slice-aggregate-first-without c = first-starts (all-lie ((c .before .before .before .before .before .before .before) .pre .1) ((c .before .before .before .before .before .before .before) .pre .0)) _ (c .before .before .before .last-day .ensures .within)
 
--- src/lib.rt:147:29
-sub-middle : tie.Need-sub-middle Inv-loop μ-loop
-sub-middle c = omega (arith, c .before .loop .inv .0 .order)
+slice-aggregate-first-without-2 : tie.Need-slice-aggregate-first-without-2
+slice-aggregate-first-without-2 c = first-ends (all-lie ((c .before .before .before .before .before .before .before .before) .pre .1) ((c .before .before .before .before .before .before .before .before) .pre .0)) _ (c .before .before .before .before .last-day .ensures .within)
 
--- src/lib.rt:147:22
-add-middle : tie.Need-add-middle Inv-loop μ-loop
-add-middle c = omega (arith, c .before .loop .inv .0 .order, c .before .loop .inv .0 .within, c .before .loop .inv .1)
+first-without-requires : tie.Need-first-without-requires
+first-without-requires c κs = (lies-first (all-lie ((c .before .before .before .before .before .before .before .before) .pre .1) ((c .before .before .before .before .before .before .before .before) .pre .0)) _ (c .before .before .before .before .last-day .ensures .within) _ (omega (arith, c .before .before .before .day-start .ensures)), omega (arith, first-starts (all-lie ((c .before .before .before .before .before .before .before .before) .pre .1) ((c .before .before .before .before .before .before .before .before) .pre .0)) _ (c .before .before .before .before .last-day .ensures .within), c .before .before .before .before .last-day .ensures .within, all-few ((c .before .before .before .before .before .before .before .before) .pre .1) ((c .before .before .before .before .before .before .before .before) .pre .0)), omega (arith, c .before .before .before .day-start .ensures, from-low ((c .before .before .before .before .before .before .before .before) .pre .1) (c .before .before .before .before .last-day .ensures) (c .before .before .day-top .ensures)), omega (arith, c .before .before .day-top .ensures .below, (c .before .before .before .before .before .before .before .before) .pre .2 .within, (c .before .before .before .before .before .before .before .before) .pre .0))
 
--- src/lib.rt:148:12
-readable-to-requires : tie.Need-readable-to-requires Inv-loop μ-loop
-readable-to-requires c κs = c .before .loop .inv .1
+next-active-requires : tie.Need-next-active-requires
+next-active-requires c κs = ((c .before .before .before .before .before .before .before .before .before) .pre .0, omega (arith, c .first-without .ensures .within, c .before .before .before .day-top .ensures .below), (c .before .before .before .before .before .before .before .before .before) .pre .2 .within)
 
--- src/lib.rt:146:5
-loop-less : tie.Need-loop-less Inv-loop μ-loop
-loop-less c = omega (arith, c .before .before .before .loop .inv .0 .order, c .before .before .loop-test .taken)
-
--- src/lib.rt:146:5
-loop-again : tie.Need-loop-again Inv-loop μ-loop
-loop-again c = (halve-up (c .before .before .before .loop .inv .0) (c .before .readable-to .ensures) (omega (arith, c .before .before .before .loop .inv .0 .order, c .before .before .loop-test .taken)) (omega (arith, c .before .before .before .loop .inv .0 .order, c .before .before .loop-test .taken)) (c .if1 .taken), c .before .before .before .loop .inv .1)
-
--- src/lib.rt:146:5
-loop-less-2 : tie.Need-loop-less-2 Inv-loop μ-loop
-loop-less-2 c = omega (arith, c .before .before .before .loop .inv .0 .order, c .before .before .loop-test .taken)
-
--- src/lib.rt:146:5
-loop-again-2 : tie.Need-loop-again-2 Inv-loop μ-loop
-loop-again-2 c = (halve-down (c .before .before .before .loop .inv .0) (c .before .readable-to .ensures) (omega (arith, c .before .before .before .loop .inv .0 .order, c .before .before .loop-test .taken)) (omega (arith, c .before .before .before .loop .inv .0 .order, c .before .before .loop-test .taken)) (c .if1 .left), c .before .before .before .loop .inv .1)
-
--- src/lib.rt:140:1
-returns : tie.Need-returns Inv-loop μ-loop
-returns c = halved (c .before .loop .inv .0) (omega (arith, c .loop-test .left))
+returns : tie.Need-returns
+returns c = least-found ((c .before .before .before .before .before .before .before .before .before .before) .pre .1) ((c .before .before .before .before .before .before .before .before .before .before) .pre .2) (c .before .before .before .before .before .before .last-day .ensures) (c .before .before .before .before .before .day-start .ensures) (c .before .before .before .before .day-top .ensures) (c .before .first-without .ensures) (c .next-active .ensures)
 
 pub least-without-spec : {M : Type 1} → statement M
 least-without-spec =
     tie.close
     (tie.spec
-    Inv-loop
-    μ-loop
-    loop-holds
-    sub-loop
-    sub-middle
-    add-middle
-    readable-to-requires
-    loop-less
-    loop-again
-    loop-less-2
-    loop-again-2
+    last-day-requires
+    day-start-requires
+    day-top-requires
+    slice-aggregate-first-without
+    slice-aggregate-first-without-2
+    first-without-requires
+    next-active-requires
     returns)

@@ -2,10 +2,9 @@
 use denote.Ref.{now}
 use mathlib.Core.Path.{sym}
 use borrow.Author.Needs.{needs}
-use native.Mathlib.Omega.{arith}
 use Rattle.verdict.proofs.Lawfulness.{front-size, table-room, front-zeros, lent, some-reading}
 use Rattle.recording.specs.Rests.{longRestsAtMost}
-use lib.ListN.{length, length-replicate}
+use lib.ListN.{length}
 use Rattle.verdict.proofs.some_reading.Statement.{statement}
 use Rattle.verdict.proofs.some_reading.Tie as tie
 

@@ -1,0 +1,61 @@
+-- `verdict::last_day` meets its contract. Assumes nothing.
+use Prim.Native.Nat.{_-_}
+use native.Mathlib.Omega.{arith}
+use borrow.Author.Needs.{needs}
+use Rattle.verdict.proofs.Halving.{Halving, start-halving, halve-up, halve-down, halved}
+use Rattle.verdict.proofs.last_day.Statement.{statement}
+use Rattle.verdict.proofs.last_day.Tie as tie
+
+abbrev Inv-loop : tie.InvT-loop
+Inv-loop starts ends bound low₀ high₀ low high = Halving starts ends bound low high
+
+abbrev μ-loop : tie.MeasureT-loop
+μ-loop starts ends bound low₀ high₀ low high = high - low
+
+loop-holds : tie.Need-loop-holds Inv-loop μ-loop
+loop-holds c = start-halving _ _ ((c .before .before) .pre .3) (omega arith)
+
+sub-loop : tie.Need-sub-loop Inv-loop μ-loop
+sub-loop c = omega (arith, c .loop .inv .order)
+
+sub-middle : tie.Need-sub-middle Inv-loop μ-loop
+sub-middle c = omega (arith, c .before .loop .inv .order)
+
+add-middle : tie.Need-add-middle Inv-loop μ-loop
+add-middle c = omega (arith, c .before .loop .inv .order, c .before .loop .inv .within, (c .before .before .before .before) .pre .1)
+
+day-readable-requires : tie.Need-day-readable-requires Inv-loop μ-loop
+day-readable-requires c κs = ((c .before .before .before .before) .pre .0, (c .before .before .before .before) .pre .1, (c .before .before .before .before) .pre .2, omega (arith, c .before .loop .inv .order, c .before .loop .inv .within, c .loop-test .taken))
+
+loop-less : tie.Need-loop-less Inv-loop μ-loop
+loop-less c = omega (arith, c .before .before .before .loop .inv .order, c .before .before .loop-test .taken)
+
+loop-again : tie.Need-loop-again Inv-loop μ-loop
+loop-again c = halve-up (c .before .before .before .loop .inv) (c .before .day-readable .ensures) (omega (arith, c .before .before .before .loop .inv .order, c .before .before .loop-test .taken)) (omega (arith, c .before .before .before .loop .inv .order, c .before .before .loop-test .taken)) (c .if1 .taken)
+
+loop-less-2 : tie.Need-loop-less-2 Inv-loop μ-loop
+loop-less-2 c = omega (arith, c .before .before .before .loop .inv .order, c .before .before .loop-test .taken)
+
+loop-again-2 : tie.Need-loop-again-2 Inv-loop μ-loop
+loop-again-2 c = halve-down (c .before .before .before .loop .inv) (c .before .day-readable .ensures) (omega (arith, c .before .before .before .loop .inv .order, c .before .before .loop-test .taken)) (omega (arith, c .before .before .before .loop .inv .order, c .before .before .loop-test .taken)) (c .if1 .left)
+
+returns : tie.Need-returns Inv-loop μ-loop
+returns c = halved (c .before .loop .inv) (omega (arith, c .loop-test .left))
+
+pub last-day-spec : {M : Type 1} → statement M
+last-day-spec =
+    tie.close
+    (tie.spec
+    Inv-loop
+    μ-loop
+    (λ c. search needs)
+    loop-holds
+    sub-loop
+    sub-middle
+    add-middle
+    day-readable-requires
+    loop-less
+    loop-again
+    loop-less-2
+    loop-again-2
+    returns)

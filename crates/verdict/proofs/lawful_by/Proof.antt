@@ -1,0 +1,14 @@
+-- `verdict::lawful_by` meets its contract. Assumes nothing.
+use mathlib.Core.Path.{refl}
+use borrow.Author.Needs.{needs}
+use Rattle.verdict.proofs.lawful_by.Statement.{statement}
+use Rattle.verdict.proofs.lawful_by.Tie as tie
+
+returns : tie.Need-returns
+returns c = record { unfixed = λ e. absurd (c .if1 .taken e); fixed = λ f. refl }
+
+returns-2 : tie.Need-returns-2
+returns-2 c = record { unfixed = λ e. c .some-reading .ensures; fixed = λ f. absurd (f (c .before .if1 .left)) }
+
+pub lawful-by-spec : {M : Type 1} → statement M
+lawful-by-spec = tie.close (tie.spec returns (λ c κs. search needs) returns-2)
