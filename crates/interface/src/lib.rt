@@ -18,17 +18,20 @@ ghost use Rattle.text.specs.Writing.{textWritten};
 ghost use Rattle.verdict.specs.Verdicts.{outcomeBy};
 ghost use Rattle.interface.specs.Codes.{codeOf, itself, measureValue, outcomeValue, entryCode};
 
-// One unit and its value are an answer; less is a refusal.
+// An answer is this and its value; less is a refusal.
 const ANSWER: u64 = 281474976710656;
 
+// Units of S and of k in what weighing answers.
 const JUDGED: u64 = 131072;
 
 const COUNT: u64 = 17179869184;
 
+// A unit of a breach's minute.
 const ARTICLES: u64 = 8;
 
 const ENTRY_BYTES: usize = 3;
 
+// A refusal's number; or ANSWER and the count.
 fn count_code(f: Filling) -> u64
     ensures { λ r. ⌜ r ≡ codeOf itself (written f) ⌝ }
 {
@@ -38,6 +41,7 @@ fn count_code(f: Filling) -> u64
     }
 }
 
+// A refusal's number; or ANSWER and the rule.
 fn rule_code(t: Tested) -> u64
     ensures { λ r. ⌜ r ≡ codeOf itself (tested t) ⌝ }
 {
@@ -47,6 +51,7 @@ fn rule_code(t: Tested) -> u64
     }
 }
 
+// A refusal's number; ANSWER and the count of a pass; or 2 × ANSWER, 8 × the minute and the article of a breach.
 fn outcome_code(o: Outcome) -> u64
     ensures { λ r. ⌜ r ≡ codeOf outcomeValue (outcomeBy o) ⌝ }
 {
