@@ -20,6 +20,7 @@ use Rattle.rules.specs.Order.{Bytes}
 use Rattle.rules.specs.Reading.{entryBytes, readingSize}
 use Rattle.rules.specs.ReadingRules.{weeklyGap}
 use Rattle.completion.specs.Completable.{Course, at, count}
+use Rattle.hopeless.specs.Table.{levelWords}
 use Rattle.first_reading.specs.First.{KeptBy, restsOnly}
 use Rattle.verdict.specs.declared.Judgement.{Judgement}
 use Rattle.verdict.specs.declared.Judgement.the-variants as judgement
@@ -59,6 +60,10 @@ pub record Cut (words : List ℕ) (m : ℕ) (r : Rests) (starts ends : List ℕ)
   pub ended : take (r .count) ends ≡ map (λ (s : Span). s .end) (longRests (prefix m (minutesOf words)))
   pub fixed : r .rule ≡ fixedTest (prefix m (minutesOf words))
   pub first : r .first ≡ accountFrom opening (prefix m (minutesOf words)) .first
+
+-- ---- room for the table of hopeless states of as many long rests as there can be
+abbrev pub Roomy : List ℕ → Type 0
+Roomy table = levelWords * longRestsAtMost ≤ length table
 
 -- ---- a reading of long rests that keeps rules 6 to 11, and whether there is one
 abbrev pub HasKept : Course → Type 0

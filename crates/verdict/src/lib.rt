@@ -16,7 +16,7 @@ ghost use Rattle.fixed.specs.Account.{accountFrom, opening};
 ghost use Rattle.rules.specs.Operations.{judged, outcome, readingAfter};
 ghost use Rattle.completion.specs.Completable.{at, Lies};
 ghost use Rattle.first_reading.specs.First.{restsOnly};
-ghost use Rattle.verdict.specs.Verdicts.{outcomeBy, broken, findingOf, found, findingBy, Cut, Some, ByRule, HasReading, Bound, AllRests, dayStart, DayReadable, LastDay, DayTop, Sooner, NextDemand, FirstWithout, Later, NextActive};
+ghost use Rattle.verdict.specs.Verdicts.{outcomeBy, broken, findingOf, found, findingBy, Cut, Some, ByRule, HasReading, Bound, AllRests, dayStart, DayReadable, LastDay, DayTop, Roomy, Sooner, NextDemand, FirstWithout, Later, NextActive};
 
 // A breach: the length of the shortest stretch without a lawful reading, and its article, 1 to 6.
 pub struct Breach {
@@ -70,26 +70,25 @@ fn rests_of(words: &[u32], m: u32, starts: &mut [u32], ends: &mut [u32]) -> Rest
 }
 
 // Whether long rests have a reading that keeps rules 6 to 11.
-fn some_reading(starts: &[u32], ends: &[u32], s: u32) -> bool
-    requires { ⌜ (Lies (restsOnly (now starts) (now ends) s)) × (length (now starts) ≤ longRestsAtMost) × (s ≤ totalAtMost) ⌝ }
+fn some_reading(starts: &[u32], ends: &[u32], s: u32, table: &mut [u32]) -> bool
+    requires { ⌜ (Lies (restsOnly (now starts) (now ends) s)) × (length (now starts) ≤ longRestsAtMost) × (s ≤ totalAtMost) × Roomy (now table) ⌝ }
     ensures { λ r. ⌜ Some (restsOnly (now (starts .entry)) (now (ends .entry)) s) r ⌝ }
 {
     let k = starts.len();
     let promised = [0u32; recording::LONG_RESTS];
     let mut owed = [0u32; recording::LONG_RESTS];
-    let mut table = [0u32; hopeless::TABLE_WORDS];
-    search::possible(starts, ends, &promised[..k], s, &mut owed[..k], &mut table)
+    search::possible(starts, ends, &promised[..k], s, &mut owed[..k], table)
 }
 
 // Whether the long rests of a stretch have a lawful reading, by the smallest fixed rule that it breaks, or 0.
-fn lawful_by(starts: &[u32], ends: &[u32], s: u32, rule: u32) -> bool
-    requires { ⌜ (Lies (restsOnly (now starts) (now ends) s)) × (length (now starts) ≤ longRestsAtMost) × (s ≤ totalAtMost) ⌝ }
+fn lawful_by(starts: &[u32], ends: &[u32], s: u32, rule: u32, table: &mut [u32]) -> bool
+    requires { ⌜ (Lies (restsOnly (now starts) (now ends) s)) × (length (now starts) ≤ longRestsAtMost) × (s ≤ totalAtMost) × Roomy (now table) ⌝ }
     ensures { λ r. ⌜ ByRule (restsOnly (now (starts .entry)) (now (ends .entry)) s) rule r ⌝ }
 {
     if rule != 0 {
         return false;
     }
-    some_reading(starts, ends, s)
+    some_reading(starts, ends, s, table)
 }
 
 // Whether the first m minutes have a lawful reading.
@@ -101,7 +100,14 @@ pub fn has_reading(words: &[u32], m: u32) -> bool
     let mut ends = [0u32; recording::LONG_RESTS];
     let rests = rests_of(words, m, &mut starts, &mut ends);
     let k = rests.count;
-    lawful_by(&starts[..k], &ends[..k], rests.judged, rests.rule)
+    let mut table = [0u32; hopeless::TABLE_WORDS];
+    lawful_by(
+        &starts[..k],
+        &ends[..k],
+        rests.judged,
+        rests.rule,
+        &mut table,
+    )
 }
 
 // The shortest stretch that has the first n long rests.
@@ -116,27 +122,27 @@ fn day_start(ends: &[u32], n: usize) -> u32
 }
 
 // Whether the shortest stretch with the first n long rests lies below a bound and has a reading that keeps rules 6 to 11.
-fn day_readable(starts: &[u32], ends: &[u32], bound: u32, n: usize) -> bool
-    requires { ⌜ (Lies (restsOnly (now starts) (now ends) totalAtMost)) × (length (now starts) ≤ longRestsAtMost) × (bound ≤ totalAtMost) × (n ≤ length (now starts)) ⌝ }
+fn day_readable(starts: &[u32], ends: &[u32], bound: u32, n: usize, table: &mut [u32]) -> bool
+    requires { ⌜ (Lies (restsOnly (now starts) (now ends) totalAtMost)) × (length (now starts) ≤ longRestsAtMost) × (bound ≤ totalAtMost) × (n ≤ length (now starts)) × Roomy (now table) ⌝ }
     ensures { λ r. ⌜ DayReadable (now (starts .entry)) (now (ends .entry)) bound n r ⌝ }
 {
     let from = day_start(ends, n);
     if bound <= from {
         return false;
     }
-    some_reading(&starts[..n], &ends[..n], from)
+    some_reading(&starts[..n], &ends[..n], from, table)
 }
 
 // After how many long rests the day begins in which the breach lies, by halving.
-fn last_day(starts: &[u32], ends: &[u32], bound: u32) -> usize
-    requires { ⌜ (Lies (restsOnly (now starts) (now ends) totalAtMost)) × (length (now starts) ≤ longRestsAtMost) × (bound ≤ totalAtMost) × (0 < bound) ⌝ }
+fn last_day(starts: &[u32], ends: &[u32], bound: u32, table: &mut [u32]) -> usize
+    requires { ⌜ (Lies (restsOnly (now starts) (now ends) totalAtMost)) × (length (now starts) ≤ longRestsAtMost) × (bound ≤ totalAtMost) × (0 < bound) × Roomy (now table) ⌝ }
     ensures { λ r. ⌜ LastDay (now (starts .entry)) (now (ends .entry)) bound r ⌝ }
 {
     let mut low = 0;
     let mut high = starts.len() + 1;
     while 1 < high - low {
         let middle = low + (high - low) / 2;
-        if day_readable(starts, ends, bound, middle) {
+        if day_readable(starts, ends, bound, middle, table) {
             low = middle;
         } else {
             high = middle;
@@ -191,13 +197,13 @@ fn next_demand(ends: &[u32], s: u32) -> u32
 }
 
 // Of the judged ends past one and up to another, the first that leaves these long rests without a reading, or the one past them.
-fn first_without(starts: &[u32], ends: &[u32], from: u32, top: u32) -> u32
-    requires { ⌜ (Lies (restsOnly (now starts) (now ends) from)) × (length (now starts) ≤ longRestsAtMost) × (from ≤ top) × (top ≤ totalAtMost) ⌝ }
+fn first_without(starts: &[u32], ends: &[u32], from: u32, top: u32, table: &mut [u32]) -> u32
+    requires { ⌜ (Lies (restsOnly (now starts) (now ends) from)) × (length (now starts) ≤ longRestsAtMost) × (from ≤ top) × (top ≤ totalAtMost) × Roomy (now table) ⌝ }
     ensures { λ r. ⌜ FirstWithout (now (starts .entry)) (now (ends .entry)) from top r ⌝ }
 {
     let mut next = next_demand(ends, from);
     while next <= top {
-        if !some_reading(starts, ends, next) {
+        if !some_reading(starts, ends, next, table) {
             return next;
         }
         next = next_demand(ends, next);
@@ -239,30 +245,37 @@ fn next_active(words: &[u32], x: u32, bound: u32) -> u32
 }
 
 // The least stretch without a lawful reading, up to one that has none.
-fn least_without(words: &[u32], starts: &[u32], ends: &[u32], bound: u32) -> u32
-    requires { ⌜ (length (minutesOf (now words)) ≤ totalAtMost) × (AllRests (minutesOf (now words)) (now starts) (now ends)) × (Bound (minutesOf (now words)) bound) ⌝ }
+fn least_without(words: &[u32], starts: &[u32], ends: &[u32], bound: u32, table: &mut [u32]) -> u32
+    requires { ⌜ (length (minutesOf (now words)) ≤ totalAtMost) × (AllRests (minutesOf (now words)) (now starts) (now ends)) × (Bound (minutesOf (now words)) bound) × Roomy (now table) ⌝ }
     ensures { λ r. ⌜ r ≡ breachMinute (minutesOf (now (words .entry))) ⌝ }
 {
-    let n = last_day(starts, ends, bound);
+    let n = last_day(starts, ends, bound, table);
     let from = day_start(ends, n);
     let top = day_top(starts, n, bound);
-    let after = first_without(&starts[..n], &ends[..n], from, top);
+    let after = first_without(&starts[..n], &ends[..n], from, top, table);
     next_active(words, after, bound)
 }
 
 // The breach of a recording without a lawful reading, from its long rests and the first breach of a fixed rule.
-fn breach_of(words: &[u32], starts: &[u32], ends: &[u32], total: u32, first: Break) -> Breach
-    requires { ⌜ (length (minutesOf (now words)) ≤ totalAtMost) × (AllRests (minutesOf (now words)) (now starts) (now ends)) × (total ≡ length (minutesOf (now words))) × (first ≡ accountFrom opening (minutesOf (now words)) .first) × ((HasReading (minutesOf (now words)) → ⊥)) ⌝ }
+fn breach_of(
+    words: &[u32],
+    starts: &[u32],
+    ends: &[u32],
+    total: u32,
+    first: Break,
+    table: &mut [u32],
+) -> Breach
+    requires { ⌜ (length (minutesOf (now words)) ≤ totalAtMost) × (AllRests (minutesOf (now words)) (now starts) (now ends)) × (total ≡ length (minutesOf (now words))) × (first ≡ accountFrom opening (minutesOf (now words)) .first) × ((HasReading (minutesOf (now words)) → ⊥)) × Roomy (now table) ⌝ }
     ensures { λ r. ⌜ broken (r .minute) (r .article) ≡ findingOf (verdict (minutesOf (now (words .entry)))) ⌝ }
 {
     if first.rule == 0 {
-        let minute = least_without(words, starts, ends, total);
+        let minute = least_without(words, starts, ends, total, table);
         return Breach {
             minute: minute,
             article: NO_FIXED_RULE,
         };
     }
-    let minute = least_without(words, starts, ends, first.at);
+    let minute = least_without(words, starts, ends, first.at, table);
     if minute < first.at {
         return Breach {
             minute: minute,
@@ -288,11 +301,18 @@ pub fn judge(words: &[u32]) -> Judgement
     let mut ends = [0u32; recording::LONG_RESTS];
     let rests = rests_of(words, total, &mut starts, &mut ends);
     let k = rests.count;
-    if lawful_by(&starts[..k], &ends[..k], rests.judged, rests.rule) {
+    let mut table = [0u32; hopeless::TABLE_WORDS];
+    if lawful_by(
+        &starts[..k],
+        &ends[..k],
+        rests.judged,
+        rests.rule,
+        &mut table,
+    ) {
         return Judgement::Pass;
     }
     let first = rests.first;
-    Judgement::Breached(breach_of(words, &starts[..k], &ends[..k], total, first))
+    Judgement::Breached(breach_of(words, &starts[..k], &ends[..k], total, first, &mut table))
 }
 
 // The first lawful reading of a recording that has one.
@@ -326,10 +346,11 @@ pub fn verdict(words: &[u32], reading: &mut [u8]) -> Outcome
     let whole = rests_of(words, total, &mut starts, &mut ends);
     let k = whole.count;
     let s = whole.judged;
-    if lawful_by(&starts[..k], &ends[..k], s, whole.rule) {
+    let mut table = [0u32; hopeless::TABLE_WORDS];
+    if lawful_by(&starts[..k], &ends[..k], s, whole.rule, &mut table) {
         first_reading::write_first(&starts[..k], &ends[..k], s, &mut reading[..size]);
         return Outcome::Passed(size as u32);
     }
     let first = whole.first;
-    Outcome::Breached(breach_of(words, &starts[..k], &ends[..k], total, first))
+    Outcome::Breached(breach_of(words, &starts[..k], &ends[..k], total, first, &mut table))
 }
