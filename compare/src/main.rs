@@ -14,7 +14,6 @@ mod shorthand;
 mod shrink;
 mod tally;
 
-use std::env::args;
 use std::process::exit;
 use std::time::Instant;
 
@@ -29,7 +28,6 @@ const AT_LEAST: usize = 20_000;
 fn main() {
     let began = Instant::now();
     self_test::run();
-    let scarce = args().any(|word| word == "scarce");
     let plan = Plan {
         random: 9_000,
         few_days: 5_000,
@@ -37,7 +35,7 @@ fn main() {
         grown: 240,
         stages: 5,
         hard: 30,
-        scarce: if scarce { 400 } else { 0 },
+        scarce: 200,
         entries: 20_000,
     };
     let mut tally = Tally::default();
