@@ -1,55 +1,112 @@
-//! The desk and the second program side by side: the time of one verdict on each kind of recording. Their answers must be equal.
+//! The desk and the second program side by side on the same recordings. Their answers must be equal.
+//!
+//! Without a word: the time of one verdict on each kind of recording. `files FOLDER` writes the recordings into a file for each kind,
+//! and `count desk FILE` or `count second FILE` judges those of a file once each: bench/run counts their instructions.
 
 mod desk;
+mod files;
 
 use std::env::args;
+use std::hint::black_box;
+use std::path::Path;
 use std::process::exit;
 use std::time::Instant;
 
 use second::dice::Dice;
 use second::fast::Judge;
 use second::grow;
+use second::verdict::Outcome;
 use second::Limits;
 
-/// Bytes enough for any reading: three for each of at most 223 long rests.
-const READING: usize = 3 * 223;
+/// Bytes enough for any reading.
+const READING: usize = 3 * hours_desk::LONG_RESTS_AT_MOST;
 
 fn main() {
-    println!("kind      recordings  passes   desk median    most   second median    most   (microseconds)");
-    report(
-        "ordinary",
-        (0..400)
-            .map(|seed| grow::ordinary(&mut Dice::new(seed)))
-            .collect(),
-    );
-    report(
-        "grown",
-        (0..200)
-            .map(|seed| grow::grown(&mut Dice::new(seed)))
-            .collect(),
-    );
-    report(
-        "hard",
-        (0..40)
-            .map(|seed| grow::hard(&mut Dice::new(seed), 150))
-            .collect(),
-    );
-    // Many rests just over 24 hours, few that can pay back: the desk may take minutes on one of these.
-    if args().any(|word| word == "scarce") {
-        report(
-            "scarce",
-            (0..400)
-                .map(|seed| grow::scarce(&mut Dice::new(seed)))
-                .collect(),
-        );
+    let words: Vec<String> = args().skip(1).collect();
+    let words: Vec<&str> = words.iter().map(String::as_str).collect();
+    match words[..] {
+        [] => {
+            println!("microseconds  recordings passes  desk median    most  second median    most  ratio of medians");
+            kinds().iter().for_each(|(kind, recordings)| time(kind, recordings));
+        }
+        ["files", folder] => {
+            for (kind, recordings) in kinds().iter().chain(&by_weeks()) {
+                files::write(&Path::new(folder).join(kind), recordings);
+            }
+        }
+        ["count", "desk", file] => files::read(Path::new(file))
+            .iter()
+            .for_each(|words| counted_desk(words)),
+        ["count", "second", file] => files::read(Path::new(file))
+            .iter()
+            .for_each(|words| counted_second(words)),
+        _ => {
+            eprintln!("bench, bench files FOLDER, bench count desk FILE, bench count second FILE");
+            exit(2);
+        }
     }
 }
 
-fn report(kind: &str, recordings: Vec<Vec<u32>>) {
+type Kind = (String, Vec<Vec<u32>>);
+
+fn kind(name: &str, count: u64, grow: impl Fn(&mut Dice) -> Vec<u32>) -> Kind {
+    let recordings = (0..count).map(|seed| grow(&mut Dice::new(seed))).collect();
+    (name.to_owned(), recordings)
+}
+
+/// Ordinary weeks; grown rest by rest while lawful; grown to be hard; many rests just over 24 hours and few that can pay back.
+fn kinds() -> Vec<Kind> {
+    vec![
+        kind("ordinary", 400, grow::ordinary),
+        kind("grown", 200, grow::grown),
+        kind("hard", 40, |dice| grow::hard(dice, 150)),
+        kind("scarce", 100, grow::scarce),
+    ]
+}
+
+/// Ordinary recordings of one to twelve weeks; and of twelve in some two thousand words, each word cut into four.
+fn by_weeks() -> Vec<Kind> {
+    let mut found: Vec<Kind> = (1..=12)
+        .map(|weeks| {
+            kind(&format!("weeks{weeks:02}"), 20, move |dice| {
+                grow::ordinary_weeks(dice, weeks)
+            })
+        })
+        .collect();
+    found.push(kind("weeks12cut", 20, |dice| {
+        grow::ordinary_weeks(dice, 12).iter().flat_map(cut).collect()
+    }));
+    found
+}
+
+/// The same minutes in up to four words.
+fn cut(word: &u32) -> Vec<u32> {
+    let (minutes, activity) = (word / 4, word % 4);
+    (0..4)
+        .map(|part| (minutes + part) / 4)
+        .filter(|&part| part > 0)
+        .map(|part| 4 * part + activity)
+        .collect()
+}
+
+#[inline(never)]
+#[no_mangle]
+pub fn counted_desk(words: &[u32]) {
+    let mut reading = [0; READING];
+    let _ = black_box(hours_desk::verdict(words, &mut reading));
+}
+
+#[inline(never)]
+#[no_mangle]
+pub fn counted_second(words: &[u32]) {
+    black_box(Judge::new(words, &Limits::document()).outcome());
+}
+
+fn time(kind: &str, recordings: &[Vec<u32>]) {
     let limits = Limits::document();
     let (mut ours, mut theirs) = (Vec::new(), Vec::new());
     let mut passes = 0;
-    for words in &recordings {
+    for words in recordings {
         let mut reading = [0; READING];
         let before = Instant::now();
         let ours_says = desk::verdict(words, &mut reading);
@@ -61,16 +118,17 @@ fn report(kind: &str, recordings: Vec<Vec<u32>>) {
             println!("{kind}: {words:?}\n  desk {ours_says:?}\n  second {theirs_says:?}");
             exit(1);
         }
-        passes += usize::from(matches!(theirs_says, second::verdict::Outcome::Pass(_)));
+        passes += usize::from(matches!(theirs_says, Outcome::Pass(_)));
     }
     ours.sort_by(f64::total_cmp);
     theirs.sort_by(f64::total_cmp);
     let n = recordings.len();
     println!(
-        "{kind:9} {n:10} {passes:7} {:13.0} {:7.0} {:15.0} {:7.0}",
+        "{kind:12} {n:11} {passes:6} {:12.0} {:7.0} {:14.0} {:7.0} {:17.2}",
         ours[n / 2],
         ours[n - 1],
         theirs[n / 2],
-        theirs[n - 1]
+        theirs[n - 1],
+        ours[n / 2] / theirs[n / 2],
     );
 }

@@ -49,9 +49,14 @@ impl Draft {
 /// weekly rest around Sunday, or six days and a reduced one, but not twice in
 /// a row. Most are lawful.
 pub fn ordinary(dice: &mut Dice) -> Vec<u32> {
+    let weeks = dice.between(1, 12);
+    ordinary_weeks(dice, weeks)
+}
+
+/// So many of them, at most twelve, and some days of the week after.
+pub fn ordinary_weeks(dice: &mut Dice, weeks: u32) -> Vec<u32> {
     let mut draft = Draft::default();
     let mut days = 5;
-    let weeks = dice.between(1, 12);
     for week in 0..weeks {
         days = if days == 5 && dice.one_in(4) { 6 } else { 5 };
         ordinary_week(dice, &mut draft, week * WEEK, days);
