@@ -137,14 +137,15 @@ fn weighed(dice: &mut Dice, recording: &Input, readings: &[Vec<u8>], tries: &mut
 }
 
 fn list(dice: &mut Dice, recording: &Input, count: usize, tries: &mut Vec<Try>) {
-    for variant in ["just fits", ROOMS[dice.between(1, 3) as usize]] {
-        let records = room(dice, variant, count);
+    let other = one_of(dice, &[Room::ShortByOne, Room::Empty, Room::Longer]);
+    for room in [Room::JustFits, other] {
+        let records = room.length(dice, count);
         let input = Input {
             lent_words: lent(dice, records),
             lent_ends: lent(dice, records),
             ..recording.clone()
         };
-        tries.push(attempt(Operation::List, variant, input));
+        tries.push(attempt(Operation::List, beside(records, count), input));
     }
 }
 

@@ -27,8 +27,6 @@ pub struct Choice {
     pub carrier: usize,
 }
 
-const ENTRY_BYTES: usize = 3;
-
 const DAILY_KIND: u8 = 0;
 
 const WEEKLY_KIND: u8 = 1;
@@ -245,7 +243,7 @@ fn put_entry(reading: &mut [u8], j: usize, kind: u8, week: u8, carrier: u8)
     requires { ⌜ (j < 1000) × (entryBytes * j + 2 < length (now reading)) ⌝ }
     ensures { λ r. ⌜ now (reading .exit) ≡ withEntry (now (reading .entry)) j kind week carrier ⌝ }
 {
-    let at = ENTRY_BYTES * j;
+    let at = entries::ENTRY_BYTES * j;
     let second = at + 1;
     let third = at + 2;
     reading[at] = kind;

@@ -29,8 +29,6 @@ const COUNT: u64 = 17179869184;
 // A unit of a breach's minute.
 const ARTICLES: u64 = 8;
 
-const ENTRY_BYTES: usize = 3;
-
 // A refusal's number; or ANSWER and the count.
 fn count_code(f: Filling) -> u64
     ensures { λ r. ⌜ r ≡ codeOf itself (written f) ⌝ }
@@ -116,11 +114,11 @@ pub extern "C" fn desk_reading_test(words: &[u32], reading: &[u8]) -> u64
 pub extern "C" fn desk_entry(reading: &[u8], number: usize) -> u64
     ensures { λ r. ⌜ r ≡ entryCode (now (reading .entry)) number ⌝ }
 {
-    let part = reading::entry(reading, number);
+    let part = entries::entry(reading, number);
     if part.len() == 0 {
-        return reading::entry_refusal(reading, number) as u64;
+        return entries::entry_refusal(reading, number) as u64;
     }
-    ANSWER + ((ENTRY_BYTES * (number - 1)) as u64)
+    ANSWER + ((entries::ENTRY_BYTES * (number - 1)) as u64)
 }
 
 // Its companion: 0, or the refusal's number.
@@ -128,7 +126,7 @@ pub extern "C" fn desk_entry(reading: &[u8], number: usize) -> u64
 pub extern "C" fn desk_entry_refusal(reading: &[u8], number: usize) -> u64
     ensures { λ r. ⌜ r ≡ entryRefusal (entryAt (now (reading .entry)) number) ⌝ }
 {
-    reading::entry_refusal(reading, number) as u64
+    entries::entry_refusal(reading, number) as u64
 }
 
 // Reading text: a refusal's number; or ANSWER and the count of words.

@@ -1,4 +1,4 @@
-// The reading test, and the entry of a reading.
+// The reading test.
 use fixed::Tested;
 use recording::Weighing;
 use rules::Kind;
@@ -14,7 +14,7 @@ ghost use Rattle.recording.specs.Operations.{totalAtMost};
 ghost use Rattle.rules.specs.Broken.{unless};
 ghost use Rattle.rules.specs.Reading.{isWeekly, isRegular, reductionOf, entries};
 ghost use Rattle.rules.specs.ReadingRules.{formed, rule6, shortened, shortenedAtMost, inGap};
-ghost use Rattle.rules.specs.Operations.{readingTested, entryAt, entryPart, entryRefusal};
+ghost use Rattle.rules.specs.Operations.{readingTested};
 ghost use Rattle.fixed.specs.Walk.{tested};
 ghost use Rattle.reading.specs.Items.{entryBy, endBefore, itemAt, Sane, loadAtMost, Below, restBy, enoughBy, endAt, timeBy, gapBy, shortAfter, tallyBy, paid, bumped, spansIn, Laid, Zeros, Walked, enoughWith, rule11With, restWeeks, spanOf, zeros, laterBy};
 
@@ -78,52 +78,12 @@ pub const WEEKLY_AT_LEAST: u32 = 2;
 
 pub const REGULAR_AT_LEAST: u32 = 1;
 
-const ENTRY_BYTES: usize = 3;
-
-// Refusals, and the rules that are named where they are broken.
-const BAD_COUNT: u32 = 6;
-
-const NO_ENTRY: u32 = 7;
-
+// The rules that are named where they are broken.
 const FORM_BROKEN: u32 = 6;
 
 const NET_BROKEN: u32 = 7;
 
 const PAIRS_BROKEN: u32 = 11;
-
-// The three bytes of the entry of a number, in the caller's reading; empty on a refusal.
-pub fn entry(reading: &[u8], number: usize) -> &[u8]
-    ensures { λ r. ⌜ now r ≡ entryPart (entryAt (now (reading .entry)) number) ⌝ }
-{
-    if reading.len() % ENTRY_BYTES != 0 {
-        return &reading[..0];
-    }
-    if number == 0 {
-        return &reading[..0];
-    }
-    if reading.len() / ENTRY_BYTES < number {
-        return &reading[..0];
-    }
-    let at = ENTRY_BYTES * (number - 1);
-    let end = at + ENTRY_BYTES;
-    &reading[at..end]
-}
-
-// 0, or why there is no such entry: 6 where the byte count is no multiple of 3, then 7 where the number is 0 or over a third of it.
-pub fn entry_refusal(reading: &[u8], number: usize) -> u32
-    ensures { λ r. ⌜ r ≡ entryRefusal (entryAt (now (reading .entry)) number) ⌝ }
-{
-    if reading.len() % ENTRY_BYTES != 0 {
-        return BAD_COUNT;
-    }
-    if number == 0 {
-        return NO_ENTRY;
-    }
-    if reading.len() / ENTRY_BYTES < number {
-        return NO_ENTRY;
-    }
-    0
-}
 
 fn wide(x: u8) -> u32
     ensures { λ r. ⌜ r ≡ x ⌝ }
@@ -147,7 +107,7 @@ fn item_at(starts: &[u32], ends: &[u32], reading: &[u8], loads: &[u32], i: usize
     requires { ⌜ (i < 1000) × (i < length (now starts)) × (i < length (now ends)) × (3 * i + 2 < length (now reading)) × (i < length (now loads)) ⌝ }
     ensures { λ r. ⌜ r ≡ itemAt (now (starts .entry)) (now (ends .entry)) (now (reading .entry)) (now (loads .entry)) i ⌝ }
 {
-    let at = ENTRY_BYTES * i;
+    let at = entries::ENTRY_BYTES * i;
     let week = at + 1;
     let carrier = at + 2;
     Item {
@@ -476,7 +436,7 @@ fn rest_walk(
 }
 
 // Whether the week w lies inside a rest.
-fn holds_week(start: u32, end: u32, w: u32) -> bool
+pub fn holds_week(start: u32, end: u32, w: u32) -> bool
     requires { ⌜ w < 255 ⌝ }
     ensures { λ r. ⌜ r ≡ inside (week w) (spanOf start end) ⌝ }
 {
@@ -632,8 +592,8 @@ pub fn reading_test(words: &[u32], reading: &[u8]) -> Tested
     let count = measure.count as usize;
     let total = measure.total;
     let judged = measure.judged;
-    if reading.len() != ENTRY_BYTES * count {
-        return Tested::Refused(BAD_COUNT);
+    if reading.len() != entries::ENTRY_BYTES * count {
+        return Tested::Refused(entries::BAD_COUNT);
     }
     let mut starts = [0u32; recording::LONG_RESTS];
     let mut ends = [0u32; recording::LONG_RESTS];

@@ -72,14 +72,14 @@ fn show_entry(reading: &[u8], number: usize) {
     io::write_all(STDOUT_FILENO, b"entry ");
     io::print_decimal(STDOUT_FILENO, number as u64);
     io::write_all(STDOUT_FILENO, b": ");
-    let refusal = reading::entry_refusal(reading, number);
+    let refusal = entries::entry_refusal(reading, number);
     if refusal != 0 {
         io::write_all(STDOUT_FILENO, b"refused ");
         show_number(refusal);
         io::write_all(STDOUT_FILENO, b"\n");
         return;
     }
-    io::write_all(STDOUT_FILENO, reading::entry(reading, number));
+    io::write_all(STDOUT_FILENO, entries::entry(reading, number));
     io::write_all(STDOUT_FILENO, b"\n");
 }
 

@@ -344,7 +344,7 @@ pub fn in_week(
     let Brought::To(there) = steps::advance(starts, ends, j + 1, here, w) else {
         return false;
     };
-    let rest = steps::covers_week(starts[j], ends[j], w);
+    let rest = reading::holds_week(starts[j], ends[j], w);
     let regular = reading::REGULAR + load <= ends[j] - starts[j];
     let next = steps::after_weekly(there, rest, regular, ends[j]);
     count_in(starts, ends, promised, s, owed, table, j, load, w, next, n)

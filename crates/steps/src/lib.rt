@@ -10,7 +10,7 @@ ghost use Rattle.recording.specs.Tests.{pick};
 ghost use Rattle.recording.specs.Operations.{totalAtMost};
 ghost use Rattle.recording.specs.Weeks.{week, weekOf, inside};
 ghost use Rattle.rules.specs.ReadingRules.{shortenedAtMost, weeklyAtLeast, regularAtLeast};
-ghost use Rattle.reading.specs.Items.{loadAtMost, endBefore, spanOf, spanAt, spansIn, restWeeks, Zeros};
+ghost use Rattle.reading.specs.Items.{loadAtMost, endBefore, spanAt, spansIn, restWeeks, Zeros};
 ghost use Rattle.completion.specs.States.{freshCounts, countedMore, startState, pairKept, nextWeek, advance as advanced, afterDaily, afterWeekly};
 ghost use Rattle.completion.specs.Completable.{at, dueOf, debtOf, Overdue};
 ghost use Rattle.completion.specs.Better.{Small, bestState};
@@ -134,17 +134,6 @@ pub fn next_week(st: State, rest: bool) -> State
     }
 }
 
-// Whether the week w lies inside a rest.
-pub fn covers_week(start: u32, end: u32, w: u32) -> bool
-    requires { ⌜ w < 255 ⌝ }
-    ensures { λ r. ⌜ r ≡ inside (week w) (spanOf start end) ⌝ }
-{
-    if recording::WEEK_MINUTES * w < start {
-        return false;
-    }
-    recording::WEEK_MINUTES * (w + 1) <= end
-}
-
 // Whether the week w lies inside the long rest of index j, if there is one.
 fn in_rest(starts: &[u32], ends: &[u32], j: usize, w: u32) -> bool
     requires { ⌜ (length (now ends) ≡ length (now starts)) × (w < 255) ⌝ }
@@ -153,7 +142,7 @@ fn in_rest(starts: &[u32], ends: &[u32], j: usize, w: u32) -> bool
     if starts.len() <= j {
         return false;
     }
-    covers_week(starts[j], ends[j], w)
+    reading::holds_week(starts[j], ends[j], w)
 }
 
 // Whether the week w, between the starts of the long rests before j and of j, is one of rest minutes only.

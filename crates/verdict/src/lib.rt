@@ -49,8 +49,6 @@ pub struct Rests {
 // The article of a breach where all fixed rules hold.
 const NO_FIXED_RULE: u32 = 6;
 
-const ENTRY_BYTES: usize = 3;
-
 // The long rests of the first m minutes into two slices.
 fn rests_of(words: &[u32], m: u32, starts: &mut [u32], ends: &mut [u32]) -> Rests
     requires { ⌜ (length (minutesOf (now words)) ≤ totalAtMost) × (longRestsAtMost ≤ length (now starts)) × (longRestsAtMost ≤ length (now ends)) ⌝ }
@@ -337,7 +335,7 @@ pub fn verdict(words: &[u32], reading: &mut [u8]) -> Outcome
     };
     let total = measure.total;
     let count = measure.count;
-    let size = ENTRY_BYTES * (count as usize);
+    let size = entries::ENTRY_BYTES * (count as usize);
     if reading.len() < size {
         return Outcome::Refused(4);
     }

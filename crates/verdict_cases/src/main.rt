@@ -158,7 +158,7 @@ fn show_entries(reading: &[u8]) {
     let mut number = 0;
     while number < count {
         number += 1;
-        show_entry(reading::entry(reading, number));
+        show_entry(entries::entry(reading, number));
     }
 }
 

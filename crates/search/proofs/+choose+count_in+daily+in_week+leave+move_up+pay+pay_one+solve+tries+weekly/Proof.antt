@@ -56,12 +56,12 @@ use Rattle.search.proofs.weekly.Kinds as weekly-kinds
 use Rattle.search.proofs.+choose+count_in+daily+in_week+leave+move_up+pay+pay_one+solve+tries+weekly.Lts-weekly as weekly-lts
 use Rattle.hopeless.proofs.known.Reads as known-reads
 use Rattle.hopeless.proofs.remember.Reads as remember-reads
+use Rattle.reading.proofs.holds_week.Reads as holds-week-reads
 use Rattle.search.proofs.closes.Reads as closes-reads
 use Rattle.steps.proofs.advance.Reads as advance-reads
 use Rattle.steps.proofs.after_daily.Reads as after-daily-reads
 use Rattle.steps.proofs.after_weekly.Reads as after-weekly-reads
 use Rattle.steps.proofs.brief.Reads as brief-reads
-use Rattle.steps.proofs.covers_week.Reads as covers-week-reads
 use Rattle.steps.proofs.debt_of.Reads as debt-of-reads
 use Rattle.steps.proofs.debtor.Reads as debtor-reads
 use Rattle.steps.proofs.outstanding.Reads as outstanding-reads
@@ -184,7 +184,7 @@ abbrev daily-calls : ℕ → daily-lts.Claims
 daily-calls t = (brief-reads.Asked, brief-reads.Learnt, after-daily-reads.Asked, after-daily-reads.Learnt, solve-below t, solve.Post)
 
 abbrev in-week-calls : ℕ → in-week-lts.Claims
-in-week-calls t = (advance-reads.Asked, advance-reads.Learnt, covers-week-reads.Asked, covers-week-reads.Learnt, after-weekly-reads.Asked, after-weekly-reads.Learnt, count-in-below t, count-in.Post)
+in-week-calls t = (advance-reads.Asked, advance-reads.Learnt, holds-week-reads.Asked, holds-week-reads.Learnt, after-weekly-reads.Asked, after-weekly-reads.Learnt, count-in-below t, count-in.Post)
 
 abbrev leave-calls : ℕ → leave-lts.Claims
 leave-calls t = (move-up-below t, move-up.Post)
@@ -352,8 +352,8 @@ in-week-returns t c =
     let lies = s .pre .1 .0 .lies in
     law.refuse (law.not-counted k lies (s .args .j) (s .args .here) (now (s .args .owed)) (s .args .load) (s .args .w) (c .before .before .advance .ensures) (c .enum-told .given .1)) refl (s .pre .1 .1)
 
-in-week-covers-week-requires : (t : ℕ) → in-week-lts.Need-covers-week-requires (in-week-calls t) (in-week-at t) in-week.Post
-in-week-covers-week-requires t c κs =
+in-week-holds-week-requires : (t : ℕ) → in-week-lts.Need-holds-week-requires (in-week-calls t) (in-week-at t) in-week.Post
+in-week-holds-week-requires t c κs =
     let s = (c .before .before .before .before .before .before .before .before .before .before .before) in
     let lies = s .pre .1 .0 .lies in
     omega (arith, s .pre .1 .5, (lies .judged (s .args .j) (s .pre .1 .2 .within)), s .pre .1 .0 .judged)
@@ -381,15 +381,15 @@ in-week-count-in-requires t c κs =
     let s = (c .before .before .before .before .before .before .before .before .before .before .before .before .before .before .before .before .before .before) in
     let k = courseOf (now (s .args .starts)) (now (s .args .ends)) (now (s .args .promised)) (s .args .s) in
     let lies = s .pre .1 .0 .lies in
-    (omega (arith, s .pre .0, s .pre .1 .2 .within), (s .pre .1 .0, s .pre .1 .1, (s .pre .1 .2 .within), law.before-weekly k lies (s .args .j) (s .args .here) (now (s .args .owed)) (s .args .load) (s .args .w) (c .before .before .before .before .before .before .covers-week .result) (leb (regularMinutes + s .args .load) (lengthAt k (s .args .j))) (c .before .before .before .before .before .before .before .before .before .before .before .before .advance .ensures) (c .before .before .before .before .before .before .before .before .before .before .there .given .1) (c .before .before .after-weekly .ensures) (s .pre .1 .2) (s .pre .1 .4) (s .pre .1 .5), s .pre .1 .3, s .pre .1 .5))
+    (omega (arith, s .pre .0, s .pre .1 .2 .within), (s .pre .1 .0, s .pre .1 .1, (s .pre .1 .2 .within), law.before-weekly k lies (s .args .j) (s .args .here) (now (s .args .owed)) (s .args .load) (s .args .w) (c .before .before .before .before .before .before .holds-week .result) (leb (regularMinutes + s .args .load) (lengthAt k (s .args .j))) (c .before .before .before .before .before .before .before .before .before .before .before .before .advance .ensures) (c .before .before .before .before .before .before .before .before .before .before .there .given .1) (c .before .before .after-weekly .ensures) (s .pre .1 .2) (s .pre .1 .4) (s .pre .1 .5), s .pre .1 .3, s .pre .1 .5))
 
 in-week-returns-2 : (t : ℕ) → in-week-lts.Need-returns-2 (in-week-calls t) (in-week-at t) in-week.Post
 in-week-returns-2 t c =
     let s = (c .before .before .before .before .before .before .before .before .before .before .before .before .before .before .before .before .before .before .before .before .before .before .before) in
     let k = courseOf (now (s .args .starts)) (now (s .args .ends)) (now (s .args .promised)) (s .args .s) in
     let lies = s .pre .1 .0 .lies in
-    let of-covers-week = c .before .before .before .before .before .before .before .before .before .before .before .covers-week in
-    law.as-counted k lies (s .args .j) (s .args .here) (now (s .args .owed)) (s .args .load) (s .args .w) (of-covers-week .result) (leb (regularMinutes + s .args .load) (lengthAt k (s .args .j))) (c .before .before .before .before .before .before .before .before .before .before .before .before .before .before .before .before .before .advance .ensures) (c .before .before .before .before .before .before .before .before .before .before .before .before .before .before .before .there .given .1) (c .before .before .before .before .before .before .before .after-weekly .ensures) (of-covers-week .ensures ∙ sym (week-of-rest (now (s .args .starts)) (now (s .args .ends)) (s .args .w) (in-order k lies) (s .args .j) (s .pre .1 .2 .within) (s .pre .1 .4) (s .pre .1 .5))) refl (c .before .before .before .before .count-in .ensures)
+    let of-holds-week = c .before .before .before .before .before .before .before .before .before .before .before .holds-week in
+    law.as-counted k lies (s .args .j) (s .args .here) (now (s .args .owed)) (s .args .load) (s .args .w) (of-holds-week .result) (leb (regularMinutes + s .args .load) (lengthAt k (s .args .j))) (c .before .before .before .before .before .before .before .before .before .before .before .before .before .before .before .before .before .advance .ensures) (c .before .before .before .before .before .before .before .before .before .before .before .before .before .before .before .there .given .1) (c .before .before .before .before .before .before .before .after-weekly .ensures) (of-holds-week .ensures ∙ sym (week-of-rest (now (s .args .starts)) (now (s .args .ends)) (s .args .w) (in-order k lies) (s .args .j) (s .pre .1 .2 .within) (s .pre .1 .4) (s .pre .1 .5))) refl (c .before .before .before .before .count-in .ensures)
 
 leave-array-borrow-prefix-left : (t : ℕ) → leave-lts.Need-array-borrow-prefix-left (leave-calls t) (leave-at t) leave.Post
 leave-array-borrow-prefix-left t c =
@@ -764,7 +764,7 @@ pub +choose+count-in+daily+in-week+leave+move-up+pay+pay-one+solve+tries+weekly-
     (λ c. search needs)
     (λ c. search needs)
     (λ c. search needs)
-    (in-week-covers-week-requires t)
+    (in-week-holds-week-requires t)
     (in-week-add-regular t)
     (λ c. search needs)
     (λ c. search needs)

@@ -1,10 +1,10 @@
--- `reading::entry_refusal` meets its contract. Assumes nothing.
+-- `entries::entry_refusal` meets its contract. Assumes nothing.
 use borrow.Author.Tests.{eq-eqb, ne-eqb, le-ltb, lt-ltb}
 use Rattle.recording.specs.Tests.{_or_}
 use Rattle.rules.specs.Operations.{entryAt}
 use Prim.Native.Nat.{_-_}
-use Rattle.reading.proofs.entry_refusal.Statement.{statement}
-use Rattle.reading.proofs.entry_refusal.Tie as tie
+use Rattle.entries.proofs.entry_refusal.Statement.{statement}
+use Rattle.entries.proofs.entry_refusal.Tie as tie
 
 returns : tie.Need-returns
 unfolding entryAt _or_

@@ -1,4 +1,4 @@
--- `reading::entry` meets its contract. Assumes nothing.
+-- `entries::entry` meets its contract. Assumes nothing.
 use mathlib.Core.Path.{_≡_}
 use mathlib.Core.List.{List}
 use native.Mathlib.Omega.{arith}
@@ -9,8 +9,8 @@ use Rattle.rules.specs.Operations.{entryAt}
 use Rattle.rules.specs.Reading.{entryBytes}
 use Prim.Native.Nat.{ℕ, _+_, _-_, _*_}
 use lib.ListN.{take, drop}
-use Rattle.reading.proofs.entry.Statement.{statement}
-use Rattle.reading.proofs.entry.Tie as tie
+use Rattle.entries.proofs.entry.Statement.{statement}
+use Rattle.entries.proofs.entry.Tie as tie
 
 returns : tie.Need-returns
 unfolding entryAt _or_

@@ -1,0 +1,44 @@
+// The entry of a reading: the three bytes of a long rest, in the caller's own slice.
+ghost use mathlib.Core.Path.{_≡_};
+ghost use Rattle.rules.specs.Operations.{entryAt, entryPart, entryRefusal};
+
+pub const ENTRY_BYTES: usize = 3;
+
+// Refusals: a byte count that is not one of entries, and no entry of that number.
+pub const BAD_COUNT: u32 = 6;
+
+const NO_ENTRY: u32 = 7;
+
+// The three bytes of the entry of a number, in the caller's reading; empty on a refusal.
+pub fn entry(reading: &[u8], number: usize) -> &[u8]
+    ensures { λ r. ⌜ now r ≡ entryPart (entryAt (now (reading .entry)) number) ⌝ }
+{
+    if reading.len() % ENTRY_BYTES != 0 {
+        return &reading[..0];
+    }
+    if number == 0 {
+        return &reading[..0];
+    }
+    if reading.len() / ENTRY_BYTES < number {
+        return &reading[..0];
+    }
+    let at = ENTRY_BYTES * (number - 1);
+    let end = at + ENTRY_BYTES;
+    &reading[at..end]
+}
+
+// 0, or why there is no such entry: 6 where the byte count is no multiple of 3, then 7 where the number is 0 or over a third of it.
+pub fn entry_refusal(reading: &[u8], number: usize) -> u32
+    ensures { λ r. ⌜ r ≡ entryRefusal (entryAt (now (reading .entry)) number) ⌝ }
+{
+    if reading.len() % ENTRY_BYTES != 0 {
+        return BAD_COUNT;
+    }
+    if number == 0 {
+        return NO_ENTRY;
+    }
+    if reading.len() / ENTRY_BYTES < number {
+        return NO_ENTRY;
+    }
+    0
+}
