@@ -13,7 +13,7 @@ use Rattle.completion.specs.Better.{Within}
 
 -- the entries of a level; an entry's words of the state and the number of its debts, and its debts
 abbrev pub ringSize : ℕ
-ringSize = 32
+ringSize = 16
 
 abbrev pub stateWords : ℕ
 stateWords = 7

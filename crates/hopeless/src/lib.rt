@@ -11,7 +11,7 @@ ghost use Rattle.completion.specs.Better.{Within};
 ghost use Rattle.hopeless.specs.Table.{ringSize, debtsAtMost, entryWords, levelWords, Paired, Beats, Known, Remembered, Empty, owing, stated, Put, PutAll};
 
 // A level has a word that says how many states were stored, and a ring of so many entries.
-const RING: u32 = 32;
+const RING: u32 = 16;
 
 // An entry has a state's six numbers and the number of its debts; so many debts at the most.
 const DEBTS_AT: usize = 6;
@@ -22,10 +22,10 @@ const DEBTS_AT_MOST: u32 = 8;
 
 const ENTRY_WORDS: usize = 15;
 
-pub const LEVEL_WORDS: usize = 481;
+pub const LEVEL_WORDS: usize = 241;
 
 // A table for as many rests as there can be: LEVEL_WORDS for each.
-pub const TABLE_WORDS: usize = 107263;
+pub const TABLE_WORDS: usize = 53743;
 
 // The first k levels are emptied.
 pub fn clear(table: &mut [u32], k: usize)

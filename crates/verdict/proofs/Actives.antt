@@ -2,14 +2,14 @@
 use mathlib.Core.Path.{_≡_, refl, sym, ap, _∙_}
 use mathlib.Core.Logic.{_⊎_, inl, inr}
 use mathlib.Core.List.{List, _++_}
-use Prim.Native.Nat.{ℕ, suc, _+_, _-_, _≤_, _<_}
+use Prim.Native.Nat.{ℕ, suc, _+_, _-_, _≤_, _<_, min}
 use native.Mathlib.Numerals.{add-one}
 use native.Mathlib.Omega.{arith}
 use lib.ListN.{length, getD, drop, replicate, length-append, length-replicate, getD-replicate, List·getD-append}
 use lib.Seq.{drop-cons, drop-length, getD-append-add}
 use Rattle.recording.specs.Words.{rest, minutesIn, activityIn, minutesOf}
 use Rattle.recording.proofs.TestLaws.{less-or-not}
-use Rattle.verdict.specs.Verdicts.{Later, NextActive}
+use Rattle.verdict.specs.Verdicts.{laterOf, NextActive}
 
 -- before the word of index i, which begins at the minute `now`: the minutes from x - 1 on were rest
 pub record Ahead (ws : List ℕ) (x now i : ℕ) : Type 0 where
@@ -68,35 +68,19 @@ module _ {ws : List ℕ} {x now i : ℕ} (k : Ahead ws x now i) (h : i < length 
   pub rest-on : activityIn (getD ws i 0) ≡ rest → Ahead ws x (now + minutesIn (getD ws i 0)) (i + 1)
   rest-on e = ahead-on (λ j l g q. in-run j l g ∙ e)
 
-  module _ {first : ℕ} (a : Later (now + 1) x first) where
+  module _ {first : ℕ} (e : first ≡ laterOf (now + 1) x) where
     pub short-on : now + minutesIn (getD ws i 0) < first → Ahead ws x (now + minutesIn (getD ws i 0)) (i + 1)
-    short-on l = ahead-on (λ j g q r. absurd (none j g q r (a .is)))
-      where
-        none : (j : ℕ) → now ≤ j → j < now + minutesIn (getD ws i 0) → x ≤ suc j → (first ≡ now + 1) ⊎ (first ≡ x) → ⊥
-        none j g q r (inl e) = omega arith
-        none j g q r (inr e) = omega arith
+    short-on l = ahead-on (λ j g q r. absurd (omega arith))
 
     -- a word of another activity that goes on from there
-    module _ {bound : ℕ} (limit : x ≤ bound) (busy : activityIn (getD ws i 0) ≡ rest → ⊥) (reached : first ≤ now + minutesIn (getD ws i 0)) where
-      before-first : (j : ℕ) → x ≤ suc j → suc j < first → (first ≡ now + 1) ⊎ (first ≡ x) → getD (minutesOf ws) j 0 ≡ rest
-      before-first j l g (inl e) = k .rested j (omega arith) l
-      before-first j l g (inr e) = absurd (omega arith)
-
-      pub active-there : first < bound → NextActive (minutesOf ws) x bound first
-      active-there l = record {
-        from = a .second;
-        within = omega arith;
-        resting = λ j g q. before-first j g q (a .is);
-        active = λ g j e z. busy (sym (in-run j (omega (arith, a .first)) (omega arith)) ∙ z);
-      }
-
-      pub active-past : bound ≤ first → NextActive (minutesOf ws) x bound bound
-      active-past l = record {
-        from = limit;
-        within = omega arith;
-        resting = λ j g q. before-first j g (omega arith) (a .is);
-        active = λ g. absurd (omega arith);
-      }
+    pub active-there : {bound r : ℕ} → x ≤ bound → (activityIn (getD ws i 0) ≡ rest → ⊥) → first ≤ now + minutesIn (getD ws i 0) → r ≡ min first bound
+        → NextActive (minutesOf ws) x bound r
+    active-there limit busy reached q = record {
+      from = omega arith;
+      within = omega arith;
+      resting = λ j g l. k .rested j (omega arith) g;
+      active = λ l j p z. busy (sym (in-run j (omega arith) (omega arith)) ∙ z);
+    }
 
 pub all-rested : {ws : List ℕ} {x now i bound : ℕ} → Ahead ws x now i → i ≡ length ws → x ≤ bound → bound ≤ length (minutesOf ws) → NextActive (minutesOf ws) x bound bound
 unfolding minutesOf

@@ -1,6 +1,6 @@
 -- What the verdict answers at each return. Assumes nothing.
 use mathlib.Core.Path.{_≡_, refl, sym, ap, subst, _∙_}
-use mathlib.Core.Bool.{Bool, true, false, not}
+use mathlib.Core.Bool.{true, false, not}
 use mathlib.Core.List.{List, [], _∷_, _++_}
 use mathlib.Core.Option.{Option, none, some}
 use Prim.Native.Nat.{ℕ, zero, suc, _*_, _≤_, _<_}
@@ -18,15 +18,14 @@ use Rattle.recording.proofs.LongRests.{few-rests}
 use Rattle.recording.proofs.Listing.{measured-is}
 use Rattle.rules.specs.Reading.{entryBytes, readingSize}
 use Rattle.rules.specs.Order.{Bytes}
-use Rattle.rules.specs.Verdict.{prefix, isNone, firstLawful, Verdict, pass, breach, verdict}
+use Rattle.rules.specs.Verdict.{prefix, isNone, firstLawful, breachMinute, article, Verdict, pass, breach, verdictBy, verdict}
 use Rattle.rules.specs.Operations.{judged, Outcome, passed, breached, outcome, readingAfter}
 use Rattle.rules.proofs.Breach.{first-sound, verdict-pass, some-first}
-use Rattle.fixed.specs.Account.{accountFrom, opening}
 use Rattle.completion.specs.Completable.{Course, Lies}
 use Rattle.first_reading.specs.First.{Least, restsOnly}
-use Rattle.verdict.specs.Verdicts.{Cut, ByRule, HasReading, Finding, unbroken, broken, findingOf, found, AllRests}
+use Rattle.verdict.specs.Verdicts.{Cut, HasReading, Finding, unbroken, broken, findingOf, found, Whole}
 use Rattle.verdict.specs.declared.Rests.{Rests}
-use Rattle.verdict.proofs.Lawfulness.{to-has, starts-size, ends-size, rests-lie, rests-few, judged-low, lawful-there, all-rests, first-there, reading-size, first-least-there}
+use Rattle.verdict.proofs.Lawfulness.{to-has, starts-size, ends-size, rests-lie, rests-few, judged-low, whole-there, reading-size, first-least-there}
 
 -- a first lawful reading, where the answer says that there is one
 first-is : (ms : List ℕ) → true ≡ not (isNone (firstLawful ms)) → (f : List ℕ) × (firstLawful ms ≡ some f)
@@ -36,7 +35,7 @@ first-is ms e = at (firstLawful ms) refl e
     at none q e = clash true refl e
     at (some f) q e = (f, q)
 
-none-is : (ms : List ℕ) → false ≡ not (isNone (firstLawful ms)) → HasReading ms → ⊥
+pub none-is : (ms : List ℕ) → false ≡ not (isNone (firstLawful ms)) → HasReading ms → ⊥
 none-is ms e h = clash true refl (sym (e ∙ ap not (some-first ms (to-has h))))
 
 bytes-length : (n : ℕ) (r : List ℕ) → Bytes n r → length r ≡ n
@@ -61,6 +60,19 @@ IsBroken (broken m a) = Unit {0}
 breach-found : (v : Verdict) {m a : ℕ} → broken m a ≡ findingOf v → breach m a ≡ v
 breach-found (pass r) e = absurd (subst IsBroken e tt)
 breach-found (breach m a) e = λ i. breach (minuteIn (e i)) (articleIn (e i))
+
+-- what the long rests come to
+pub lawful-found : (ms : List ℕ) → true ≡ not (isNone (firstLawful ms)) → unbroken ≡ findingOf (verdict ms)
+lawful-found ms e = let f = first-is ms e in sym (ap findingOf (verdict-pass ms (f .0) (f .1)))
+
+unbroken-first : (ms : List ℕ) → unbroken ≡ findingOf (verdict ms) → (f : List ℕ) × (firstLawful ms ≡ some f)
+unfolding verdict
+unbroken-first ms e = at (firstLawful ms) refl e
+  where
+    at : (o : Option (List ℕ)) → firstLawful ms ≡ o → unbroken ≡ findingOf (verdictBy o (breachMinute ms) (article (prefix (breachMinute ms) ms)))
+        → (f : List ℕ) × (firstLawful ms ≡ some f)
+    at none q e = absurd (subst IsBroken (sym e) tt)
+    at (some f) q e = (f, q)
 
 module _ (ws : List ℕ) where
   pub found-refused : {n : ℕ} → measured ws ≡ refused n → refused n ≡ found ws
@@ -96,17 +108,11 @@ module _ (ws : List ℕ) where
       pub ends-there : r .count ≡ length (take (r .count) ends)
       ends-there = ends-size ws (k .total) within c
 
+      pub ruling-there : (length (minutesOf ws) ≤ totalAtMost) × (k .total ≡ length (minutesOf ws)) × Whole (minutesOf ws) (take (r .count) starts) (take (r .count) ends) r
+      ruling-there = (within, total-is, whole-there ws (k .total) within c total-is)
+
       pub rests-there : Lies lentRests × (length (take (r .count) starts) ≤ longRestsAtMost) × (r .judged ≤ totalAtMost)
       rests-there = (rests-lie ws (k .total) within c, rests-few ws (k .total) within c, judged-low ws (k .total) within c)
-
-      pub whole-lawful : {t : Bool} → ByRule lentRests (r .rule) t → t ≡ not (isNone (firstLawful (minutesOf ws)))
-      whole-lawful a = lawful-there ws (k .total) within c a ∙ ap (λ (l : List ℕ). not (isNone (firstLawful l))) whole
-
-      pub breach-there : {t : Bool} → ByRule lentRests (r .rule) t → t ≡ false
-          → (length (minutesOf ws) ≤ totalAtMost) × AllRests (minutesOf ws) (take (r .count) starts) (take (r .count) ends) × (k .total ≡ length (minutesOf ws))
-          × (r .first ≡ accountFrom opening (minutesOf ws) .first) × (HasReading (minutesOf ws) → ⊥)
-      breach-there a f =
-          (within, all-rests ws (k .total) within c total-is, total-is, first-there ws (k .total) within c total-is, none-is _ (sym f ∙ whole-lawful a))
 
       pub size-there : {n : ℕ} → n ≡ readingSize (minutesOf ws) → n ≡ entryBytes * length (take (r .count) starts)
       size-there = reading-size ws (k .total) within c total-is
@@ -117,13 +123,8 @@ module _ (ws : List ℕ) where
     found-is : found ws ≡ answered (findingOf (verdict (minutesOf ws)))
     found-is = ap (λ (a : Answer Measure). andThen a (λ _. answered (findingOf (verdict (minutesOf ws))))) q
 
-    pub found-pass : true ≡ not (isNone (firstLawful (minutesOf ws))) → answered unbroken ≡ found ws
-    found-pass e =
-        let f = first-is (minutesOf ws) e in
-        sym (found-is ∙ ap (λ (v : Verdict). answered (findingOf v)) (verdict-pass (minutesOf ws) (f .0) (f .1)))
-
-    pub found-breach : {m a : ℕ} → broken m a ≡ findingOf (verdict (minutesOf ws)) → answered (broken m a) ≡ found ws
-    found-breach e = ap answered e ∙ sym found-is
+    pub found-told : {f : Finding} → f ≡ findingOf (verdict (minutesOf ws)) → answered f ≡ found ws
+    found-told e = ap answered e ∙ sym found-is
 
 -- ---- the verdict and its buffer
 module _ (ws old : List ℕ) where
@@ -161,11 +162,11 @@ module _ (ws old : List ℕ) where
       pub front-reading : length (take (entryBytes * k .count) old) ≡ readingSize (minutesOf ws)
       front-reading = sym front-size ∙ size-is
 
-      pub told-pass : {new : List ℕ} → true ≡ not (isNone (firstLawful (minutesOf ws)))
+      pub told-pass : {new : List ℕ} → unbroken ≡ findingOf (verdict (minutesOf ws))
           → ((f : List ℕ) → firstLawful (minutesOf ws) ≡ some f → new ≡ f)
           → Told (answered (passed (entryBytes * k .count))) (new ++ drop (entryBytes * k .count) old)
       told-pass {new} e w =
-          let f = first-is (minutesOf ws) e in
+          let f = unbroken-first (minutesOf ws) e in
           let n : length (f .0) ≡ entryBytes * k .count = bytes-length _ (f .0) (first-sound (minutesOf ws) (f .1) .bytes) ∙ sym size-is in
           told (judged-is ∙ ap answered (verdict-pass (minutesOf ws) (f .0) (f .1)))
           (ap (λ (x : ℕ). answered (passed x)) (sym n))

@@ -36,7 +36,7 @@ use Rattle.search.specs.Search.{Found, courseOf, Sound, Lent}
 use Rattle.hopeless.specs.Table.{levelWords}
 use Rattle.first_reading.specs.First.{KeptBy, Least, restsOnly}
 use Rattle.fixed.specs.Account.{accountFrom, opening}
-use Rattle.verdict.specs.Verdicts.{Cut, HasKept, Some, ByRule, HasReading, Readable, AllRests}
+use Rattle.verdict.specs.Verdicts.{Cut, HasKept, Some, ByRule, HasReading, Readable, AllRests, Whole}
 use Rattle.verdict.specs.declared.Rests.{Rests}
 
 -- ---- the front of an array of zeros
@@ -229,6 +229,11 @@ module _ (ms : List ℕ) {r : Bool} (a : Readable ms r) where
       at true e = sym (ap not (some-first ms (to-has (a .yes e f))))
       at false e = sym (ap (λ (o : Option (List ℕ)). not (isNone o)) (is-none ms (λ h. a .no e (from-has h))))
 
+-- the answer that goes by the fixed rules first
+pub by-fixed : (ms : List ℕ) (rule : ℕ) {t : Bool} → fixedTest ms ≡ rule → ByRule (restsIn ms) rule t → t ≡ not (isNone (firstLawful ms))
+by-fixed ms zero e a = has-it ms (readable ms (a .unfixed refl)) e
+by-fixed ms (suc n) e a = a .fixed (λ z. omega arith) ∙ has-none ms (λ z. omega arith)
+
 -- ---- the rests of a stretch, as one walk leaves them in two slices
 module _ (ws : List ℕ) (m : ℕ) (within : length (minutesOf ws) ≤ totalAtMost) {r : Rests} {starts ends : List ℕ} (q : Cut ws m r starts ends) where
   abbrev stretch : List ℕ
@@ -257,16 +262,8 @@ module _ (ws : List ℕ) (m : ℕ) (within : length (minutesOf ws) ≤ totalAtMo
       let e : length (take m (minutesOf ws)) ≡ min m (length (minutesOf ws)) = length-take m (minutesOf ws) in
       omega (arith, q .judged, judged-within stretch, e, within)
 
-  pub stretch-readable : {t : Bool} → Some lentRests t → Readable stretch t
-  stretch-readable {t} a = readable stretch (subst (λ (c : Course). Some c t) course-is a)
-
-  -- the answer that goes by the fixed rules first
   pub lawful-there : {t : Bool} → ByRule lentRests (r .rule) t → t ≡ not (isNone (firstLawful stretch))
-  lawful-there {t} a = by-rule (r .rule) refl
-    where
-      by-rule : (n : ℕ) → r .rule ≡ n → t ≡ not (isNone (firstLawful stretch))
-      by-rule zero e = has-it stretch (stretch-readable (a .unfixed e)) (sym (q .fixed) ∙ e)
-      by-rule (suc n) e = a .fixed (λ z. omega arith) ∙ has-none stretch (λ z. let y = q .fixed ∙ z in omega arith)
+  lawful-there {t} a = by-fixed stretch (r .rule) (sym (q .fixed)) (subst (λ (c : Course). ByRule c (r .rule) t) course-is a)
 
   pub stretch-least : {f : List ℕ} → firstLawful stretch ≡ some f → Least lentRests f
   stretch-least {f} e = subst (λ (c : Course). Least c f) (sym course-is) (least stretch e)
@@ -276,14 +273,19 @@ module _ (ws : List ℕ) (m : ℕ) (within : length (minutesOf ws) ≤ totalAtMo
     whole : stretch ≡ minutesOf ws
     whole = ap (λ (n : ℕ). take n (minutesOf ws)) e ∙ take-length (minutesOf ws)
 
-    pub all-rests : AllRests (minutesOf ws) (take (r .count) starts) (take (r .count) ends)
+    all-rests : AllRests (minutesOf ws) (take (r .count) starts) (take (r .count) ends)
     all-rests = record {
       begun = q .begun ∙ ap (λ (l : List ℕ). map (λ (x : Span). x .start) (longRests l)) whole;
       ended = q .ended ∙ ap (λ (l : List ℕ). map (λ (x : Span). x .end) (longRests l)) whole;
     }
 
-    pub first-there : r .first ≡ accountFrom opening (minutesOf ws) .first
-    first-there = q .first ∙ ap (λ (l : List ℕ). accountFrom opening l .first) whole
+    pub whole-there : Whole (minutesOf ws) (take (r .count) starts) (take (r .count) ends) r
+    whole-there = record {
+      rests = all-rests;
+      judged = q .judged ∙ ap judgedEnd whole;
+      fixed = q .fixed ∙ ap fixedTest whole;
+      first = q .first ∙ ap (λ (l : List ℕ). accountFrom opening l .first) whole;
+    }
 
     pub reading-size : {n : ℕ} → n ≡ readingSize (minutesOf ws) → n ≡ entryBytes * length (take (r .count) starts)
     unfolding readingSize
@@ -302,3 +304,14 @@ module _ {ms starts ends : List ℕ} (q : AllRests ms starts ends) (within : len
 
   pub all-few : length starts ≤ longRestsAtMost
   all-few = omega (arith, ap length (q .begun), size (longRests ms), few-rests ms within)
+
+-- the answer of the whole, by the fixed rules first
+module _ {ms starts ends : List ℕ} {r : Rests} (q : Whole ms starts ends r) (within : length ms ≤ totalAtMost) where
+  whole-course : restsOnly starts ends (r .judged) ≡ restsIn ms
+  whole-course = λ i. restsOnly (q .rests .begun i) (q .rests .ended i) (q .judged i)
+
+  pub whole-rests : Lies (restsOnly starts ends (r .judged)) × (length starts ≤ longRestsAtMost) × (r .judged ≤ totalAtMost)
+  whole-rests = (subst Lies (sym whole-course) (lies-in ms), all-few (q .rests) within, omega (arith, q .judged, judged-within ms))
+
+  pub whole-lawful : {t : Bool} → ByRule (restsOnly starts ends (r .judged)) (r .rule) t → t ≡ not (isNone (firstLawful ms))
+  whole-lawful {t} a = by-fixed ms (r .rule) (sym (q .fixed)) (subst (λ (c : Course). ByRule c (r .rule) t) whole-course a)

@@ -33,13 +33,11 @@ in-at [] i h = absurd (omega arith)
 in-at (r ∷ rs) zero h = here refl
 in-at (r ∷ rs) (suc i) h = there (in-at rs i (omega arith))
 
-abbrev coursesOf : List Span → ℕ → Course
-coursesOf rs s = restsOnly (map (λ (r : Span). r .start) rs) (map (λ (r : Span). r .end) rs) s
+-- long rests as a course, where S is s
+abbrev spansCourse : List Span → ℕ → Course
+spansCourse rs s = restsOnly (map (λ (r : Span). r .start) rs) (map (λ (r : Span). r .end) rs) s
 
 module _ {ms starts ends : List ℕ} (q : AllRests ms starts ends) where
-  abbrev rs : List Span
-  rs = longRests ms
-
   count-is : length starts ≡ length (longRests ms)
   count-is = ap length (q .begun) ∙ length-map (longRests ms) (λ (r : Span). r .start)
 
@@ -54,9 +52,9 @@ module _ {ms starts ends : List ℕ} (q : AllRests ms starts ends) where
 
   -- ---- a stretch with n long rests
   module _ (m n : ℕ) (within : m ≤ length ms) (e : longRests (prefix m ms) ≡ take n (longRests ms)) where
-    course-is : (s : ℕ) → coursesOf (longRests (prefix m ms)) s ≡ firstRests starts ends n s
+    course-is : (s : ℕ) → spansCourse (longRests (prefix m ms)) s ≡ firstRests starts ends n s
     course-is s =
-        ap (λ (l : List Span). coursesOf l s) e
+        ap (λ (l : List Span). spansCourse l s) e
         ∙ (λ i. restsOnly ((map-take (λ r. r .start) n (longRests ms) ∙ ap (take n) (sym (q .begun))) i) ((map-take (λ r. r .end) n (longRests ms) ∙ ap (take n) (sym (q .ended))) i) s)
 
     -- a reading that keeps the rules up to its end is one of it
@@ -102,7 +100,7 @@ module _ {ms starts ends : List ℕ} (q : AllRests ms starts ends) where
         let k = rests-rested ms y d w s in
         subst (λ (m : ℕ). HasReading (prefix m ms)) g
         (kept-has (prefix (y + d) ms) (b .fixed (y + d) (omega (arith, active .within)))
-        (subst HasKept (λ i. coursesOf (sym k i) (sym j i)) (has-kept (prefix y ms) (has-before y e))))
+        (subst HasKept (λ i. spansCourse (sym k i) (sym j i)) (has-kept (prefix y ms) (has-before y e))))
 
     -- where the next rest starts first, the stretch with it is the breach
     none-after : n < length starts → top ≡ at starts n → x ≡ suc top → r < bound → HasReading (prefix r ms) → ⊥

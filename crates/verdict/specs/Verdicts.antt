@@ -4,7 +4,7 @@ use mathlib.Core.Path.{_≡_}
 use mathlib.Core.Logic.{_⊎_}
 use mathlib.Core.Bool.{Bool, true, false}
 use mathlib.Core.List.{List, map}
-use Prim.Native.Nat.{ℕ, zero, suc, _+_, _*_, _≤_, _<_}
+use Prim.Native.Nat.{ℕ, zero, suc, _+_, _-_, _*_, _≤_, _<_}
 use lib.ListN.{length, getD, take}
 use Rattle.recording.specs.Answers.{Answer, refused, answered, andThen}
 use Rattle.recording.specs.Words.{rest, minutesOf}
@@ -27,6 +27,8 @@ use Rattle.verdict.specs.declared.Judgement.the-variants as judgement
 use Rattle.verdict.specs.declared.Outcome.{Outcome as Told}
 use Rattle.verdict.specs.declared.Outcome.the-variants as told
 use Rattle.verdict.specs.declared.Rests.{Rests}
+use Rattle.verdict.specs.declared.Ruling.{Ruling}
+use Rattle.verdict.specs.declared.Ruling.the-variants as ruling
 
 -- the paper's number and values of each case
 abbrev pub outcomeBy : Told → Answer Outcome
@@ -50,6 +52,10 @@ abbrev pub findingBy : Judgement → Answer Finding
 findingBy (judgement.Refused n) = refused n
 findingBy judgement.Pass = answered unbroken
 findingBy (judgement.Breached b) = answered (broken (b .minute) (b .article))
+
+abbrev pub findingIn : Ruling → Finding
+findingIn ruling.Lawful = unbroken
+findingIn (ruling.Unlawful b) = broken (b .minute) (b .article)
 
 -- ---- the long rests of the first m minutes, in two slices, with their count and S
 pub record Cut (words : List ℕ) (m : ℕ) (r : Rests) (starts ends : List ℕ) : Type 0 where
@@ -98,7 +104,7 @@ pub record AsksNoMore (ends : List ℕ) (s t : ℕ) : Type 0 where
   pub from-start : s ≤ weeklyGap → t ≤ weeklyGap
   pub from-rest : (i : ℕ) → i < length ends → s ≤ at ends i + weeklyGap → t ≤ at ends i + weeklyGap
 
--- the sooner of another judged end and the first by which rule 10 asks more after a weekly rest that ended there, if that is past s
+-- the sooner of another judged end and the first past the gap that rule 10 allows after a weekly rest, if that is past s
 pub record Sooner (ended s other r : ℕ) : Type 0 where
   pub past : s < other → s < r
   pub least : r ≤ other
@@ -115,6 +121,13 @@ pub record NextDemand (ends : List ℕ) (s r : ℕ) : Type 0 where
 pub record AllRests (ms starts ends : List ℕ) : Type 0 where
   pub begun : starts ≡ map (λ (r : Span). r .start) (longRests ms)
   pub ended : ends ≡ map (λ (r : Span). r .end) (longRests ms)
+
+-- with S, the smallest fixed rule that is broken, or 0, and the first such breach
+pub record Whole (ms starts ends : List ℕ) (r : Rests) : Type 0 where
+  pub rests : AllRests ms starts ends
+  pub judged : r .judged ≡ judgedEnd ms
+  pub fixed : r .rule ≡ fixedTest ms
+  pub first : r .first ≡ accountFrom opening ms .first
 
 -- the first n of them, where S is s
 abbrev pub firstRests : List ℕ → List ℕ → ℕ → ℕ → Course
@@ -150,11 +163,9 @@ pub record FirstWithout (starts ends : List ℕ) (from top r : ℕ) : Type 0 whe
   pub before : HasKept (restsOnly starts ends from) → (t : ℕ) → suc t ≡ r → HasKept (restsOnly starts ends t)
   pub there : r ≤ top → HasKept (restsOnly starts ends r) → ⊥
 
--- the later of two
-pub record Later (a b r : ℕ) : Type 0 where
-  pub first : a ≤ r
-  pub second : b ≤ r
-  pub is : (r ≡ a) ⊎ (r ≡ b)
+-- the later of two minutes
+abbrev pub laterOf : ℕ → ℕ → ℕ
+laterOf a b = a + (b - a)
 
 -- of the stretches from x on, the first whose last minute is not rest, or the bound
 pub record NextActive (ms : List ℕ) (x bound r : ℕ) : Type 0 where

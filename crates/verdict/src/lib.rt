@@ -16,7 +16,7 @@ ghost use Rattle.fixed.specs.Account.{accountFrom, opening};
 ghost use Rattle.rules.specs.Operations.{judged, outcome, readingAfter};
 ghost use Rattle.completion.specs.Completable.{at, Lies};
 ghost use Rattle.first_reading.specs.First.{restsOnly};
-ghost use Rattle.verdict.specs.Verdicts.{outcomeBy, broken, findingOf, found, findingBy, Cut, Some, ByRule, HasReading, Bound, AllRests, dayStart, DayReadable, LastDay, DayTop, Roomy, Sooner, NextDemand, FirstWithout, Later, NextActive};
+ghost use Rattle.verdict.specs.Verdicts.{outcomeBy, broken, findingOf, found, findingBy, findingIn, Cut, Some, ByRule, HasReading, Bound, AllRests, Whole, dayStart, DayReadable, LastDay, DayTop, Roomy, Sooner, NextDemand, FirstWithout, laterOf, NextActive};
 
 // A breach: the length of the shortest stretch without a lawful reading, and its article, 1 to 6.
 pub struct Breach {
@@ -36,6 +36,12 @@ pub enum Judgement {
     Refused(u32),
     Pass,
     Breached(Breach),
+}
+
+// What the long rests of a recording come to: it has a lawful reading, or its breach.
+pub enum Ruling {
+    Lawful,
+    Unlawful(Breach),
 }
 
 // The long rests of a stretch: how many, its judged end, the smallest fixed rule that it breaks, or 0, and the first such breach.
@@ -98,14 +104,9 @@ pub fn has_reading(words: &[u32], m: u32) -> bool
     let mut ends = [0u32; recording::LONG_RESTS];
     let rests = rests_of(words, m, &mut starts, &mut ends);
     let k = rests.count;
+    let s = rests.judged;
     let mut table = [0u32; hopeless::TABLE_WORDS];
-    lawful_by(
-        &starts[..k],
-        &ends[..k],
-        rests.judged,
-        rests.rule,
-        &mut table,
-    )
+    lawful_by(&starts[..k], &ends[..k], s, rests.rule, &mut table)
 }
 
 // The shortest stretch that has the first n long rests.
@@ -164,7 +165,7 @@ fn day_top(starts: &[u32], n: usize, bound: u32) -> u32
     start
 }
 
-// The judged end from which rule 10 asks for a weekly rest after one that ended there, where that is past s and before another.
+// The first judged end past the gap that rule 10 allows after a weekly rest, where it is past s and before another; else that other.
 fn gap_end(ended: u32, s: u32, other: u32) -> u32
     requires { ⌜ ended ≤ totalAtMost ⌝ }
     ensures { λ r. ⌜ Sooner ended s other r ⌝ }
@@ -209,8 +210,9 @@ fn first_without(starts: &[u32], ends: &[u32], from: u32, top: u32, table: &mut 
     top + 1
 }
 
+// The later of two minutes.
 fn later_of(a: u32, b: u32) -> u32
-    ensures { λ r. ⌜ Later a b r ⌝ }
+    ensures { λ r. ⌜ r ≡ laterOf a b ⌝ }
 {
     if a < b {
         return b;
@@ -227,15 +229,19 @@ fn next_active(words: &[u32], x: u32, bound: u32) -> u32
     let mut i = 0;
     while i < words.len() {
         let word = words[i];
+        let activity = word % 4;
         let first = later_of(at + 1, x);
         at += word / 4;
         i += 1;
-        if word % 4 != 0 {
-            if first <= at {
-                if bound <= first {
-                    return bound;
+        match activity {
+            0 => {}
+            _ => {
+                if first <= at {
+                    if bound <= first {
+                        return bound;
+                    }
+                    return first;
                 }
-                return first;
             }
         }
     }
@@ -286,6 +292,19 @@ fn breach_of(
     }
 }
 
+// Whether a recording has a lawful reading, and its breach where it has none, from its long rests.
+fn ruling_of(words: &[u32], starts: &[u32], ends: &[u32], total: u32, rests: Rests) -> Ruling
+    requires { ⌜ (length (minutesOf (now words)) ≤ totalAtMost) × (total ≡ length (minutesOf (now words))) × (Whole (minutesOf (now words)) (now starts) (now ends) rests) ⌝ }
+    ensures { λ r. ⌜ findingIn r ≡ findingOf (verdict (minutesOf (now (words .entry)))) ⌝ }
+{
+    let mut table = [0u32; hopeless::TABLE_WORDS];
+    if lawful_by(starts, ends, rests.judged, rests.rule, &mut table) {
+        return Ruling::Lawful;
+    }
+    let first = rests.first;
+    Ruling::Unlawful(breach_of(words, starts, ends, total, first, &mut table))
+}
+
 // The verdict with minute and article and no reading: refusals 1 and 2.
 pub fn judge(words: &[u32]) -> Judgement
     ensures { λ r. ⌜ findingBy r ≡ found (now (words .entry)) ⌝ }
@@ -299,18 +318,11 @@ pub fn judge(words: &[u32]) -> Judgement
     let mut ends = [0u32; recording::LONG_RESTS];
     let rests = rests_of(words, total, &mut starts, &mut ends);
     let k = rests.count;
-    let mut table = [0u32; hopeless::TABLE_WORDS];
-    if lawful_by(
-        &starts[..k],
-        &ends[..k],
-        rests.judged,
-        rests.rule,
-        &mut table,
-    ) {
+    let ruling = ruling_of(words, &starts[..k], &ends[..k], total, rests);
+    let Ruling::Unlawful(breach) = ruling else {
         return Judgement::Pass;
-    }
-    let first = rests.first;
-    Judgement::Breached(breach_of(words, &starts[..k], &ends[..k], total, first, &mut table))
+    };
+    Judgement::Breached(breach)
 }
 
 // The first lawful reading of a recording that has one.
@@ -343,12 +355,10 @@ pub fn verdict(words: &[u32], reading: &mut [u8]) -> Outcome
     let mut ends = [0u32; recording::LONG_RESTS];
     let whole = rests_of(words, total, &mut starts, &mut ends);
     let k = whole.count;
-    let s = whole.judged;
-    let mut table = [0u32; hopeless::TABLE_WORDS];
-    if lawful_by(&starts[..k], &ends[..k], s, whole.rule, &mut table) {
-        first_reading::write_first(&starts[..k], &ends[..k], s, &mut reading[..size]);
+    let ruling = ruling_of(words, &starts[..k], &ends[..k], total, whole);
+    let Ruling::Unlawful(breach) = ruling else {
+        first_reading::write_first(&starts[..k], &ends[..k], whole.judged, &mut reading[..size]);
         return Outcome::Passed(size as u32);
-    }
-    let first = whole.first;
-    Outcome::Breached(breach_of(words, &starts[..k], &ends[..k], total, first, &mut table))
+    };
+    Outcome::Breached(breach)
 }

@@ -2,10 +2,10 @@
 use denote.Ref.{now}
 use borrow.Author.Needs.{needs}
 use native.Mathlib.Omega.{arith}
-use mathlib.Core.Path.{sym, _∙_}
+use mathlib.Core.Path.{sym, ap, _∙_}
 use Rattle.recording.proofs.Listing.{refused-there, measured-there}
-use Rattle.verdict.proofs.Lawfulness.{table-room}
-use Rattle.verdict.proofs.Answers.{within, count-few, starts-there, ends-there, rests-there, whole-lawful, breach-there, size-there, least-there, told-refused, told-short, told-breach, told-pass, front-size, front-reading}
+use Rattle.verdict.specs.Verdicts.{findingIn}
+use Rattle.verdict.proofs.Answers.{within, count-few, starts-there, ends-there, ruling-there, rests-there, size-there, least-there, told-refused, told-short, told-breach, told-pass, front-size, front-reading}
 use Rattle.verdict.proofs.verdict.Statement.{statement}
 use Rattle.verdict.proofs.verdict.Tie as tie
 
@@ -18,44 +18,35 @@ returns-2 c = let t = told-short (now ((c .before .before .before .before .befor
 rests-of-requires : tie.Need-rests-of-requires
 rests-of-requires c κs = (within (now ((c .before .before .before .before .before .before .before .before .before) .args .words)) (measured-there _ (c .before .before .before .before .before .before .weigh .ensures) (c .before .before .before .before .weighing .given .1)), search needs, search needs)
 
-slice-aggregate-lawful-by : tie.Need-slice-aggregate-lawful-by
-slice-aggregate-lawful-by c = starts-there (now ((c .before .before .before .before .before .before .before .before .before .before .before .before .before) .args .words)) (measured-there _ (c .before .before .before .before .before .before .before .before .before .before .weigh .ensures) (c .before .before .before .before .before .before .before .before .weighing .given .1)) (c .before .before .before .rests-of .ensures)
+slice-aggregate-ruling-of : tie.Need-slice-aggregate-ruling-of
+slice-aggregate-ruling-of c = starts-there (now ((c .before .before .before .before .before .before .before .before .before .before .before .before .before) .args .words)) (measured-there _ (c .before .before .before .before .before .before .before .before .before .before .weigh .ensures) (c .before .before .before .before .before .before .before .before .weighing .given .1)) (c .before .before .before .rests-of .ensures)
 
-slice-aggregate-lawful-by-2 : tie.Need-slice-aggregate-lawful-by-2
-slice-aggregate-lawful-by-2 c = ends-there (now ((c .before .before .before .before .before .before .before .before .before .before .before .before .before .before) .args .words)) (measured-there _ (c .before .before .before .before .before .before .before .before .before .before .before .weigh .ensures) (c .before .before .before .before .before .before .before .before .before .weighing .given .1)) (c .before .before .before .before .rests-of .ensures)
+slice-aggregate-ruling-of-2 : tie.Need-slice-aggregate-ruling-of-2
+slice-aggregate-ruling-of-2 c = ends-there (now ((c .before .before .before .before .before .before .before .before .before .before .before .before .before .before) .args .words)) (measured-there _ (c .before .before .before .before .before .before .before .before .before .before .before .weigh .ensures) (c .before .before .before .before .before .before .before .before .before .weighing .given .1)) (c .before .before .before .before .rests-of .ensures)
 
-lawful-by-requires : tie.Need-lawful-by-requires
-lawful-by-requires c κs = let r = rests-there (now ((c .before .before .before .before .before .before .before .before .before .before .before .before .before .before .before) .args .words)) (measured-there _ (c .before .before .before .before .before .before .before .before .before .before .before .before .weigh .ensures) (c .before .before .before .before .before .before .before .before .before .before .weighing .given .1)) (c .before .before .before .before .before .rests-of .ensures) in (r .0, r .1, r .2, table-room)
+ruling-of-requires : tie.Need-ruling-of-requires
+ruling-of-requires c κs = ruling-there (now ((c .before .before .before .before .before .before .before .before .before .before .before .before .before .before) .args .words)) (measured-there _ (c .before .before .before .before .before .before .before .before .before .before .before .weigh .ensures) (c .before .before .before .before .before .before .before .before .before .weighing .given .1)) (c .before .before .before .before .rests-of .ensures)
 
 slice-aggregate-write-first : tie.Need-slice-aggregate-write-first
-slice-aggregate-write-first c = starts-there (now ((c .before .before .before .before .before .before .before .before .before .before .before .before .before .before .before .before .before .before .before) .args .words)) (measured-there _ (c .before .before .before .before .before .before .before .before .before .before .before .before .before .before .before .before .weigh .ensures) (c .before .before .before .before .before .before .before .before .before .before .before .before .before .before .weighing .given .1)) (c .before .before .before .before .before .before .before .before .before .rests-of .ensures)
+slice-aggregate-write-first c = starts-there (now ((c .before .before .before .before .before .before .before .before .before .before .before .before .before .before .before .before .before .before) .args .words)) (measured-there _ (c .before .before .before .before .before .before .before .before .before .before .before .before .before .before .before .weigh .ensures) (c .before .before .before .before .before .before .before .before .before .before .before .before .before .weighing .given .1)) (c .before .before .before .before .before .before .before .before .rests-of .ensures)
 
 slice-aggregate-write-first-2 : tie.Need-slice-aggregate-write-first-2
-slice-aggregate-write-first-2 c = ends-there (now ((c .before .before .before .before .before .before .before .before .before .before .before .before .before .before .before .before .before .before .before .before) .args .words)) (measured-there _ (c .before .before .before .before .before .before .before .before .before .before .before .before .before .before .before .before .before .weigh .ensures) (c .before .before .before .before .before .before .before .before .before .before .before .before .before .before .before .weighing .given .1)) (c .before .before .before .before .before .before .before .before .before .before .rests-of .ensures)
+slice-aggregate-write-first-2 c = ends-there (now ((c .before .before .before .before .before .before .before .before .before .before .before .before .before .before .before .before .before .before .before) .args .words)) (measured-there _ (c .before .before .before .before .before .before .before .before .before .before .before .before .before .before .before .before .weigh .ensures) (c .before .before .before .before .before .before .before .before .before .before .before .before .before .before .weighing .given .1)) (c .before .before .before .before .before .before .before .before .before .rests-of .ensures)
 
 slice-aggregate-write-first-3 : tie.Need-slice-aggregate-write-first-3
-slice-aggregate-write-first-3 c = front-size (now ((c .before .before .before .before .before .before .before .before .before .before .before .before .before .before .before .before .before .before .before .before .before) .args .words)) (now ((c .before .before .before .before .before .before .before .before .before .before .before .before .before .before .before .before .before .before .before .before .before) .args .reading)) (measured-there _ (c .before .before .before .before .before .before .before .before .before .before .before .before .before .before .before .before .before .before .weigh .ensures) (c .before .before .before .before .before .before .before .before .before .before .before .before .before .before .before .before .weighing .given .1)) (c .before .before .before .before .before .before .before .before .before .before .before .before .before .before .if1 .left)
+slice-aggregate-write-first-3 c = front-size (now ((c .before .before .before .before .before .before .before .before .before .before .before .before .before .before .before .before .before .before .before .before) .args .words)) (now ((c .before .before .before .before .before .before .before .before .before .before .before .before .before .before .before .before .before .before .before .before) .args .reading)) (measured-there _ (c .before .before .before .before .before .before .before .before .before .before .before .before .before .before .before .before .before .weigh .ensures) (c .before .before .before .before .before .before .before .before .before .before .before .before .before .before .before .weighing .given .1)) (c .before .before .before .before .before .before .before .before .before .before .before .before .before .if1 .left)
 
 write-first-requires : tie.Need-write-first-requires
-write-first-requires c κs = let r = rests-there (now ((c .before .before .before .before .before .before .before .before .before .before .before .before .before .before .before .before .before .before .before .before .before) .args .words)) (measured-there _ (c .before .before .before .before .before .before .before .before .before .before .before .before .before .before .before .before .before .before .weigh .ensures) (c .before .before .before .before .before .before .before .before .before .before .before .before .before .before .before .before .weighing .given .1)) (c .before .before .before .before .before .before .before .before .before .before .before .rests-of .ensures) in (r .0, r .1, r .2, size-there (now ((c .before .before .before .before .before .before .before .before .before .before .before .before .before .before .before .before .before .before .before .before .before) .args .words)) (measured-there _ (c .before .before .before .before .before .before .before .before .before .before .before .before .before .before .before .before .before .before .weigh .ensures) (c .before .before .before .before .before .before .before .before .before .before .before .before .before .before .before .before .weighing .given .1)) (c .before .before .before .before .before .before .before .before .before .before .before .rests-of .ensures) (front-reading (now ((c .before .before .before .before .before .before .before .before .before .before .before .before .before .before .before .before .before .before .before .before .before) .args .words)) (now ((c .before .before .before .before .before .before .before .before .before .before .before .before .before .before .before .before .before .before .before .before .before) .args .reading)) (measured-there _ (c .before .before .before .before .before .before .before .before .before .before .before .before .before .before .before .before .before .before .weigh .ensures) (c .before .before .before .before .before .before .before .before .before .before .before .before .before .before .before .before .weighing .given .1)) (c .before .before .before .before .before .before .before .before .before .before .before .before .before .before .if1 .left)))
+write-first-requires c κs = let r = rests-there (now ((c .before .before .before .before .before .before .before .before .before .before .before .before .before .before .before .before .before .before .before .before) .args .words)) (measured-there _ (c .before .before .before .before .before .before .before .before .before .before .before .before .before .before .before .before .before .weigh .ensures) (c .before .before .before .before .before .before .before .before .before .before .before .before .before .before .before .weighing .given .1)) (c .before .before .before .before .before .before .before .before .before .before .rests-of .ensures) in (r .0, r .1, r .2, size-there (now ((c .before .before .before .before .before .before .before .before .before .before .before .before .before .before .before .before .before .before .before .before) .args .words)) (measured-there _ (c .before .before .before .before .before .before .before .before .before .before .before .before .before .before .before .before .before .weigh .ensures) (c .before .before .before .before .before .before .before .before .before .before .before .before .before .before .before .weighing .given .1)) (c .before .before .before .before .before .before .before .before .before .before .rests-of .ensures) (front-reading (now ((c .before .before .before .before .before .before .before .before .before .before .before .before .before .before .before .before .before .before .before .before) .args .words)) (now ((c .before .before .before .before .before .before .before .before .before .before .before .before .before .before .before .before .before .before .before .before) .args .reading)) (measured-there _ (c .before .before .before .before .before .before .before .before .before .before .before .before .before .before .before .before .before .weigh .ensures) (c .before .before .before .before .before .before .before .before .before .before .before .before .before .before .before .weighing .given .1)) (c .before .before .before .before .before .before .before .before .before .before .before .before .before .if1 .left)))
 
-cast-t36 : tie.Need-cast-t36
-cast-t36 c = omega (arith, count-few (now ((c .before .before .before .before .before .before .before .before .before .before .before .before .before .before .before .before .before .before .before .before .before .before .before .before) .args .words)) (measured-there _ (c .before .before .before .before .before .before .before .before .before .before .before .before .before .before .before .before .before .before .before .before .before .weigh .ensures) (c .before .before .before .before .before .before .before .before .before .before .before .before .before .before .before .before .before .before .before .weighing .given .1)))
+cast-t32 : tie.Need-cast-t32
+cast-t32 c = omega (arith, count-few (now ((c .before .before .before .before .before .before .before .before .before .before .before .before .before .before .before .before .before .before .before .before .before .before .before) .args .words)) (measured-there _ (c .before .before .before .before .before .before .before .before .before .before .before .before .before .before .before .before .before .before .before .before .weigh .ensures) (c .before .before .before .before .before .before .before .before .before .before .before .before .before .before .before .before .before .before .weighing .given .1)))
 
 returns-3 : tie.Need-returns-3
-returns-3 c = let t = told-pass (now ((c .before .before .before .before .before .before .before .before .before .before .before .before .before .before .before .before .before .before .before .before .before .before .before .before) .args .words)) (now ((c .before .before .before .before .before .before .before .before .before .before .before .before .before .before .before .before .before .before .before .before .before .before .before .before) .args .reading)) (measured-there _ (c .before .before .before .before .before .before .before .before .before .before .before .before .before .before .before .before .before .before .before .before .before .weigh .ensures) (c .before .before .before .before .before .before .before .before .before .before .before .before .before .before .before .before .before .before .before .weighing .given .1)) (c .before .before .before .before .before .before .before .before .before .before .before .before .before .before .before .before .before .if1 .left) (sym (c .before .before .before .before .before .before .if2 .taken) ∙ whole-lawful (now ((c .before .before .before .before .before .before .before .before .before .before .before .before .before .before .before .before .before .before .before .before .before .before .before .before) .args .words)) (measured-there _ (c .before .before .before .before .before .before .before .before .before .before .before .before .before .before .before .before .before .before .before .before .before .weigh .ensures) (c .before .before .before .before .before .before .before .before .before .before .before .before .before .before .before .before .before .before .before .weighing .given .1)) (c .before .before .before .before .before .before .before .before .before .before .before .before .before .before .rests-of .ensures) (c .before .before .before .before .before .before .before .before .lawful-by .ensures)) (λ f e. c .before .before .write-first .ensures f (least-there (now ((c .before .before .before .before .before .before .before .before .before .before .before .before .before .before .before .before .before .before .before .before .before .before .before .before) .args .words)) (measured-there _ (c .before .before .before .before .before .before .before .before .before .before .before .before .before .before .before .before .before .before .before .before .before .weigh .ensures) (c .before .before .before .before .before .before .before .before .before .before .before .before .before .before .before .before .before .before .before .weighing .given .1)) (c .before .before .before .before .before .before .before .before .before .before .before .before .before .before .rests-of .ensures) e)) in (t .result, t .buffer)
-
-slice-aggregate-breach-of : tie.Need-slice-aggregate-breach-of
-slice-aggregate-breach-of c = starts-there (now ((c .before .before .before .before .before .before .before .before .before .before .before .before .before .before .before .before .before .before .before .before) .args .words)) (measured-there _ (c .before .before .before .before .before .before .before .before .before .before .before .before .before .before .before .before .before .weigh .ensures) (c .before .before .before .before .before .before .before .before .before .before .before .before .before .before .before .weighing .given .1)) (c .before .before .before .before .before .before .before .before .before .before .rests-of .ensures)
-
-slice-aggregate-breach-of-2 : tie.Need-slice-aggregate-breach-of-2
-slice-aggregate-breach-of-2 c = ends-there (now ((c .before .before .before .before .before .before .before .before .before .before .before .before .before .before .before .before .before .before .before .before .before) .args .words)) (measured-there _ (c .before .before .before .before .before .before .before .before .before .before .before .before .before .before .before .before .before .before .weigh .ensures) (c .before .before .before .before .before .before .before .before .before .before .before .before .before .before .before .before .weighing .given .1)) (c .before .before .before .before .before .before .before .before .before .before .before .rests-of .ensures)
-
-breach-of-requires : tie.Need-breach-of-requires
-breach-of-requires c κs = let b = breach-there (now ((c .before .before .before .before .before .before .before .before .before .before .before .before .before .before .before .before .before .before .before .before .before .before) .args .words)) (measured-there _ (c .before .before .before .before .before .before .before .before .before .before .before .before .before .before .before .before .before .before .before .weigh .ensures) (c .before .before .before .before .before .before .before .before .before .before .before .before .before .before .before .before .before .weighing .given .1)) (c .before .before .before .before .before .before .before .before .before .before .before .before .rests-of .ensures) (c .before .before .before .before .before .before .lawful-by .ensures) (c .before .before .before .before .if2 .left) in (b .0, b .1, b .2, b .3, b .4, omega (arith, c .before .before .before .before .before .before .lawful-by .kept .1 .1 .1 .1 .0, table-room))
+returns-3 c = let t = told-pass (now ((c .before .before .before .before .before .before .before .before .before .before .before .before .before .before .before .before .before .before .before .before .before .before .before) .args .words)) (now ((c .before .before .before .before .before .before .before .before .before .before .before .before .before .before .before .before .before .before .before .before .before .before .before) .args .reading)) (measured-there _ (c .before .before .before .before .before .before .before .before .before .before .before .before .before .before .before .before .before .before .before .before .weigh .ensures) (c .before .before .before .before .before .before .before .before .before .before .before .before .before .before .before .before .before .before .weighing .given .1)) (c .before .before .before .before .before .before .before .before .before .before .before .before .before .before .before .before .if1 .left) (sym (ap findingIn (c .before .before .before .before .before .before .enum-told2 .given .1)) ∙ c .before .before .before .before .before .before .before .before .ruling-of .ensures) (λ f e. c .before .before .write-first .ensures f (least-there (now ((c .before .before .before .before .before .before .before .before .before .before .before .before .before .before .before .before .before .before .before .before .before .before .before) .args .words)) (measured-there _ (c .before .before .before .before .before .before .before .before .before .before .before .before .before .before .before .before .before .before .before .before .weigh .ensures) (c .before .before .before .before .before .before .before .before .before .before .before .before .before .before .before .before .before .before .weighing .given .1)) (c .before .before .before .before .before .before .before .before .before .before .before .before .before .rests-of .ensures) e)) in (t .result, t .buffer)
 
 returns-4 : tie.Need-returns-4
-returns-4 c = let t = told-breach (now ((c .before .before .before .before .before .before .before .before .before .before .before .before .before .before .before .before .before .before .before .before .before .before .before .before) .args .words)) (now ((c .before .before .before .before .before .before .before .before .before .before .before .before .before .before .before .before .before .before .before .before .before .before .before .before) .args .reading)) (measured-there _ (c .before .before .before .before .before .before .before .before .before .before .before .before .before .before .before .before .before .before .before .before .before .weigh .ensures) (c .before .before .before .before .before .before .before .before .before .before .before .before .before .before .before .before .before .before .before .weighing .given .1)) (c .before .before .before .before .before .before .before .before .before .before .before .before .before .before .before .before .before .if1 .left) (c .before .breach-of .ensures) in (t .result, t .buffer)
+returns-4 c = let t = told-breach (now ((c .before .before .before .before .before .before .before .before .before .before .before .before .before .before .before .before .before .before) .args .words)) (now ((c .before .before .before .before .before .before .before .before .before .before .before .before .before .before .before .before .before .before) .args .reading)) (measured-there _ (c .before .before .before .before .before .before .before .before .before .before .before .before .before .before .before .weigh .ensures) (c .before .before .before .before .before .before .before .before .before .before .before .before .before .weighing .given .1)) (c .before .before .before .before .before .before .before .before .before .before .before .if1 .left) (sym (ap findingIn (c .before .ruling .given .1)) ∙ c .before .before .before .ruling-of .ensures) in (t .result, t .buffer)
 
 pub verdict-spec : {M : Type 1} → statement M
 verdict-spec =
@@ -73,11 +64,12 @@ verdict-spec =
     (λ c. search needs)
     rests-of-requires
     (λ c. search needs)
-    slice-aggregate-lawful-by
+    slice-aggregate-ruling-of
     (λ c. search needs)
-    slice-aggregate-lawful-by-2
+    slice-aggregate-ruling-of-2
+    ruling-of-requires
     (λ c. search needs)
-    lawful-by-requires
+    (λ c. search needs)
     (λ c. search needs)
     slice-aggregate-write-first
     (λ c. search needs)
@@ -85,13 +77,7 @@ verdict-spec =
     (λ c. search needs)
     slice-aggregate-write-first-3
     write-first-requires
-    cast-t36
+    cast-t32
     (λ c. search needs)
     returns-3
-    (λ c. search needs)
-    slice-aggregate-breach-of
-    (λ c. search needs)
-    slice-aggregate-breach-of-2
-    (λ c. search needs)
-    breach-of-requires
     returns-4)
