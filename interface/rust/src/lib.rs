@@ -19,7 +19,7 @@
 //! and leaves what lies beyond.
 //!
 //! Nothing is kept between calls, so threads may call at the same time.
-//! [`verdict`] needs 1,400 KiB of stack: the main thread and the threads of
+//! [`verdict`] takes less than 1 MiB of stack: the main thread and the threads of
 //! `std` have more, unless told otherwise.
 
 mod calls;
