@@ -27,7 +27,9 @@ fn main() {
     match words[..] {
         [] => {
             println!("microseconds  recordings passes  desk median    most  second median    most  ratio of medians");
-            kinds().iter().for_each(|(kind, recordings)| time(kind, recordings));
+            kinds()
+                .iter()
+                .for_each(|(kind, recordings)| time(kind, recordings));
         }
         ["files", folder] => {
             for (kind, recordings) in kinds().iter().chain(&by_weeks()) {
@@ -74,7 +76,10 @@ fn by_weeks() -> Vec<Kind> {
         })
         .collect();
     found.push(kind("weeks12cut", 20, |dice| {
-        grow::ordinary_weeks(dice, 12).iter().flat_map(cut).collect()
+        grow::ordinary_weeks(dice, 12)
+            .iter()
+            .flat_map(cut)
+            .collect()
     }));
     found
 }

@@ -14,7 +14,12 @@ fn every_example_has_its_answer() {
         let text = entry.unwrap().path();
         if text.extension().is_some_and(|extension| extension == "txt") {
             let answer = fs::read_to_string(text.with_extension("out")).unwrap();
-            assert_eq!(print(&fs::read(&text).unwrap()), answer, "{}", text.display());
+            assert_eq!(
+                print(&fs::read(&text).unwrap()),
+                answer,
+                "{}",
+                text.display()
+            );
             seen += 1;
         }
     }
