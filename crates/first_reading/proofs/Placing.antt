@@ -32,12 +32,12 @@ use Rattle.completion.proofs.Heads.{arrives, after}
 use Rattle.completion.proofs.Monotone.{daily-stands}
 use Rattle.completion.proofs.Payments.{set-other}
 use Rattle.steps.specs.Steps.{Says}
-use Rattle.hopeless.specs.Table.{levelWords}
-use Rattle.search.specs.Search.{Found, courseOf, Later, Lent, Before}
-use Rattle.search.proofs.Answers.{noneOf, none-size, none-zeros, reached-at}
+use Rattle.hopeless.specs.Table.{levelWords, levelAt}
+use Rattle.search.specs.Search.{courseOf, Later, Sound, Lent, Before}
+use Rattle.search.proofs.Answers.{noneOf, none-size, none-zeros, empty-sound, reached-at}
 use Rattle.first_reading.specs.First.{Least, restsOnly}
 use Rattle.first_reading.proofs.Choosing.{with-promised, lies-with, carrier-low}
-use Rattle.first_reading.specs.Choices.{loadAt, reductionAt, promising, CarriedBy, afterCounted, GoesWeekly, NotPast, FirstWeekly, LeastFrom, Ahead, withEntry, Placed, Told, FirstOf, Sized, Room, Carries, GoesWith}
+use Rattle.first_reading.specs.Choices.{loadAt, reductionAt, promising, CarriedBy, afterCounted, GoesWeekly, NotPast, FirstWeekly, LeastFrom, Ahead, withEntry, Placed, FirstOf, Sized, Room, Carries, GoesWith}
 
 -- ---- each rest that is left is long enough for what is promised out of it
 record Paying (F : ℕ → List ℕ → Type 0) (load : ℕ) : Type 0 where
@@ -120,6 +120,13 @@ pub lent-same : {c : Course} {p o o′ t t′ : List ℕ} → p ≡ c .promised 
     → Lent (with-promised c p) o′ t′
 lent-same {c} {p} {o} {o′} {t} {t′} q e f h =
     subst (λ (x : List ℕ). Lent (with-promised c x) o′ t′) (sym q) (lent-of (sized-of h) refl h e f)
+
+-- a table that is sound for the promises, and for promises that are equal
+pub sound-with : (c : Course) {p t : List ℕ} → p ≡ c .promised → Sound c t → Sound (with-promised c p) t
+sound-with c {p} {t} q h = subst (λ (x : List ℕ). Sound (with-promised c x) t) (sym q) h
+
+pub with-sound : (c : Course) {p t : List ℕ} → p ≡ c .promised → Sound (with-promised c p) t → Sound c t
+with-sound c {p} {t} q h = subst (λ (x : List ℕ). Sound (with-promised c x) t) q h
 
 -- what was asked of slices that are as they were
 pub goes-same : {c : Course} {j w x : ℕ} {next : State} {p o o′ : List ℕ} → p ≡ c .promised → o′ ≡ o → GoesWith (with-promised c p) j w next o′ x
@@ -297,15 +304,6 @@ module _ (c : Course) (j : ℕ) where
       none v y g = old v y (omega (arith, g .upto)) g
 
 -- ---- answers
-pub told : {P S : Type 0} {r : Bool} {o o′ : List ℕ} → Found P r o o′ S → Told P r o o′
-told h = record { yes = h .yes; no = h .no; same = h .same }
-
-pub told-no : {P : Type 0} {o : List ℕ} → (P → ⊥) → Told P false o o
-told-no n = record { yes = λ h. absurd (false≢true h); no = λ _ p. n p; same = refl }
-
-pub told-as : {P Q : Type 0} {r : Bool} {o o′ : List ℕ} → (P → Q) → (Q → P) → Told P r o o′ → Told Q r o o′
-told-as f g h = record { yes = λ e. f (h .yes e); no = λ e q. h .no e (g q); same = h .same }
-
 -- ---- whether a rest can be the carrier
 module _ (c : Course) (j w x : ℕ) where
   abbrev due : ℕ
@@ -495,3 +493,9 @@ lent-start starts ends s l few judged = record {
   below = zero-le;
   unused = λ x _. none-zeros (length starts) x;
 }
+
+pub sound-start : (starts ends : List ℕ) (s : ℕ) → Lies (restsOnly starts ends s) → length starts ≤ longRestsAtMost
+    → Sound (courseOf starts ends (noneOf (length starts)) s) (replicate (levelWords * longRestsAtMost) 0)
+sound-start starts ends s l few =
+    empty-sound (courseOf starts ends (noneOf (length starts)) s) (lies-with (restsOnly starts ends s) (noneOf (length starts)) l)
+    (λ i h. zeros-at (levelWords * longRestsAtMost) (levelAt i))

@@ -2,6 +2,8 @@
 use mathlib.Core.Path.{_≡_, refl, sym, ap, subst, _∙_}
 use mathlib.Core.List.{List, _∷_}
 use Prim.Native.Nat.{ℕ, suc, _+_, _-_, _≤_, _<_}
+use mathlib.Core.Logic.{_⊎_, inl, inr}
+use native.Mathlib.Nat.{eq-zero-or-pos}
 use native.Mathlib.Omega.{arith}
 use lib.ListN.{length}
 use Rattle.recording.specs.Weeks.{weekStart, weekOf}
@@ -14,13 +16,13 @@ use Rattle.completion.specs.declared.State.{State}
 use Rattle.completion.specs.declared.Brought.{Brought}
 use Rattle.completion.specs.declared.Brought.the-variants.{Broken, To}
 use Rattle.completion.specs.States.{advance}
-use Rattle.completion.specs.Completable.{Course, at, count, restWeek, lengthAt}
+use Rattle.completion.specs.Completable.{Course, at, count, restWeek, lengthAt, Lies}
 use Rattle.completion.specs.Better.{AtRest, bestState}
 use Rattle.completion.proofs.Monotone.{arrives}
-use Rattle.search.specs.Search.{Lent, Before}
-use Rattle.search.proofs.Answers.{brought, before-best}
-use Rattle.first_reading.specs.Choices.{loadAt, promising, GoesDaily, FirstWeekly, Ahead, Sized, Room, PutDaily, PutWeekly, Stepped}
-use Rattle.first_reading.proofs.Choosing.{with-promised, daily, weekly, NextDaily, too-short-for-weekly, never-broken, goes-as-daily, goes-as-weekly}
+use Rattle.search.specs.Search.{Sound, Lent, Before}
+use Rattle.search.proofs.Answers.{brought, before-best, empty-sound}
+use Rattle.first_reading.specs.Choices.{Renewed, loadAt, promising, GoesDaily, FirstWeekly, Ahead, Sized, Room, PutDaily, PutWeekly, Stepped}
+use Rattle.first_reading.proofs.Choosing.{with-promised, lies-with, daily, weekly, NextDaily, too-short-for-weekly, never-broken, goes-as-daily, goes-as-weekly}
 use Rattle.first_reading.proofs.Placing.{sized-of, lent-of, before-on, room-weekly}
 
 module _ (c : Course) (j : ℕ) (st : State) (owed table : List ℕ) (lent : Lent c owed table) (before : Before c j st) (inside : j < count c) where
@@ -31,10 +33,11 @@ module _ (c : Course) (j : ℕ) (st : State) (owed table : List ℕ) (lent : Len
   pub at-rest : {b : Brought} {here : State} → b ≡ brought-on → b ≡ To here → AtRest c j here
   at-rest e g = arrives c (lent .lies) inside (before .stands) (brought (restWeek c) (weekOf (at (c .starts) j) - st .week) (before .small) e g)
 
-  pub stepped-broken : {b : Brought} {r : State} (reading : List ℕ) → b ≡ brought-on → b ≡ Broken → r ≡ bestState (at (c .starts) j)
+  pub stepped-broken : {b : Brought} {r : State} (reading : List ℕ) → Sound c table → b ≡ brought-on → b ≡ Broken → r ≡ bestState (at (c .starts) j)
       → Stepped c c j st owed owed table reading reading r
-  stepped-broken {b} {r} reading e g q = record {
+  stepped-broken {b} {r} reading sound e g q = record {
     lent = lent;
+    sound = sound;
     same = refl;
     before = before-on (lent .lies) inside (omega (arith, ap (λ (x : State). x .week) q)) (before-best c (lent .lies) j inside q);
     placed = λ past left a.
@@ -46,10 +49,11 @@ module _ (c : Course) (j : ℕ) (st : State) (owed table : List ℕ) (lent : Len
     lent-still : {d : Course} → Sized d → count d ≡ count c → Lent d owed′ table′
     lent-still s q = lent-of s q lent same long
 
-    stepped-daily : PutDaily c j here reading reading′ r → ((past : List Entry) (left : List ℕ) → Ahead c j st past left → NextDaily c j past here left)
+    stepped-daily : Sound c table′ → PutDaily c j here reading reading′ r → ((past : List Entry) (left : List ℕ) → Ahead c j st past left → NextDaily c j past here left)
         → Stepped c c j st owed owed′ table′ reading reading′ r
-    stepped-daily put next = record {
+    stepped-daily sound put next = record {
       lent = lent-still (sized-of lent) refl;
+      sound = sound;
       same = same;
       before = put .before;
       placed = λ past left a.
@@ -66,22 +70,23 @@ module _ (c : Course) (j : ℕ) (st : State) (owed table : List ℕ) (lent : Len
           };
     }
 
-    pub stepped-short : lengthAt c j < leastNet (Weekly Regular) + loadAt c j → PutDaily c j here reading reading′ r
+    pub stepped-short : Sound c table′ → lengthAt c j < leastNet (Weekly Regular) + loadAt c j → PutDaily c j here reading reading′ r
         → Stepped c c j st owed owed′ table′ reading reading′ r
-    stepped-short s put =
-        stepped-daily put
+    stepped-short sound s put =
+        stepped-daily sound put
         (λ past left a. too-short-for-weekly c (lent .lies) (omega (arith, lent .few)) (lent .judged) (lent .promised-too) j inside st past left a here (sym e ∙ g) s)
 
     module _ (zeros : Zeros owed) where
-      pub stepped-as-daily : GoesDaily c j here owed → PutDaily c j here reading reading′ r → Stepped c c j st owed owed′ table′ reading reading′ r
-      stepped-as-daily d put =
-          stepped-daily put
+      pub stepped-as-daily : Sound c table′ → GoesDaily c j here owed → PutDaily c j here reading reading′ r → Stepped c c j st owed owed′ table′ reading reading′ r
+      stepped-as-daily sound d put =
+          stepped-daily sound put
           (λ past left a. goes-as-daily c (lent .lies) (omega (arith, lent .few)) (lent .judged) (lent .promised-too) j inside st past left owed (lent .owed-too) zeros a here (sym e ∙ g) d)
 
-      pub stepped-weekly : (p : List ℕ) (w x : ℕ) → (GoesDaily c j here owed → ⊥) → FirstWeekly c j here owed w x
+      pub stepped-weekly : (p : List ℕ) (w x : ℕ) → Sound (with-promised c p) table′ → (GoesDaily c j here owed → ⊥) → FirstWeekly c j here owed w x
           → PutWeekly c (with-promised c p) j here w x reading reading′ r → Stepped c (with-promised c p) j st owed owed′ table′ reading reading′ r
-      stepped-weekly p w x nay f put = record {
+      stepped-weekly p w x sound nay f put = record {
         lent = lent-still (put .sized) refl;
+        sound = sound;
         same = same;
         before = put .before;
         placed = λ past left a.
@@ -115,3 +120,13 @@ pub room-first : {c : Course} {j w x : ℕ} {here : State} {o p : List ℕ} → 
 room-first {c} {j} {w} {x} {here} {o} {p} q long f l =
     let g = f .goes l in
     (g .from, g .upto, subst (λ (y : List ℕ). Room (with-promised c y) j x) (sym q) (room-weekly c j w here o x long g))
+
+-- the table after a weekly rest: as it was where no minutes are promised, or empty
+pub sound-renewed : {c d : Course} {x : ℕ} {t t′ : List ℕ} → Lies c → Sound c t → (x ≡ 0 → d .promised ≡ c .promised) → d ≡ with-promised c (d .promised) → Renewed (count c) x t t′ → Sound d t′
+sound-renewed {c} {d} {x} {t} {t′} lies sound kept e r = go (eq-zero-or-pos x)
+  where
+    go : (x ≡ 0) ⊎ (0 < x) → Sound d t′
+    go (inl z) =
+        subst (λ (k : Course). Sound k t′) (sym e)
+        (subst (λ (p : List ℕ). Sound (with-promised c p) t′) (sym (kept z)) (subst (Sound c) (sym (r .kept z)) sound))
+    go (inr l) = subst (λ (k : Course). Sound k t′) (sym e) (empty-sound (with-promised c (d .promised)) (lies-with c (d .promised) lies) (r .empty (λ z. omega arith)))

@@ -23,7 +23,8 @@ use Rattle.completion.specs.declared.Brought.the-variants.{To}
 use Rattle.completion.specs.States.{advance, After, afterDaily, afterWeekly}
 use Rattle.completion.specs.Runs.{Kept}
 use Rattle.completion.specs.Completable.{Course, at, count, spansOf, restWeek, lengthAt, brief, ReadDaily, Lies}
-use Rattle.search.specs.Search.{Later, Lent, Before}
+use Rattle.hopeless.specs.Table.{Empty}
+use Rattle.search.specs.Search.{Later, Sound, Lent, Before}
 
 module _ (c : Course) where
   -- the minutes promised out of the rest of index j, and by how many it is reduced as a weekly rest
@@ -106,12 +107,6 @@ pub record Placed (c : Course) (j : ℕ) (st : State) (past : List Entry) (r rea
   pub ahead : Ahead c (suc j) st (entry ∷ past) rest
 
 -- ---- what the functions answer
--- r says whether P holds; what is owed is as it was
-pub record Told (P : Type 0) (r : Bool) (owed owed′ : List ℕ) : Type 0 where
-  pub yes : r ≡ true → P
-  pub no : r ≡ false → P → ⊥
-  pub same : owed′ ≡ owed
-
 -- x is the first number of which P holds, or past the most
 pub record FirstOf (P : ℕ → Type 0) (most x : ℕ) : Type 0 where
   pub goes : x ≤ most → P x
@@ -154,11 +149,18 @@ pub record DoneWeekly (c c′ : Course) (j : ℕ) (there : State) (w x : ℕ) (r
 pub record PutWeekly (c c′ : Course) (j : ℕ) (here : State) (w x : ℕ) (reading reading′ : List ℕ) (r : State) : Type 0 where
   pub sized : Sized c′
   pub before : Before c′ (j + 1) r
+  pub kept : x ≡ 0 → c′ .promised ≡ c .promised
   pub done : (there : State) → x ≤ count c → advance (restWeek c) (w - here .week) here ≡ To there → DoneWeekly c c′ j there w x reading reading′ r
+
+-- the table of k levels is as it was, or empty where x is the number of a rest
+pub record Renewed (k x : ℕ) (table table′ : List ℕ) : Type 0 where
+  pub kept : x ≡ 0 → table′ ≡ table
+  pub empty : (x ≡ 0 → ⊥) → Empty table′ k
 
 -- the rest of index j was read: wherever there is a first reading, its entry was written
 pub record Stepped (c c′ : Course) (j : ℕ) (st : State) (owed owed′ table′ reading reading′ : List ℕ) (r : State) : Type 0 where
   pub lent : Lent c′ owed′ table′
+  pub sound : Sound c′ table′
   pub same : owed′ ≡ owed
   pub before : Before c′ (j + 1) r
   pub placed : (past : List Entry) (left : List ℕ) → Ahead c j st past left → Placed c′ j r past left reading reading′

@@ -17,9 +17,10 @@ ghost use Rattle.reading.specs.Items.{loadAtMost, paid, Zeros};
 ghost use Rattle.completion.specs.Completable.{at, count, lengthAt, Lies};
 ghost use Rattle.completion.specs.Better.{AtRest};
 ghost use Rattle.steps.specs.Steps.{Says};
-ghost use Rattle.search.specs.Search.{courseOf, Later, Lent, Before};
+ghost use Rattle.hopeless.specs.Table.{levelWords};
+ghost use Rattle.search.specs.Search.{Found, courseOf, Later, Sound, Lent, Before};
 ghost use Rattle.first_reading.specs.First.{Least, restsOnly};
-ghost use Rattle.first_reading.specs.Choices.{GoesDaily, GoesWeekly, FirstWeekly, withEntry, Told, FirstOf, Sized, Room, Carries, GoesWith, PutDaily, PutWeekly, Stepped};
+ghost use Rattle.first_reading.specs.Choices.{Renewed, GoesDaily, GoesWeekly, FirstWeekly, withEntry, FirstOf, Sized, Room, Carries, GoesWith, PutDaily, PutWeekly, Stepped};
 
 // A week in which a weekly rest is counted, and the number of its carrier: 0, or a later rest, or past all rests where there is no choice.
 pub struct Choice {
@@ -54,15 +55,15 @@ fn daily_goes(
     j: usize,
     here: State,
 ) -> bool
-    requires { ⌜ (Lent (courseOf (now starts) (now ends) (now promised) s) (now owed) (now table)) × (AtRest (courseOf (now starts) (now ends) (now promised) s) j here) × (leastNet Daily + at (now promised) j ≤ lengthAt (courseOf (now starts) (now ends) (now promised) s) j) ⌝ }
-    ensures { λ r. ⌜ Told (GoesDaily (courseOf (now (starts .entry)) (now (ends .entry)) (now (promised .entry)) s) j here (now (owed .entry))) r (now (owed .entry)) (now (owed .exit)) ⌝ }
+    requires { ⌜ (Lent (courseOf (now starts) (now ends) (now promised) s) (now owed) (now table)) × (AtRest (courseOf (now starts) (now ends) (now promised) s) j here) × (leastNet Daily + at (now promised) j ≤ lengthAt (courseOf (now starts) (now ends) (now promised) s) j) × (Sound (courseOf (now starts) (now ends) (now promised) s) (now table)) ⌝ }
+    ensures { λ r. ⌜ Found (GoesDaily (courseOf (now (starts .entry)) (now (ends .entry)) (now (promised .entry)) s) j here (now (owed .entry))) r (now (owed .entry)) (now (owed .exit)) (Sound (courseOf (now (starts .entry)) (now (ends .entry)) (now (promised .entry)) s) (now (table .exit))) ⌝ }
 {
     let short = steps::brief(starts, ends, j, promised[j]);
     let next = steps::after_daily(here, short);
     if reading::SHORTENED_AT_MOST < next.short {
         return false;
     }
-    search::completes(starts, ends, promised, s, owed, table, j + 1, next)
+    search::solve(starts, ends, promised, s, owed, table, j + 1, next, 0)
 }
 
 // Whether x can be the carrier of the rest of index j, weekly and counted in week w, and has room for its reduction.
@@ -109,17 +110,18 @@ fn asks_with(
     x: usize,
     less: u32,
 ) -> bool
-    requires { ⌜ (Lent (courseOf (now starts) (now ends) (paid (now promised) x less) s) (now owed) (now table)) × (Before (courseOf (now starts) (now ends) (paid (now promised) x less) s) (j + 1) next) × (j < length (now starts)) × (x ≤ length (now promised)) ⌝ }
-    ensures { λ r. ⌜ (Told (Later (courseOf (now (starts .entry)) (now (ends .entry)) (paid (now (promised .entry)) x less) s) j next (now (owed .entry))) r (now (owed .entry)) (now (owed .exit))) × (now (promised .exit) ≡ now (promised .entry)) ⌝ }
+    requires { ⌜ (Lent (courseOf (now starts) (now ends) (paid (now promised) x less) s) (now owed) (now table)) × (Before (courseOf (now starts) (now ends) (paid (now promised) x less) s) (j + 1) next) × (j < length (now starts)) × (x ≤ length (now promised)) × (Sound (courseOf (now starts) (now ends) (now promised) s) (now table)) ⌝ }
+    ensures { λ r. ⌜ (Found (Later (courseOf (now (starts .entry)) (now (ends .entry)) (paid (now (promised .entry)) x less) s) j next (now (owed .entry))) r (now (owed .entry)) (now (owed .exit)) (Sound (courseOf (now (starts .entry)) (now (ends .entry)) (now (promised .entry)) s) (now (table .exit)))) × (now (promised .exit) ≡ now (promised .entry)) ⌝ }
 {
     if x == 0 {
-        return search::completes(starts, ends, promised, s, owed, table, j + 1, next);
+        return search::solve(starts, ends, promised, s, owed, table, j + 1, next, 0);
     }
     let i = x - 1;
     let old = promised[i];
     promised[i] = old + less;
     let found = search::completes(starts, ends, promised, s, owed, table, j + 1, next);
     promised[i] = old;
+    hopeless::clear(table, starts.len());
     found
 }
 
@@ -136,8 +138,8 @@ fn goes_with(
     next: State,
     x: usize,
 ) -> bool
-    requires { ⌜ (Lent (courseOf (now starts) (now ends) (now promised) s) (now owed) (now table)) × (Before (courseOf (now starts) (now ends) (now promised) s) (j + 1) next) × (j < count (courseOf (now starts) (now ends) (now promised) s)) × (weekStart w < at (now ends) j) × (x ≤ count (courseOf (now starts) (now ends) (now promised) s)) × (0 < x → j + 1 < x) ⌝ }
-    ensures { λ r. ⌜ (Told (GoesWith (courseOf (now (starts .entry)) (now (ends .entry)) (now (promised .entry)) s) j w next (now (owed .entry)) x) r (now (owed .entry)) (now (owed .exit))) × (now (promised .exit) ≡ now (promised .entry)) ⌝ }
+    requires { ⌜ (Lent (courseOf (now starts) (now ends) (now promised) s) (now owed) (now table)) × (Before (courseOf (now starts) (now ends) (now promised) s) (j + 1) next) × (j < count (courseOf (now starts) (now ends) (now promised) s)) × (weekStart w < at (now ends) j) × (x ≤ count (courseOf (now starts) (now ends) (now promised) s)) × (0 < x → j + 1 < x) × (Sound (courseOf (now starts) (now ends) (now promised) s) (now table)) ⌝ }
+    ensures { λ r. ⌜ (Found (GoesWith (courseOf (now (starts .entry)) (now (ends .entry)) (now (promised .entry)) s) j w next (now (owed .entry)) x) r (now (owed .entry)) (now (owed .exit)) (Sound (courseOf (now (starts .entry)) (now (ends .entry)) (now (promised .entry)) s) (now (table .exit)))) × (now (promised .exit) ≡ now (promised .entry)) ⌝ }
 {
     if !carries(starts, ends, promised, s, j, w, x) {
         return false;
@@ -169,8 +171,8 @@ fn first_carrier(
     w: u32,
     next: State,
 ) -> usize
-    requires { ⌜ (Lent (courseOf (now starts) (now ends) (now promised) s) (now owed) (now table)) × (Before (courseOf (now starts) (now ends) (now promised) s) (j + 1) next) × (j < count (courseOf (now starts) (now ends) (now promised) s)) × (weekStart w < at (now ends) j) ⌝ }
-    ensures { λ r. ⌜ (FirstOf (GoesWith (courseOf (now (starts .entry)) (now (ends .entry)) (now (promised .entry)) s) j w next (now (owed .entry))) (length (now (starts .entry))) r) × (now (owed .exit) ≡ now (owed .entry)) × (now (promised .exit) ≡ now (promised .entry)) ⌝ }
+    requires { ⌜ (Lent (courseOf (now starts) (now ends) (now promised) s) (now owed) (now table)) × (Before (courseOf (now starts) (now ends) (now promised) s) (j + 1) next) × (j < count (courseOf (now starts) (now ends) (now promised) s)) × (weekStart w < at (now ends) j) × (Sound (courseOf (now starts) (now ends) (now promised) s) (now table)) ⌝ }
+    ensures { λ r. ⌜ (FirstOf (GoesWith (courseOf (now (starts .entry)) (now (ends .entry)) (now (promised .entry)) s) j w next (now (owed .entry))) (length (now (starts .entry))) r) × (now (owed .exit) ≡ now (owed .entry)) × (now (promised .exit) ≡ now (promised .entry)) × (Sound (courseOf (now (starts .entry)) (now (ends .entry)) (now (promised .entry)) s) (now (table .exit))) ⌝ }
 {
     let mut x = 0;
     while x <= starts.len() {
@@ -194,8 +196,8 @@ fn carrier_in(
     here: State,
     w: u32,
 ) -> usize
-    requires { ⌜ (Lent (courseOf (now starts) (now ends) (now promised) s) (now owed) (now table)) × (AtRest (courseOf (now starts) (now ends) (now promised) s) j here) × (leastNet (Weekly Regular) + at (now promised) j ≤ lengthAt (courseOf (now starts) (now ends) (now promised) s) j) × (at (now starts) j < weekStart (w + 1)) × (weekStart w < at (now ends) j) ⌝ }
-    ensures { λ r. ⌜ (FirstOf (GoesWeekly (courseOf (now (starts .entry)) (now (ends .entry)) (now (promised .entry)) s) j here (now (owed .entry)) w) (length (now (starts .entry))) r) × (now (owed .exit) ≡ now (owed .entry)) × (now (promised .exit) ≡ now (promised .entry)) ⌝ }
+    requires { ⌜ (Lent (courseOf (now starts) (now ends) (now promised) s) (now owed) (now table)) × (AtRest (courseOf (now starts) (now ends) (now promised) s) j here) × (leastNet (Weekly Regular) + at (now promised) j ≤ lengthAt (courseOf (now starts) (now ends) (now promised) s) j) × (at (now starts) j < weekStart (w + 1)) × (weekStart w < at (now ends) j) × (Sound (courseOf (now starts) (now ends) (now promised) s) (now table)) ⌝ }
+    ensures { λ r. ⌜ (FirstOf (GoesWeekly (courseOf (now (starts .entry)) (now (ends .entry)) (now (promised .entry)) s) j here (now (owed .entry)) w) (length (now (starts .entry))) r) × (now (owed .exit) ≡ now (owed .entry)) × (now (promised .exit) ≡ now (promised .entry)) × (Sound (courseOf (now (starts .entry)) (now (ends .entry)) (now (promised .entry)) s) (now (table .exit))) ⌝ }
 {
     let Brought::To(there) = steps::advance(starts, ends, j + 1, here, w) else {
         return starts.len() + 1;
@@ -217,8 +219,8 @@ fn first_weekly(
     j: usize,
     here: State,
 ) -> Choice
-    requires { ⌜ (Lent (courseOf (now starts) (now ends) (now promised) s) (now owed) (now table)) × (AtRest (courseOf (now starts) (now ends) (now promised) s) j here) × (leastNet (Weekly Regular) + at (now promised) j ≤ lengthAt (courseOf (now starts) (now ends) (now promised) s) j) ⌝ }
-    ensures { λ r. ⌜ (FirstWeekly (courseOf (now (starts .entry)) (now (ends .entry)) (now (promised .entry)) s) j here (now (owed .entry)) (r .week) (r .carrier)) × (now (owed .exit) ≡ now (owed .entry)) × (now (promised .exit) ≡ now (promised .entry)) ⌝ }
+    requires { ⌜ (Lent (courseOf (now starts) (now ends) (now promised) s) (now owed) (now table)) × (AtRest (courseOf (now starts) (now ends) (now promised) s) j here) × (leastNet (Weekly Regular) + at (now promised) j ≤ lengthAt (courseOf (now starts) (now ends) (now promised) s) j) × (Sound (courseOf (now starts) (now ends) (now promised) s) (now table)) ⌝ }
+    ensures { λ r. ⌜ (FirstWeekly (courseOf (now (starts .entry)) (now (ends .entry)) (now (promised .entry)) s) j here (now (owed .entry)) (r .week) (r .carrier)) × (now (owed .exit) ≡ now (owed .entry)) × (now (promised .exit) ≡ now (promised .entry)) × (Sound (courseOf (now (starts .entry)) (now (ends .entry)) (now (promised .entry)) s) (now (table .exit))) ⌝ }
 {
     let end = ends[j];
     let mut w = starts[j] / recording::WEEK_MINUTES;
@@ -314,6 +316,17 @@ fn put_weekly(
     steps::after_weekly(there, rest, reading::REGULAR + load <= minutes, ends[j])
 }
 
+// The table is emptied where the rest of number x, if that is one, has promised minutes more.
+fn renew(table: &mut [u32], k: usize, x: usize)
+    requires { ⌜ levelWords * k ≤ length (now table) ⌝ }
+    ensures { λ _. ⌜ Renewed k x (now (table .entry)) (now (table .exit)) ⌝ }
+{
+    if x == 0 {
+        return;
+    }
+    hopeless::clear(table, k);
+}
+
 // The rest of index j is read, from a state before it.
 fn place(
     starts: &[u32],
@@ -326,7 +339,7 @@ fn place(
     j: usize,
     st: State,
 ) -> State
-    requires { ⌜ (Lent (courseOf (now starts) (now ends) (now promised) s) (now owed) (now table)) × (Zeros (now owed)) × (Before (courseOf (now starts) (now ends) (now promised) s) j st) × (j < count (courseOf (now starts) (now ends) (now promised) s)) × (length (now reading) ≡ entryBytes * count (courseOf (now starts) (now ends) (now promised) s)) ⌝ }
+    requires { ⌜ (Lent (courseOf (now starts) (now ends) (now promised) s) (now owed) (now table)) × (Zeros (now owed)) × (Before (courseOf (now starts) (now ends) (now promised) s) j st) × (j < count (courseOf (now starts) (now ends) (now promised) s)) × (length (now reading) ≡ entryBytes * count (courseOf (now starts) (now ends) (now promised) s)) × (Sound (courseOf (now starts) (now ends) (now promised) s) (now table)) ⌝ }
     ensures { λ r. ⌜ Stepped (courseOf (now (starts .entry)) (now (ends .entry)) (now (promised .entry)) s) (courseOf (now (starts .entry)) (now (ends .entry)) (now (promised .exit)) s) j st (now (owed .entry)) (now (owed .exit)) (now (table .exit)) (now (reading .entry)) (now (reading .exit)) r ⌝ }
 {
     let Brought::To(here) = steps::advance(starts, ends, j, st, starts[j] / recording::WEEK_MINUTES)
@@ -340,7 +353,7 @@ fn place(
         return put_daily(starts, ends, promised, s, reading, j, here);
     }
     let choice = first_weekly(starts, ends, promised, s, owed, table, j, here);
-    put_weekly(
+    let next = put_weekly(
         starts,
         ends,
         promised,
@@ -350,7 +363,9 @@ fn place(
         here,
         choice.week,
         choice.carrier,
-    )
+    );
+    renew(table, starts.len(), choice.carrier);
+    next
 }
 
 // All rests are read, where nothing is promised or owed.
@@ -363,7 +378,7 @@ fn write_entries(
     table: &mut [u32],
     reading: &mut [u8],
 )
-    requires { ⌜ (Lent (courseOf (now starts) (now ends) (now promised) s) (now owed) (now table)) × (Zeros (now promised)) × (Zeros (now owed)) × (length (now reading) ≡ entryBytes * count (courseOf (now starts) (now ends) (now promised) s)) ⌝ }
+    requires { ⌜ (Lent (courseOf (now starts) (now ends) (now promised) s) (now owed) (now table)) × (Zeros (now promised)) × (Zeros (now owed)) × (length (now reading) ≡ entryBytes * count (courseOf (now starts) (now ends) (now promised) s)) × (Sound (courseOf (now starts) (now ends) (now promised) s) (now table)) ⌝ }
     ensures { λ r. ⌜ ((f : List ℕ) → Least (restsOnly (now (starts .entry)) (now (ends .entry)) s) f → now (reading .exit) ≡ f) ⌝ }
 {
     let mut st = steps::start_state(reading::rest_week(starts, ends, starts.len(), 0));

@@ -31,6 +31,7 @@ returns c =
       },
       refl,
       refl,
+      s .pre .5,
     )
 
 rest-week-requires : tie.Need-rest-week-requires
@@ -85,6 +86,7 @@ first-carrier-requires c κs =
           (leb (regularMinutes + load) (lengthAt k (s .args .j))) (c .before .before .before .before .before .before .before .before .before .before .before .before .advance .ensures) (c .before .before .before .before .before .before .before .before .before .before .there .given .1) (c .before .before .before .after-weekly .ensures) (s .pre .1) (s .pre .3) (s .pre .4),
       s .pre .1 .within,
       s .pre .4,
+      s .pre .5,
     )
 
 returns-2 : tie.Need-returns-2
@@ -101,6 +103,7 @@ returns-2 c =
       },
       f .1,
       f .2,
+      f .3,
     )
 
 pub carrier-in-spec : {M : Type 1} → statement M

@@ -6,9 +6,9 @@ use native.Mathlib.Omega.{arith}
 use lib.ListN.{length}
 use denote.Ref.{now}
 use Rattle.recording.proofs.TestLaws.{less-or-not}
-use Rattle.search.specs.Search.{courseOf}
+use Rattle.search.specs.Search.{courseOf, Sound}
 use Rattle.first_reading.specs.Choices.{GoesWith}
-use Rattle.first_reading.proofs.Placing.{lent-same, before-with, goes-same, goes-then, none-below}
+use Rattle.first_reading.proofs.Placing.{sound-with, with-sound, lent-same, before-with, goes-same, goes-then, none-below}
 use borrow.Author.Needs.{needs}
 use Rattle.first_reading.proofs.first_carrier.Statement.{statement}
 use Rattle.first_reading.proofs.first_carrier.Tie as tie
@@ -16,13 +16,13 @@ use Rattle.first_reading.proofs.first_carrier.Tie as tie
 abbrev Inv-loop : tie.InvT-loop
 Inv-loop starts ends promised₀ s owed₀ table₀ j w next x₀ promised owed table x =
     (promised ≡ promised₀) × (owed ≡ owed₀) × (length table ≡ length table₀) × (x ≤ length starts + 1) × (0 < x → j + 1 < x)
-    × ((y : ℕ) → y < x → GoesWith (courseOf starts ends promised₀ s) j w next owed₀ y → ⊥)
+    × ((y : ℕ) → y < x → GoesWith (courseOf starts ends promised₀ s) j w next owed₀ y → ⊥) × Sound (courseOf starts ends promised₀ s) table
 
 abbrev μ-loop : tie.MeasureT-loop
 μ-loop starts ends promised₀ s owed₀ table₀ j w next x₀ promised owed table x = length starts + 1 - x
 
 loop-holds : tie.Need-loop-holds Inv-loop μ-loop
-loop-holds c = (refl, refl, refl, zero-le, λ p. absurd (omega arith), λ y l. absurd (omega arith))
+loop-holds c = (refl, refl, refl, zero-le, λ p. absurd (omega arith), λ y l. absurd (omega arith), (c .before .before .before .before .before) .pre .4)
 
 goes-with-requires : tie.Need-goes-with-requires Inv-loop μ-loop
 goes-with-requires c κs =
@@ -34,6 +34,7 @@ goes-with-requires c κs =
       s .pre .3,
       c .before .before .before .loop-test .taken,
       i .4,
+      sound-with k (i .0) (i .6),
     )
 
 returns : tie.Need-returns Inv-loop μ-loop
@@ -47,6 +48,7 @@ returns c =
       },
       c .before .before .before .before .before .before .before .goes-with .ensures .0 .same ∙ i .1,
       c .before .before .before .before .before .before .before .goes-with .ensures .1 ∙ i .0,
+      with-sound k (i .0) (c .before .before .before .before .before .before .before .goes-with .ensures .0 .sound),
     )
 
 next-carrier-requires : tie.Need-next-carrier-requires Inv-loop μ-loop
@@ -66,6 +68,7 @@ loop-again c =
       λ p. ⊎-elim (λ q. omega (arith, q .1)) (λ q. omega (arith, q .1, i .4 (q .0))) (c .next-carrier .ensures),
       none-below k (s .args .j) (c .before .before .before .before .before .before .before .before .before .before .before .before .before .loop .x) (c .next-carrier .result) (c .next-carrier .ensures)
           (λ g. c .before .before .before .before .before .before .before .before .goes-with .ensures .0 .no (c .before .if1 .left) (goes-then {c = k} (i .0) (i .1) g)) (i .5),
+      with-sound k (i .0) (c .before .before .before .before .before .before .before .before .goes-with .ensures .0 .sound),
     )
 
 returns-2 : tie.Need-returns-2 Inv-loop μ-loop
@@ -77,6 +80,7 @@ returns-2 c =
       },
       i .1,
       i .0,
+      i .6,
     )
 
 pub first-carrier-spec : {M : Type 1} → statement M

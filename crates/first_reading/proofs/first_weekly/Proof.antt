@@ -11,9 +11,9 @@ use Rattle.rules.specs.ReadingRules.{leastNet}
 use Rattle.rules.specs.declared.Kind.the-variants.{Weekly}
 use Rattle.rules.specs.declared.Standing.the-variants.{Regular}
 use Rattle.completion.specs.Completable.{at, lengthAt}
-use Rattle.search.specs.Search.{courseOf}
+use Rattle.search.specs.Search.{courseOf, Sound}
 use Rattle.first_reading.specs.Choices.{GoesWeekly}
-use Rattle.first_reading.proofs.Placing.{lent-same, at-rest-with, first-same, first-here, none-before, none-at-all}
+use Rattle.first_reading.proofs.Placing.{sound-with, with-sound, lent-same, at-rest-with, first-same, first-here, none-before, none-at-all}
 use borrow.Author.Needs.{needs}
 use Rattle.first_reading.proofs.first_weekly.Statement.{statement}
 use Rattle.first_reading.proofs.first_weekly.Tie as tie
@@ -21,7 +21,7 @@ use Rattle.first_reading.proofs.first_weekly.Tie as tie
 abbrev Inv-loop : tie.InvT-loop
 Inv-loop starts ends promised₀ s owed₀ table₀ j here end w₀ promised owed table w =
     (promised ≡ promised₀) × (owed ≡ owed₀) × (length table ≡ length table₀) × (weekOf (at starts j) ≤ w) × (weekStart w ≤ at ends j + weekMinutes)
-    × ((v y : ℕ) → v < w → GoesWeekly (courseOf starts ends promised₀ s) j here owed₀ v y → ⊥)
+    × ((v y : ℕ) → v < w → GoesWeekly (courseOf starts ends promised₀ s) j here owed₀ v y → ⊥) × Sound (courseOf starts ends promised₀ s) table
 
 abbrev μ-loop : tie.MeasureT-loop
 μ-loop starts ends promised₀ s owed₀ table₀ j here end w₀ promised owed table w = at ends j - w
@@ -39,7 +39,7 @@ shared-slice-read-w : tie.Need-shared-slice-read-w Inv-loop μ-loop
 shared-slice-read-w c = let s = (c .before .before .before .before .before .before .before) in s .pre .1 .within
 
 loop-holds : tie.Need-loop-holds Inv-loop μ-loop
-loop-holds c = let s = (c .before .before .before .before .before .before .before) in (refl, refl, refl, le-refl _, omega (arith, s .pre .0 .lies .proper (s .args .j) (s .pre .1 .within)), λ v y l g. omega (arith, l, g .from))
+loop-holds c = let s = (c .before .before .before .before .before .before .before) in (refl, refl, refl, le-refl _, omega (arith, s .pre .0 .lies .proper (s .args .j) (s .pre .1 .within)), λ v y l g. omega (arith, l, g .from), s .pre .3)
 
 mul-loop : tie.Need-mul-loop Inv-loop μ-loop
 mul-loop c = let s = (c .before .before .before .before .before .before .before .before) in omega (arith, c .loop .inv .4, s .pre .0 .lies .judged (s .args .j) (s .pre .1 .within), s .pre .0 .judged)
@@ -53,6 +53,7 @@ carrier-in-requires c κs =
       subst (λ (p : List ℕ). leastNet (Weekly Regular) + at p (s .args .j) ≤ lengthAt k (s .args .j)) (sym (i .0)) (s .pre .2),
       omega (arith, i .3),
       c .before .before .before .loop-test .taken,
+      sound-with k (i .0) (i .6),
     )
 
 same-length-2 : tie.Need-same-length-2 Inv-loop μ-loop
@@ -68,6 +69,7 @@ returns c =
       first-here k (s .args .j) (c .before .before .before .before .before .before .before .before .before .before .before .before .loop .w) (c .before .before .before .before .before .before .before .carrier-in .result) (first-same {c = k} (i .0) (i .1) (c .before .before .before .before .before .before .before .carrier-in .ensures .0)) (c .if1 .taken) (i .5),
       c .before .before .before .before .before .before .before .carrier-in .ensures .1 ∙ i .1,
       c .before .before .before .before .before .before .before .carrier-in .ensures .2 ∙ i .0,
+      with-sound k (i .0) (c .before .before .before .before .before .before .before .carrier-in .ensures .3),
     )
 
 add-w : tie.Need-add-w Inv-loop μ-loop
@@ -86,6 +88,7 @@ loop-again c =
       omega (arith, i .3),
       omega (arith, c .before .before .before .before .before .before .before .before .before .before .before .loop-test .taken),
       none-before k (s .args .j) (c .before .before .before .before .before .before .before .before .before .before .before .before .loop .w) (c .before .before .before .before .before .before .before .carrier-in .result) (first-same {c = k} (i .0) (i .1) (c .before .before .before .before .before .before .before .carrier-in .ensures .0)) (c .if1 .left) (i .5),
+      with-sound k (i .0) (c .before .before .before .before .before .before .before .carrier-in .ensures .3),
     )
 
 add-t25 : tie.Need-add-t25 Inv-loop μ-loop
@@ -94,7 +97,7 @@ add-t25 c = let s = (c .before .before .before .before .before .before .before .
 returns-2 : tie.Need-returns-2 Inv-loop μ-loop
 returns-2 c =
     let s = (c .before .before .before .before .before .before .before .before .before) in let k = courseOf (now (s .args .starts)) (now (s .args .ends)) (now (s .args .promised)) (s .args .s) in
-    let i = c .before .loop .inv in (none-at-all k (s .args .j) (c .before .loop .w) (c .loop-test .left) (i .5), i .1, i .0)
+    let i = c .before .loop .inv in (none-at-all k (s .args .j) (c .before .loop .w) (c .loop-test .left) (i .5), i .1, i .0, i .6)
 
 pub first-weekly-spec : {M : Type 1} → statement M
 first-weekly-spec =

@@ -6,7 +6,8 @@ use borrow.Author.Tests.{not-true, not-false}
 use denote.Ref.{now}
 use Rattle.reading.specs.Items.{paid}
 use Rattle.search.specs.Search.{courseOf, Later, Lent}
-use Rattle.first_reading.proofs.Placing.{told-no, told-as, sized-of, sized-with, lent-of, before-with, room-with}
+use Rattle.search.proofs.Answers.{refuse, carry}
+use Rattle.first_reading.proofs.Placing.{sized-of, sized-with, lent-of, before-with, room-with}
 use borrow.Author.Needs.{needs}
 use Rattle.first_reading.proofs.goes_with.Statement.{statement}
 use Rattle.first_reading.proofs.goes_with.Tie as tie
@@ -17,7 +18,7 @@ carries-requires c κs = let s = (c .before .before .before .before .before .bef
 returns : tie.Need-returns
 returns c =
     let s = (c .before .before .before .before .before .before .before .before) in let k = courseOf (now (s .args .starts)) (now (s .args .ends)) (now (s .args .promised)) (s .args .s) in (
-      told-no (λ g. c .before .carries .ensures .no (not-true _ (c .if1 .taken)) (record { carried = g .carried; fits = room-with k (s .args .j) (s .args .w) (s .args .next) (now (s .args .owed)) (s .args .x) (s .pre .0 .promised-too) g })),
+      refuse (λ g. c .before .carries .ensures .no (not-true _ (c .if1 .taken)) (record { carried = g .carried; fits = room-with k (s .args .j) (s .args .w) (s .args .next) (now (s .args .owed)) (s .args .x) (s .pre .0 .promised-too) g })) refl (s .pre .6),
       refl,
     )
 
@@ -36,13 +37,14 @@ asks-with-requires c κs =
       before-with k (paid (now (s .args .promised)) (s .args .x) (c .before .before .before .reduction .result)) (s .pre .1),
       s .pre .2,
       omega (arith, s .pre .4, s .pre .0 .promised-too),
+      s .pre .6,
     )
 
 returns-2 : tie.Need-returns-2
 returns-2 c =
     let s = (c .before .before .before .before .before .before .before .before .before .before .before .before .before .before .before .before .before .before .before .before .before .before) in let k = courseOf (now (s .args .starts)) (now (s .args .ends)) (now (s .args .promised)) (s .args .s) in
     let y = c .before .before .before .before .before .before .before .before .before .before .before .before .before .before .before .carries .ensures .yes (not-false _ (c .before .before .before .before .before .before .before .before .before .before .before .before .before .before .if1 .left)) in (
-      told-as
+      carry
           (λ p. record { carried = y .carried; then = subst (λ (d : ℕ). Later (courseOf (now (s .args .starts)) (now (s .args .ends)) (paid (now (s .args .promised)) (s .args .x) d) (s .args .s)) (s .args .j) (s .args .next) (now (s .args .owed))) (c .before .before .before .before .before .before .before .before .before .before .reduction .ensures) p })
           (λ g. subst (λ (d : ℕ). Later (courseOf (now (s .args .starts)) (now (s .args .ends)) (paid (now (s .args .promised)) (s .args .x) d) (s .args .s)) (s .args .j) (s .args .next) (now (s .args .owed))) (sym (c .before .before .before .before .before .before .before .before .before .before .reduction .ensures)) (g .then))
           (c .before .before .before .before .before .before .asks-with .ensures .0),

@@ -1,5 +1,5 @@
 -- `first_reading::put_weekly` meets its contract. Assumes nothing.
-use mathlib.Core.Path.{_≡_, sym, ap, subst, _∙_}
+use mathlib.Core.Path.{_≡_, refl, sym, ap, subst, _∙_}
 use mathlib.Core.List.{List}
 use Prim.Native.Nat.{ℕ, _+_, _-_, _%_}
 use native.Mathlib.Nat.{le-refl}
@@ -15,7 +15,7 @@ use Rattle.completion.specs.Completable.{at, restWeek, lengthAt}
 use Rattle.search.specs.Search.{courseOf}
 use Rattle.search.proofs.Answers.{brought, before-weekly, to-counted}
 use Rattle.first_reading.specs.Choices.{withEntry, Sized}
-use Rattle.first_reading.proofs.Placing.{before-here, before-with, sized-with, broken-not-to, to-same, counted-state}
+use Rattle.first_reading.proofs.Placing.{paid-none, before-here, before-with, sized-with, broken-not-to, to-same, counted-state}
 use borrow.Author.Needs.{needs}
 use Rattle.first_reading.proofs.put_weekly.Statement.{statement}
 use Rattle.first_reading.proofs.put_weekly.Tie as tie
@@ -26,6 +26,7 @@ returns c =
     record {
       sized = s .pre .0;
       before = before-here k (s .pre .0 .lies) (s .args .j) (s .args .here) (s .pre .1);
+      kept = λ _. refl;
       done = λ there l e. absurd (omega (arith, l, c .if1 .taken));
     }
 
@@ -41,6 +42,7 @@ returns-2 c =
     record {
       sized = s .pre .0;
       before = before-here k (s .pre .0 .lies) (s .args .j) (s .args .here) (s .pre .1);
+      kept = λ _. refl;
       done = λ there l e. absurd (broken-not-to (c .before .before .advance .ensures) (c .enum-told .given .1) e);
     }
 
@@ -101,6 +103,7 @@ returns-3 c =
           before-with k (c .before .before .before .before .promise .last .0)
           (before-weekly k (s .pre .0 .lies) j (s .args .here) (now (s .args .promised)) load w (c .before .before .before .before .before .before .before .before .before .before .before .before .before .before .rest-week .result) (leb (regularMinutes + load) (lengthAt k j))
           (c .before .before .before .before .before .before .before .before .before .before .before .before .before .before .before .before .before .before .advance .ensures) (c .before .before .before .before .before .before .before .before .before .before .before .before .before .before .before .before .there .given .1) (c .after-weekly .ensures) (s .pre .1) (h .0) (h .1));
+      kept = λ z. p ∙ paid-none (now (s .args .promised)) x _ z;
       done = λ there l e. record {
         promised = p;
         written =

@@ -9,7 +9,7 @@ use denote.Ref.{now}
 use Rattle.rules.specs.Reading.{entryBytes}
 use Rattle.reading.specs.Items.{Zeros}
 use Rattle.completion.specs.States.{startState}
-use Rattle.search.specs.Search.{courseOf, Lent, Before}
+use Rattle.search.specs.Search.{courseOf, Sound, Lent, Before}
 use Rattle.search.proofs.Answers.{before-start}
 use Rattle.first_reading.specs.First.{Least, restsOnly}
 use Rattle.first_reading.proofs.Placing.{Progress, progress-start, progress-on, progress-end}
@@ -21,7 +21,7 @@ abbrev Inv-loop : tie.InvT-loop
 Inv-loop starts ends promised₀ s owed₀ table₀ reading₀ st₀ j₀ promised owed table reading st j =
     Lent (courseOf starts ends promised s) owed table × (owed ≡ owed₀) × (length table ≡ length table₀) × Before (courseOf starts ends promised s) j st
     × (length reading ≡ entryBytes * length starts)
-    × ((f : List ℕ) → Least (restsOnly starts ends s) f → Progress (courseOf starts ends promised s) f reading j st)
+    × ((f : List ℕ) → Least (restsOnly starts ends s) f → Progress (courseOf starts ends promised s) f reading j st) × Sound (courseOf starts ends promised s) table
 
 abbrev μ-loop : tie.MeasureT-loop
 μ-loop starts ends promised₀ s owed₀ table₀ reading₀ st₀ j₀ promised owed table reading st j = length starts - j
@@ -38,12 +38,13 @@ loop-holds c =
       before-start k (s .pre .0 .lies) (c .before .rest-week .result) (c .start-state .ensures),
       s .pre .3,
       λ f l. progress-start k f (now (s .args .reading)) (c .start-state .result) l (s .pre .1) (c .start-state .ensures ∙ ap startState (c .before .rest-week .ensures)),
+      s .pre .4,
     )
 
 place-requires : tie.Need-place-requires Inv-loop μ-loop
 place-requires c κs =
     let s = (c .before .before .before .before .before .before .before .before .before .before .before .before .before .before) in
-    let i = c .before .before .before .before .before .loop .inv in (i .0, subst Zeros (sym (i .1)) (s .pre .2), i .3, c .before .before .before .before .loop-test .taken, i .4)
+    let i = c .before .before .before .before .before .loop .inv in (i .0, subst Zeros (sym (i .1)) (s .pre .2), i .3, c .before .before .before .before .loop-test .taken, i .4, i .6)
 
 add-j : tie.Need-add-j Inv-loop μ-loop
 add-j c = let s = (c .before .before .before .before .before .before .before .before .before .before .before .before .before .before .before .before .before .before .before .before .before .before .before) in omega (arith, c .before .before .before .before .before .before .before .before .before .before .before .before .before .loop-test .taken, s .pre .0 .few)
@@ -63,6 +64,7 @@ loop-again c =
       c .before .before .before .before .before .before .before .before .place .kept .1 .1 .1 .1 .1 .1 .0 ∙ i .4,
       λ f l. progress-on (courseOf (now (s .args .starts)) (now (s .args .ends)) (c .before .before .before .before .before .before .before .before .before .before .before .before .before .before .loop .promised) (s .args .s)) (courseOf (now (s .args .starts)) (now (s .args .ends)) (c .before .before .before .before .before .before .before .before .place .last .1 .1 .0) (s .args .s))
           f (c .before .before .before .before .before .before .before .before .before .before .before .before .before .before .loop .reading) (c .before .before .before .before .before .before .before .before .place .last .1 .1 .1 .1 .1 .1 .0) (c .before .before .before .before .before .before .before .before .before .before .before .before .before .before .loop .j) (c .before .before .before .before .before .before .before .before .before .before .before .before .before .before .loop .st) (c .before .before .before .before .before .before .before .before .place .result) (i .4) (c .before .before .before .before .before .before .before .before .before .before .before .before .before .loop-test .taken) (e .placed) (i .5 f l),
+      e .sound,
     )
 
 same-length : tie.Need-same-length Inv-loop μ-loop

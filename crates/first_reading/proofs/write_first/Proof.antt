@@ -3,7 +3,7 @@ use mathlib.Core.Path.{sym}
 use lib.ListN.{length}
 use denote.Ref.{now}
 use Rattle.search.proofs.Answers.{none-size, none-zeros}
-use Rattle.first_reading.proofs.Placing.{lent-start}
+use Rattle.first_reading.proofs.Placing.{lent-start, sound-start}
 use borrow.Author.Needs.{needs}
 use Rattle.first_reading.proofs.write_first.Statement.{statement}
 use Rattle.first_reading.proofs.write_first.Tie as tie
@@ -21,6 +21,7 @@ write-entries-requires c κs =
       none-zeros (length (now (s .args .starts))),
       none-zeros (length (now (s .args .starts))),
       s .pre .3,
+      sound-start (now (s .args .starts)) (now (s .args .ends)) (s .args .s) (s .pre .0) (s .pre .1),
     )
 
 pub write-first-spec : {M : Type 1} → statement M
