@@ -29,7 +29,7 @@ pub record Within (a b : ℕ) : Type 0 where
   pub later : dueOf b ≤ dueOf a
 
 -- each of the debts o lies within one of the debts p, whatever rests owe them, no two within the same; all of them, and those they lie within,
--- are of rests before that of index j; the slots of p are k
+-- stand in slots below j; p has k slots
 pub record Matched (k j : ℕ) (o p : List ℕ) : Type 0 where
   pub long : length p ≡ k
   pub to : ℕ → ℕ

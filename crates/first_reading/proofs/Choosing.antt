@@ -463,7 +463,7 @@ module _ (c : Course) (lies : Lies c) (few : count c < byteValues) (bound : c .j
         both (NotPast.sooner s) a b = absurd (omega arith)
         both (NotPast.same e s) a b = (sym e, omega (arith, b (sym e)))
 
--- ---- THE STEP: before the rest of index j, in a state brought on to the week in which it starts
+-- ---- the step: before the rest of index j, in a state brought on to the week in which it starts
 module _ (c : Course) (lies : Lies c) (few : count c < byteValues) (bound : c .judged ≤ totalAtMost) (long : length (c .promised) ≡ count c)
     (j : ℕ) (inside : j < count c) (st : State) (past : List Entry) (r : List ℕ) where
   abbrev Brought-to : State → Type 0

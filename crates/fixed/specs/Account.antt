@@ -1,4 +1,4 @@
--- The account that the walk keeps, minute by minute. Nobody has to believe it: proofs/AccountRight.antt shows that it answers the fixed rules as
+-- The account of the fixed rules, defined minute by minute. Nobody has to believe it: proofs/AccountRight.antt shows that it answers the fixed rules as
 -- document 01 says them.
 -- Assumes nothing.
 use mathlib.Core.Bool.{Bool, true, false}

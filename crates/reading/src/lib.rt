@@ -38,7 +38,7 @@ pub struct LongRest {
     pub kind: Kind,
 }
 
-// What the walk over the rests keeps for rules 7 to 10: the smallest broken rule or 0, the shortened daily rests since the last
+// What the walk over the rests keeps for rules 8 to 10: the smallest broken rule or 0, the shortened daily rests since the last
 // weekly rest, and where that ended.
 pub struct Tally {
     pub rule: u32,

@@ -1,6 +1,6 @@
 // A recording of a driver's activity, minute by minute. What is said of it stands in specs/.
 ghost use mathlib.Core.Path.{_≡_};
-ghost use Prim.Native.Nat.{_+_, _≤_, _<_};
+ghost use Prim.Native.Nat.{_+_, _≤_};
 ghost use lib.ListN.{length, set};
 ghost use Rattle.recording.specs.Tests.{pick};
 ghost use Rattle.recording.specs.Words.{minutesOf};
@@ -33,7 +33,7 @@ pub enum Filling {
     Written(u32),
 }
 
-// The total of a recording, or its first word's fault.
+// The total of a recording, or the refusal of its first word at fault.
 pub enum Total {
     Refused(u32),
     Minutes(u32),

@@ -111,7 +111,7 @@ pub fn tries(
     false
 }
 
-// The rest of index j has a load, and compensates for some of the debts of the rests from i on.
+// The rest of index j has a load, and compensates for some of the debts in the slots from i on.
 pub fn pay(
     starts: &[u32],
     ends: &[u32],
@@ -150,7 +150,7 @@ pub fn pay(
     )
 }
 
-// It compensates for the debt of d and for some of the later ones.
+// It compensates for the debt in slot d and for some of the later ones.
 pub fn pay_one(
     starts: &[u32],
     ends: &[u32],
@@ -374,7 +374,7 @@ pub fn count_in(
     found
 }
 
-// The same question as that of solve, with a table that is emptied first.
+// The same question as that of solve, where nothing is owed, with a table that is emptied first.
 pub fn completes(
     starts: &[u32],
     ends: &[u32],

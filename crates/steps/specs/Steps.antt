@@ -25,7 +25,7 @@ pub record Fits (debt load minutes : ℕ) : Type 0 where
   pub owes : 0 < debt
   pub fits : leastNet Daily + (load + amountOf debt) ≤ minutes
 
--- r is the first index from i on, below n, whose debt fits, or n
+-- r is the first slot from i on, below n, whose debt fits, or n
 pub record Debtor (owed : List ℕ) (i n load minutes r : ℕ) : Type 0 where
   pub low : i ≤ r
   pub high : r ≤ n

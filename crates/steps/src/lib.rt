@@ -250,7 +250,7 @@ pub fn payable(debt: u32, load: u32, minutes: u32) -> bool
     reading::DAILY_NET + (load + debt % DEBT_UNIT) <= minutes
 }
 
-// The first index from i on, below n, whose debt fits, or n.
+// The first slot from i on, below n, whose debt fits, or n.
 pub fn debtor(owed: &[u32], n: usize, i: usize, load: u32, minutes: u32) -> usize
     requires { ⌜ (i ≤ n) × (n ≤ length (now owed)) × (load ≤ loadAtMost) ⌝ }
     ensures { λ r. ⌜ Debtor (now (owed .entry)) i n load minutes r ⌝ }

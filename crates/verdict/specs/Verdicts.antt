@@ -57,7 +57,7 @@ abbrev pub findingIn : Ruling → Finding
 findingIn ruling.Lawful = unbroken
 findingIn (ruling.Unlawful b) = broken (b .minute) (b .article)
 
--- ---- the long rests of the first m minutes, in two slices, with their count and S
+-- ---- the long rests of the first m minutes, in two slices, with their count, S, the smallest broken fixed rule and the first breach
 pub record Cut (words : List ℕ) (m : ℕ) (r : Rests) (starts ends : List ℕ) : Type 0 where
   pub count : r .count ≡ length (longRests (prefix m (minutesOf words)))
   pub judged : r .judged ≡ judgedEnd (prefix m (minutesOf words))
