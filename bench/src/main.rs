@@ -18,6 +18,11 @@ use second::grow;
 use second::verdict::Outcome;
 use second::Limits;
 
+const SLOW: [&str; 2] = [
+    include_str!("../recordings/slow_breach.txt"),
+    include_str!("../recordings/slow_pass.txt"),
+];
+
 /// Bytes enough for any reading.
 const READING: usize = 3 * hours_desk::LONG_RESTS_AT_MOST;
 
@@ -56,14 +61,21 @@ fn kind(name: &str, count: u64, grow: impl Fn(&mut Dice) -> Vec<u32>) -> Kind {
     (name.to_owned(), recordings)
 }
 
-/// Ordinary weeks; grown rest by rest while lawful; grown to be hard; many rests just over 24 hours and few that can pay back.
+/// Ordinary weeks; grown rest by rest while lawful; grown to be hard; many rests just over 24 hours and few that can pay back; the
+/// stored recordings that a search is slow on.
 fn kinds() -> Vec<Kind> {
     vec![
         kind("ordinary", 400, grow::ordinary),
         kind("grown", 200, grow::grown),
         kind("hard", 40, |dice| grow::hard(dice, 150)),
         kind("scarce", 100, grow::scarce),
+        ("slow".to_owned(), SLOW.map(stored).into()),
     ]
+}
+
+/// The recording of a stored text.
+fn stored(text: &str) -> Vec<u32> {
+    second::text::parse(text.as_bytes()).expect("a stored text is of the form")
 }
 
 /// Ordinary recordings of one to twelve weeks; and of twelve in some two thousand words, each word cut into four.

@@ -1,5 +1,5 @@
-//! The answers that stand beside the recordings of examples/, held against
-//! this program.
+//! The answers that stand beside the recordings of examples/ and of
+//! bench/recordings/, held against this program.
 
 use std::fs;
 use std::path::Path;
@@ -8,7 +8,16 @@ use second::print::print;
 
 #[test]
 fn every_example_has_its_answer() {
-    let folder = Path::new(env!("CARGO_MANIFEST_DIR")).join("../examples");
+    every_text_has_its_answer("../examples");
+}
+
+#[test]
+fn every_slow_recording_has_its_answer() {
+    every_text_has_its_answer("../bench/recordings");
+}
+
+fn every_text_has_its_answer(folder: &str) {
+    let folder = Path::new(env!("CARGO_MANIFEST_DIR")).join(folder);
     let mut seen = 0;
     for entry in fs::read_dir(folder).unwrap() {
         let text = entry.unwrap().path();
