@@ -61,14 +61,15 @@ fn kind(name: &str, count: u64, grow: impl Fn(&mut Dice) -> Vec<u32>) -> Kind {
     (name.to_owned(), recordings)
 }
 
-/// Ordinary weeks; grown rest by rest while lawful; grown to be hard; many rests just over 24 hours and few that can pay back; the
-/// stored recordings that a search is slow on.
+/// Ordinary weeks; grown rest by rest while lawful; grown to be hard; many rests just over 24 hours and few that can pay back; climbed
+/// to make the front of a sweep wide; the stored recordings that a search is slow on.
 fn kinds() -> Vec<Kind> {
     vec![
         kind("ordinary", 400, grow::ordinary),
         kind("grown", 200, grow::grown),
         kind("hard", 40, |dice| grow::hard(dice, 150)),
         kind("scarce", 100, grow::scarce),
+        kind("climbed", 40, |dice| grow::climbed(dice, 8, 400)),
         ("slow".to_owned(), SLOW.map(stored).into()),
     ]
 }

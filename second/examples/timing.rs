@@ -25,6 +25,10 @@ fn main() {
         "scarce",
         (0..400).map(|seed| grow::scarce(&mut Dice::new(seed))),
     );
+    report(
+        "climbed",
+        (0..40).map(|seed| grow::climbed(&mut Dice::new(seed), 8, 400)),
+    );
 }
 
 /// Prints the median and the most of time and steps.

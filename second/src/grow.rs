@@ -3,8 +3,9 @@
 
 use crate::dice::Dice;
 use crate::fast::Judge;
+use crate::fronts::Front;
 use crate::limits::Limits;
-use crate::recording::{word, Activity};
+use crate::recording::{word, Activity, Span};
 use crate::verdict::Outcome;
 
 const TOTAL: u32 = 120_960;
@@ -271,6 +272,80 @@ pub fn scarce(dice: &mut Dice) -> Vec<u32> {
         draft.push(Activity::Rest, rest);
     }
     draft.words
+}
+
+/// Twelve weeks climbed to make the front wide: each rest is the one of so many
+/// that leaves the most states which no other makes needless, but no more than
+/// `widest`. Where nothing is left, the last few days are taken back. Half of
+/// them have daily rests alone in the last week.
+pub fn climbed(dice: &mut Dice, candidates: u32, widest: usize) -> Vec<u32> {
+    let climb = Climb::new(dice);
+    let end = TOTAL - if dice.one_in(2) { 0 } else { WEEK };
+    let mut days = Days::default();
+    let mut fronts = vec![Front::new(i64::from(TOTAL) - 1)];
+    for _ in 0..400 {
+        let front = fronts.last().expect("the first front is never taken back");
+        let reached = days.draft().total;
+        if reached >= end {
+            break;
+        }
+        let fronts_after = (0..candidates).filter_map(|_| {
+            let (work, rest) = climb.day(dice);
+            let start = i64::from(reached + work);
+            let end = start + i64::from(rest);
+            let after = front.after(Span { start, end }, widest)?;
+            (after.width() > 0).then_some(((work, rest), after))
+        });
+        match fronts_after.max_by_key(|(_, after)| after.width()) {
+            Some((day, after)) => {
+                days.0.push(day);
+                fronts.push(after);
+            }
+            None => {
+                days.0.truncate(days.0.len().saturating_sub(4));
+                fronts.truncate(days.0.len() + 1);
+            }
+        }
+    }
+    days.words()
+}
+
+/// What a climb chooses from: lengths of little more than 24 hours, one of 45
+/// hours and more, one of a daily rest, and minutes of work.
+struct Climb {
+    lengths: [u32; 4],
+    longer: u32,
+    daily: u32,
+    work: u32,
+}
+
+impl Climb {
+    fn new(dice: &mut Dice) -> Climb {
+        let mut length = || dice.between(1_440, 1_540);
+        Climb {
+            lengths: [length(), length(), length(), length()],
+            longer: dice.between(2_700, 2_970),
+            daily: dice.between(540, 900),
+            work: dice.between(1, 5),
+        }
+    }
+
+    /// Work, and a rest after it.
+    fn day(&self, dice: &mut Dice) -> (u32, u32) {
+        let work = match dice.below(8) {
+            0 => dice.between(1, 60),
+            _ => self.work,
+        };
+        let rest = match dice.weighted(&[8, 8, 4, 2, 3, 2]) {
+            0 => self.lengths[dice.below(4) as usize],
+            1 => dice.between(1_440, 1_540),
+            2 => self.longer,
+            3 => dice.between(2_700, 2_970),
+            4 => self.daily,
+            _ => dice.between(540, 1_439),
+        };
+        (work, rest)
+    }
 }
 
 /// Days of work alone: minutes of work, then minutes of rest.

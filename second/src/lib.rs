@@ -7,12 +7,14 @@
 //! * [`runs`], [`search`] and [`fast`] answer the same questions run by run,
 //!   for recordings of any size; [`stepwise`] stands in between, for tests.
 //! * [`verdict`], [`entry`], [`text`] and [`print`] are the other operations.
-//! * [`grow`] and [`small`] make recordings to compare on, by the [`dice`].
+//! * [`grow`] and [`small`] make recordings to compare on, by the [`dice`];
+//!   [`fronts`] tells how wide a front they come to.
 
 pub mod dice;
 pub mod entry;
 pub mod fast;
 pub mod fixed;
+pub mod fronts;
 pub mod grow;
 pub mod limits;
 pub mod plain;
