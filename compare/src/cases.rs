@@ -17,17 +17,49 @@ pub struct Plan {
     pub stages: u64,
     pub hard: u64,
     pub scarce: u64,
+    pub climbed: u64,
+    /// Of the stored recordings that a search is slow on, the first so many.
+    pub slow: usize,
     pub entries: u64,
 }
+
+/// The recordings that a search is slow on.
+const SLOW: [&str; 2] = [
+    include_str!("../../bench/recordings/slow_breach.txt"),
+    include_str!("../../bench/recordings/slow_pass.txt"),
+];
 
 /// What the comparison does with each input; whether it goes on.
 pub type Visit<'a> = &'a mut dyn FnMut(&'static str, Try) -> bool;
 
-/// Visits the inputs, the shorter kinds first; whether it came to the end.
+/// A recording, readings of it that are worth testing, and the dice by which
+/// its inputs are made.
+pub struct Recorded<'a> {
+    pub words: &'a [u32],
+    pub readings: &'a [Vec<u8>],
+    pub dice: &'a mut Dice,
+}
+
+/// What is done with each recording; whether it goes on.
+pub type VisitRecording<'a> = &'a mut dyn FnMut(&'static str, Recorded) -> bool;
+
+/// Visits the inputs; whether it came to the end.
 pub fn each(plan: &Plan, visit: Visit) -> bool {
-    edges_of_the_document(visit)
-        && texts(visit)
+    texts(visit)
         && each_entry(plan, visit)
+        && each_recording(plan, &mut |kind, recorded| {
+            let Recorded {
+                words,
+                readings,
+                dice,
+            } = recorded;
+            all(kind, inputs::of_recording(dice, words, readings), visit)
+        })
+}
+
+/// Visits the recordings, the shorter kinds first; whether it came to the end.
+pub fn each_recording(plan: &Plan, visit: VisitRecording) -> bool {
+    edges_of_the_document(visit)
         && recordings_of(plan.random, 1, "random words", recordings::random, visit)
         && recordings_of(plan.few_days, 2, "few days", recordings::few_days, visit)
         && few_days_changed(plan, visit)
@@ -35,13 +67,41 @@ pub fn each(plan: &Plan, visit: Visit) -> bool {
         && grown(plan, visit)
         && recordings_of(plan.hard, 6, "hard", |dice| grow::hard(dice, 150), visit)
         && recordings_of(plan.scarce, 7, "scarce", grow::scarce, visit)
+        && recordings_of(plan.climbed, 8, "climbed", climbed, visit)
+        && slow(plan, visit)
 }
 
 fn all(kind: &'static str, tries: Vec<Try>, visit: Visit) -> bool {
     tries.into_iter().all(|attempt| visit(kind, attempt))
 }
 
-fn edges_of_the_document(visit: Visit) -> bool {
+/// Visits one recording that has no readings of its own.
+fn one(kind: &'static str, words: &[u32], dice: &mut Dice, visit: VisitRecording) -> bool {
+    let readings = &[];
+    visit(
+        kind,
+        Recorded {
+            words,
+            readings,
+            dice,
+        },
+    )
+}
+
+/// Climbed to make the front of a sweep wide.
+fn climbed(dice: &mut Dice) -> Vec<u32> {
+    grow::climbed(dice, 8, 400)
+}
+
+fn slow(plan: &Plan, visit: VisitRecording) -> bool {
+    let mut dice = Dice::new(104);
+    SLOW.iter().take(plan.slow).all(|text| {
+        let words = second::text::parse(text.as_bytes()).expect("a stored text is of the form");
+        one("slow", &words, &mut dice, visit)
+    })
+}
+
+fn edges_of_the_document(visit: VisitRecording) -> bool {
     let mut dice = Dice::new(101);
     let kinds = [
         ("on the edge", edges::on_the_edge()),
@@ -49,8 +109,12 @@ fn edges_of_the_document(visit: Visit) -> bool {
     ];
     kinds.into_iter().all(|(kind, edges)| {
         edges.iter().all(|edge| {
-            let tries = inputs::of_recording(&mut dice, &edge.words, &edge.readings);
-            all(kind, tries, visit)
+            let recorded = Recorded {
+                words: &edge.words,
+                readings: &edge.readings,
+                dice: &mut dice,
+            };
+            visit(kind, recorded)
         })
     })
 }
@@ -77,16 +141,16 @@ fn recordings_of(
     seed: u64,
     kind: &'static str,
     make: impl Fn(&mut Dice) -> Vec<u32>,
-    visit: Visit,
+    visit: VisitRecording,
 ) -> bool {
     (0..count).all(|number| {
         let mut dice = Dice::new(1_000_000 * seed + number);
         let words = make(&mut dice);
-        all(kind, inputs::of_recording(&mut dice, &words, &[]), visit)
+        one(kind, &words, &mut dice, visit)
     })
 }
 
-fn few_days_changed(plan: &Plan, visit: Visit) -> bool {
+fn few_days_changed(plan: &Plan, visit: VisitRecording) -> bool {
     let make = |dice: &mut Dice| {
         let words = recordings::few_days(dice);
         recordings::changed(dice, &words)
@@ -96,18 +160,16 @@ fn few_days_changed(plan: &Plan, visit: Visit) -> bool {
 
 /// Recordings grown rest by rest up to twelve weeks, as they were while they
 /// grew, and changed.
-fn grown(plan: &Plan, visit: Visit) -> bool {
+fn grown(plan: &Plan, visit: VisitRecording) -> bool {
     (0..plan.grown).all(|number| {
         let mut dice = Dice::new(5_000_000 + number);
         let words = grow::grown(&mut dice);
-        let whole = inputs::of_recording(&mut dice, &words, &[]);
-        all("grown", whole, visit)
+        one("grown", &words, &mut dice, visit)
             && (0..plan.stages).all(|_| {
                 let cut = recordings::cut(&mut dice, &words);
-                let cut = inputs::of_recording(&mut dice, &cut, &[]);
                 let changed = recordings::changed(&mut dice, &words);
-                let changed = inputs::of_recording(&mut dice, &changed, &[]);
-                all("while growing", cut, visit) && all("grown, changed", changed, visit)
+                one("while growing", &cut, &mut dice, visit)
+                    && one("grown, changed", &changed, &mut dice, visit)
             })
     })
 }

@@ -2,25 +2,17 @@
 //! inputs from fixed seeds, lent buffers whole. The first difference ends it,
 //! with the smallest input that still shows it.
 
-mod cases;
-mod difference;
-mod edges;
-mod inputs;
-mod operation;
-mod recordings;
+mod desk;
 mod self_test;
-#[path = "../../second/tests/shorthand/mod.rs"]
-mod shorthand;
-mod shrink;
-mod tally;
 
 use std::process::exit;
 use std::time::Instant;
 
-use cases::Plan;
-use difference::{compared, smallest};
-use operation::{desk, second};
-use tally::Tally;
+use compare::cases::{self, Plan};
+use compare::difference::{compared, smallest};
+use compare::operation::second;
+use compare::tally::Tally;
+use desk::desk;
 
 /// The inputs that each operation is compared on at least.
 const AT_LEAST: usize = 20_000;
@@ -36,6 +28,8 @@ fn main() {
         stages: 5,
         hard: 30,
         scarce: 200,
+        climbed: 60,
+        slow: 2,
         entries: 20_000,
     };
     let mut tally = Tally::default();

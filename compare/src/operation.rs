@@ -1,5 +1,4 @@
-//! An operation with its input, and what the desk and the second program
-//! answer to it.
+//! An operation with its input, and what the second program answers to it.
 
 use second::recording::Span;
 use second::verdict::Verdict;
@@ -110,42 +109,8 @@ pub struct Answer {
 pub type Program = fn(Operation, &Input) -> Answer;
 
 /// A breach is told as 1, its minute and its article; a pass as 0 and its count.
-const PASS: u64 = 0;
-const BREACH: u64 = 1;
-
-pub fn desk(operation: Operation, input: &Input) -> Answer {
-    let mut after = input.clone();
-    let (words, bytes, number) = (&input.words, &input.bytes, input.number);
-    let told = match operation {
-        Operation::Weigh => hours_desk::weigh(words).map(|measure| {
-            [measure.total, measure.judged_end, measure.long_rests]
-                .map(u64::from)
-                .to_vec()
-        }),
-        Operation::List => desk_list(words, &mut after.lent_words, &mut after.lent_ends).map(one),
-        Operation::ListRests => {
-            hours_desk::list_rests(words, &mut after.lent_words, &mut after.lent_ends).map(one)
-        }
-        Operation::FixedTest => hours_desk::fixed_test(words, number as u32).map(one),
-        Operation::ReadingTest => hours_desk::reading_test(words, bytes).map(one),
-        Operation::Entry => hours_desk::entry(bytes, number).map(|part| placed(bytes, part)),
-        Operation::EntryRefusal => match hours_desk::entry_refusal(bytes, number) {
-            None => Ok(vec![]),
-            Some(refusal) => Err(refusal),
-        },
-        Operation::ReadText => hours_desk::read_text(bytes, &mut after.lent_words).map(one),
-        Operation::WriteText => hours_desk::write_text(words, &mut after.lent_bytes).map(one),
-        Operation::Verdict => {
-            hours_desk::verdict(words, &mut after.lent_bytes).map(|verdict| match verdict {
-                hours_desk::Verdict::Pass { written } => vec![PASS, written as u64],
-                hours_desk::Verdict::Breach { minute, article } => {
-                    vec![BREACH, minute.into(), article.into()]
-                }
-            })
-        }
-    };
-    answer(told.map_err(hours_desk::Refusal::number), after)
-}
+pub const PASS: u64 = 0;
+pub const BREACH: u64 = 1;
 
 pub fn second(operation: Operation, input: &Input) -> Answer {
     let mut after = input.clone();
@@ -184,23 +149,6 @@ pub fn verdict_values(verdict: Verdict) -> Vec<u64> {
     }
 }
 
-/// The records' starts and ends go to a list, and come back whatever the answer.
-fn desk_list(
-    words: &[u32],
-    starts: &mut [u32],
-    ends: &mut [u32],
-) -> Result<usize, hours_desk::Refusal> {
-    let mut list: Vec<hours_desk::Span> = (starts.iter().zip(ends.iter()))
-        .map(|(&start, &end)| hours_desk::Span { start, end })
-        .collect();
-    let told = hours_desk::list_long_rests(words, &mut list);
-    for (index, span) in list.iter().enumerate() {
-        starts[index] = span.start;
-        ends[index] = span.end;
-    }
-    told
-}
-
 /// The second program lists into one slice of records, as long as the shorter
 /// of the two.
 fn second_list(words: &[u32], starts: &mut [u32], ends: &mut [u32]) -> Result<Vec<u64>, Refusal> {
@@ -232,17 +180,19 @@ fn second_entry(reading: &[u8], number: usize) -> Result<Vec<u64>, Refusal> {
 }
 
 /// Where a part of a reading begins in it, and its bytes.
-fn placed(reading: &[u8], part: &[u8]) -> Vec<u64> {
+pub fn placed(reading: &[u8], part: &[u8]) -> Vec<u64> {
     let place = part.as_ptr() as usize - reading.as_ptr() as usize;
     let bytes = part.iter().map(|&byte| byte.into());
     std::iter::once(place as u64).chain(bytes).collect()
 }
 
-fn one(value: impl TryInto<u64>) -> Vec<u64> {
+/// An answer of one value.
+pub fn one(value: impl TryInto<u64>) -> Vec<u64> {
     value.try_into().ok().into_iter().collect()
 }
 
-fn answer(told: Result<Vec<u64>, u8>, after: Input) -> Answer {
+/// The answer, with what the lent buffers hold after it.
+pub fn answer(told: Result<Vec<u64>, u8>, after: Input) -> Answer {
     Answer {
         told,
         lent_bytes: after.lent_bytes,

@@ -5,9 +5,11 @@ use second::fast::Judge;
 use second::verdict::{Outcome, Verdict};
 use second::Limits;
 
-use crate::cases::{self, Plan};
-use crate::difference::{compared, smallest, Difference};
-use crate::operation::{desk, second, verdict_values, Answer, Input, Operation, Program};
+use compare::cases::{self, Plan};
+use compare::difference::{compared, smallest, Difference};
+use compare::operation::{second, verdict_values, Answer, Input, Operation, Program};
+
+use crate::desk::desk;
 
 /// A wrong program, and how many words its smallest difference has at most.
 struct Wrong {
@@ -53,6 +55,8 @@ const PLAN: Plan = Plan {
     stages: 0,
     hard: 0,
     scarce: 0,
+    climbed: 0,
+    slow: 0,
     entries: 50,
 };
 

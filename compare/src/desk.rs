@@ -1,0 +1,54 @@
+//! What the desk answers.
+
+use compare::operation::{answer, one, placed, Answer, Input, Operation, BREACH, PASS};
+
+pub fn desk(operation: Operation, input: &Input) -> Answer {
+    let mut after = input.clone();
+    let (words, bytes, number) = (&input.words, &input.bytes, input.number);
+    let told = match operation {
+        Operation::Weigh => hours_desk::weigh(words).map(|measure| {
+            [measure.total, measure.judged_end, measure.long_rests]
+                .map(u64::from)
+                .to_vec()
+        }),
+        Operation::List => desk_list(words, &mut after.lent_words, &mut after.lent_ends).map(one),
+        Operation::ListRests => {
+            hours_desk::list_rests(words, &mut after.lent_words, &mut after.lent_ends).map(one)
+        }
+        Operation::FixedTest => hours_desk::fixed_test(words, number as u32).map(one),
+        Operation::ReadingTest => hours_desk::reading_test(words, bytes).map(one),
+        Operation::Entry => hours_desk::entry(bytes, number).map(|part| placed(bytes, part)),
+        Operation::EntryRefusal => match hours_desk::entry_refusal(bytes, number) {
+            None => Ok(vec![]),
+            Some(refusal) => Err(refusal),
+        },
+        Operation::ReadText => hours_desk::read_text(bytes, &mut after.lent_words).map(one),
+        Operation::WriteText => hours_desk::write_text(words, &mut after.lent_bytes).map(one),
+        Operation::Verdict => {
+            hours_desk::verdict(words, &mut after.lent_bytes).map(|verdict| match verdict {
+                hours_desk::Verdict::Pass { written } => vec![PASS, written as u64],
+                hours_desk::Verdict::Breach { minute, article } => {
+                    vec![BREACH, minute.into(), article.into()]
+                }
+            })
+        }
+    };
+    answer(told.map_err(hours_desk::Refusal::number), after)
+}
+
+/// The records' starts and ends go to a list, and come back whatever the answer.
+fn desk_list(
+    words: &[u32],
+    starts: &mut [u32],
+    ends: &mut [u32],
+) -> Result<usize, hours_desk::Refusal> {
+    let mut list: Vec<hours_desk::Span> = (starts.iter().zip(ends.iter()))
+        .map(|(&start, &end)| hours_desk::Span { start, end })
+        .collect();
+    let told = hours_desk::list_long_rests(words, &mut list);
+    for (index, span) in list.iter().enumerate() {
+        starts[index] = span.start;
+        ends[index] = span.end;
+    }
+    told
+}

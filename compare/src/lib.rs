@@ -1,0 +1,14 @@
+//! What the desk is compared on: every operation of document 01, on inputs from
+//! fixed seeds, lent buffers whole; and how a difference is shown, on the
+//! smallest input that still has it.
+
+pub mod cases;
+pub mod difference;
+mod edges;
+pub mod inputs;
+pub mod operation;
+mod recordings;
+#[path = "../../second/tests/shorthand/mod.rs"]
+mod shorthand;
+pub mod shrink;
+pub mod tally;
