@@ -83,6 +83,27 @@ pub fn of_recording(dice: &mut Dice, words: &[u32], readings: &[Vec<u8>]) -> Vec
     tries
 }
 
+/// The verdict on a recording, with room enough and without.
+pub fn verdicts_of_recording(dice: &mut Dice, words: &[u32]) -> Vec<Try> {
+    let recording = Input {
+        words: words.to_vec(),
+        ..Input::default()
+    };
+    let mut tries = Vec::new();
+    match second::recording::weigh(words) {
+        Ok(measure) => verdicts(dice, &recording, 3 * measure.long_rests, &mut tries),
+        Err(_) => {
+            let length = dice.below(9) as usize;
+            let input = Input {
+                lent_bytes: lent(dice, length),
+                ..recording
+            };
+            tries.push(attempt(Operation::Verdict, "any", input));
+        }
+    }
+    tries
+}
+
 /// Words that weighing turns away, with any buffers.
 fn turned_away(dice: &mut Dice, recording: &Input, tries: &mut Vec<Try>) {
     for operation in [
