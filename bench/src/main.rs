@@ -69,7 +69,7 @@ fn kinds() -> Vec<Kind> {
         kind("grown", 200, grow::grown),
         kind("hard", 40, |dice| grow::hard(dice, 150)),
         kind("scarce", 100, grow::scarce),
-        kind("climbed", 40, |dice| grow::climbed(dice, 8, 400)),
+        kind("climbed", 20, |dice| grow::climbed(dice, 8, 400)),
         ("slow".to_owned(), SLOW.map(stored).into()),
     ]
 }
