@@ -69,14 +69,16 @@ impl State {
 }
 
 /// Whether each debt has one of the others to itself that is no less and due no
-/// later. Both stand in the order of their dues, so the tightest is taken.
+/// later. They stand in the order of their dues, so each takes the smallest that
+/// will do. There are never 64: a debt is due within four weeks, and weekly
+/// rests are a day apart.
 fn lie_within(debts: &[Debt], others: &[Debt]) -> bool {
     if debts.len() > others.len() {
         return false;
     }
     let mut taken = 0_u64;
     debts.iter().all(|debt| {
-        let free = (0..others.len().min(64)).filter(|&place| {
+        let free = (0..others.len()).filter(|&place| {
             let other = others[place];
             taken >> place & 1 == 0 && other.due <= debt.due && other.amount >= debt.amount
         });
