@@ -85,10 +85,12 @@ fn main() {
     );
 }
 
+type Change = fn(&mut Answer);
+
 /// Answers changed on purpose, with fronts of so many entries.
 struct Falsified {
     entries: u32,
-    change: fn(&mut Answer),
+    change: Change,
 }
 
 /// Compares all verdicts of a plan, up to the first fault, which is told.
@@ -198,7 +200,7 @@ impl Question<'_> {
 
 /// Each answer that is wrong on purpose must be noticed, at every capacity.
 fn self_test(library: &mut Library) {
-    let wrongs: [(&str, fn(&mut Answer)); 3] = [
+    let wrongs: [(&str, Change); 3] = [
         ("a breach a minute late", |answer| {
             if let Ok([BREACH, minute, _]) = answer.told.as_deref_mut() {
                 *minute += 1;
