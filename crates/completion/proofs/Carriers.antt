@@ -7,7 +7,7 @@ use mathlib.Core.List.{List, [], _∷_}
 use Prim.Native.Nat.{ℕ, zero, suc, _+_, _-_, _*_, _≤_, _<_}
 use native.Mathlib.Nat.{le-refl, eq-zero-or-pos}
 use native.Mathlib.Omega.{arith}
-use lib.Dec.{leb, eqb}
+use lib.Dec.{leb, ltb, eqb}
 use lib.ListN.{length, set, drop, length-set}
 use lib.Seq.{getD-set-same}
 use borrow.Author.Tests.{lt-ltb, eqb-true, eqb-false, eq-eqb, ne-eqb}
@@ -21,6 +21,7 @@ use Rattle.rules.specs.Order.{byteValues, Bytes}
 use Rattle.rules.specs.declared.Kind.the-variants.{Daily, Weekly}
 use Rattle.rules.specs.declared.Standing.the-variants.{Regular}
 use Rattle.rules.proofs.Prefix.{entry-more}
+use Rattle.fixed.proofs.NetLaws.{net-test}
 use Rattle.reading.specs.Items.{endBefore, spanAt, spansFrom, Zeros}
 use Rattle.reading.proofs.TallyLaws.{end-of-spans}
 use Rattle.reading.proofs.LaterLaws.{spans-length}
@@ -28,7 +29,7 @@ use Rattle.completion.specs.declared.State.{State}
 use Rattle.completion.specs.declared.Brought.the-variants.{To}
 use Rattle.completion.specs.States.{advance, afterDaily, afterWeekly}
 use Rattle.completion.specs.Runs.{Runs, Kept}
-use Rattle.completion.specs.Completable.{Course, at, count, spansOf, restWeek, lengthAt, amountOf, dueOf, debtOf, Overdue, brief, ReadDaily, ReadWeekly, Reads, Completable, Lies}
+use Rattle.completion.specs.Completable.{Course, at, count, spansOf, restWeek, lengthAt, amountOf, dueOf, debtOf, Overdue, shortens, ReadDaily, ReadWeekly, Reads, Completable, Lies}
 use Rattle.completion.proofs.Heads.{arrives, after, reduction-daily, reduction-weekly, regular-weekly, shortened-daily, Carried, DailyStep, WeeklyStep, kept-daily, kept-weekly, kept-head}
 use Rattle.completion.proofs.Payments.{debt-none, debt-some, debt-due, debt-amount, share, brought, share-none, share-other, brought-same, brought-last, brought-nothing, set-other, carriedBy, Paid, paid, Left, pays}
 
@@ -50,15 +51,25 @@ module _ (c : Course) where
     late : carrier ≡ 0 → c .judged < dueOf debt → Way j carrier debt
     there : (i : ℕ) → carrier ≡ suc i → j ≤ i → i < count c → at (c .ends) i ≤ dueOf debt → Way j carrier debt
 
-  -- what the rests from index j on compensate for: what was promised and what the outstanding debts bring
+  -- what the rests from index j on compensate for: the loads decided before and what the outstanding debts bring
   abbrev Loads : ℕ → List Entry → (ℕ → ℕ) → List ℕ → Type 0
-  Loads j past carrier owed = (i : ℕ) → j ≤ i → compensationOf (suc i) past ≡ at (c .promised) i + brought (suc i) carrier owed j 0
+  Loads j past carrier owed = (i : ℕ) → j ≤ i → compensationOf (suc i) past ≡ at (c .loads) i + brought (suc i) carrier owed j 0
 
   abbrev entryAt : ℕ → List Entry → List ℕ → Entry
   entryAt j past bytes = entryOf (suc j) (endBefore (c .ends) j) past (spanAt (c .starts) (c .ends) j) bytes
 
   abbrev entriesAt : ℕ → ℕ → List Entry → List ℕ → List Entry
   entriesAt n j past bytes = entriesFrom (suc j) (endBefore (c .ends) j) past (spansFrom (c .starts) (c .ends) j n) bytes
+
+  -- rule 9 sees of a daily rest its number
+  pub shortened-at : Lies c → (j : ℕ) → j < count c → (past : List Entry) (bytes : List ℕ) → entryAt j past bytes .kind ≡ dailyKind
+      → shortened (entryAt j past bytes) ≡ shortens c j (compensationOf (suc j) past)
+  shortened-at lies j inside past bytes z =
+      let load = compensationOf (suc j) past in
+      let l = lies .proper j inside in
+      shortened-daily (entryAt j past bytes) z
+      ∙ net-test (endBefore (c .ends) j) (at (c .starts) j) (at (c .ends) j) load (omega (arith, l))
+      ∙ ap (λ (x : ℕ). ltb (lengthAt c j) (x + load)) (sym (lies .net j inside))
 
   abbrev Keeps : State → List Entry → Type 0
   Keeps st es = Kept (restWeek c) (c .judged) (spansOf c) st es
@@ -69,7 +80,7 @@ module _ (c : Course) where
       → Loads (suc j) (e ∷ past) g next
   unfolding compensationOf
   loads-next j past e f g owed next h m own i l =
-      let a : compensationOf (suc i) past ≡ at (c .promised) i + brought (suc i) f owed j 0 = h i (omega arith) in
+      let a : compensationOf (suc i) past ≡ at (c .loads) i + brought (suc i) f owed j 0 = h i (omega arith) in
       let b : brought (suc i) f owed j 0 ≡ brought (suc i) g next j 0 =
       brought-same (suc i) f g owed next j 0 (λ x _ r. moves-share (suc i) (omega arith) (m x (omega arith))) in
       let d : brought (suc i) g next (suc j) 0 ≡ brought (suc i) g next j 0 + share (suc i) (g j) (at next j) = brought-last (suc i) g next j in
@@ -186,7 +197,7 @@ module _ (c : Course) where
 
   -- the rest of index j has paid, and what is owed after it has carriers
   module _ {n j : ℕ} {owed : List ℕ} (inside : j < count c) (on-time : Overdue owed (at (c .ends) j) → ⊥)
-      {F : ℕ → List ℕ → Type 0} (p : Paid F j 0 (at (c .promised) j) owed) {st′ : State} {next : List ℕ}
+      {F : ℕ → List ℕ → Type 0} (p : Paid F j 0 (at (c .loads) j) owed) {st′ : State} {next : List ℕ}
       (below : (x : ℕ) → x < j → at next x ≡ at (p .left) x) (a : Answer n (suc j) st′ next) where
     abbrev by-now : ℕ → ℕ
     by-now = carriedBy (p .left) (suc j) (a .carrier)
@@ -233,10 +244,10 @@ module _ (c : Course) where
     load-now past h =
         h j (le-refl _) ∙ sym (p .sum (suc j) (a .carrier) (λ x _ r s. not-now s (way-left x (omega arith))))
 
-    module _ (few : count c < byteValues) {st here : State} (gap : at (c .starts) j ≤ st .ended + weeklyGap)
+    module _ (lies : Lies c) (few : count c < byteValues) {st here : State} (gap : at (c .starts) j ≤ st .ended + weeklyGap)
         (reached : advance (restWeek c) (weekOf (at (c .starts) j) - st .week) st ≡ To here) where
-      answer-daily : leastNet Daily + p .total ≤ lengthAt c j → here .short + one (brief c j (p .total)) ≤ shortenedAtMost
-          → st′ ≡ afterDaily (brief c j (p .total)) here → at next j ≡ 0 → Answer (suc n) j st owed
+      answer-daily : leastNet Daily + p .total ≤ lengthAt c j → here .short + one (shortens c j (p .total)) ≤ shortenedAtMost
+          → st′ ≡ afterDaily (shortens c j (p .total)) here → at next j ≡ 0 → Answer (suc n) j st owed
       unfolding entriesFrom spansFrom
       answer-daily net short to nothing = record {
         carrier = by-now;
@@ -246,7 +257,7 @@ module _ (c : Course) where
         kept = λ past h.
             let e : Entry = entryAt j past (dailyKind ∷ 0 ∷ 0 ∷ a .bytes) in
             let l : compensationOf (suc j) past ≡ p .total = load-now past h in
-            let b : shortened e ≡ brief c j (p .total) = shortened-daily e refl ∙ ap (brief c j) l in
+            let b : shortened e ≡ shortens c j (p .total) = shortened-at lies j inside past (dailyKind ∷ 0 ∷ 0 ∷ a .bytes) refl ∙ ap (shortens c j) l in
             let k : Keeps st′ (entriesAt n (suc j) (e ∷ past) (a .bytes)) =
             a .kept (e ∷ past) (loads-next j past e by-now (a .carrier) owed next h moves-now
             (own-share e (a .carrier j) (at next j) (reduction-daily e refl ∙ ap amountOf (sym nothing)) (λ s. absurd (omega arith)))) in
@@ -316,14 +327,14 @@ module _ (c : Course) where
         (gap : at (c .starts) j ≤ st .ended + weeklyGap) (on-time : Overdue owed (at (c .ends) j) → ⊥)
         (reached : advance (restWeek c) (weekOf (at (c .starts) j) - st .week) st ≡ To here)
         (ih : (st′ : State) (next : List ℕ) → length next ≡ count c → ((x : ℕ) → suc j ≤ x → at next x ≡ 0) → Completable c n (suc j) st′ next → Answer n (suc j) st′ next)
-        (p : Paid (Reads c (Completable c n (suc j)) j here) j 0 (at (c .promised) j) owed) where
+        (p : Paid (Reads c (Completable c n (suc j)) j here) j 0 (at (c .loads) j) owed) where
       beyond : (x : ℕ) → j ≤ x → at (p .left) x ≡ 0
       beyond x l = ⊎-elim (λ e. e ∙ fresh x l) (λ z. z) (p .each x)
 
       answer-read : Reads c (Completable c n (suc j)) j here (p .total) (p .left) → Answer (suc n) j st owed
       answer-read (inl d) =
-          let a = ih (afterDaily (brief c j (p .total)) here) (p .left) (p .size ∙ size) (λ x l. beyond x (omega arith)) (d .then) in
-          answer-daily inside on-time p (λ x l. refl) a few gap reached (d .net) (d .few) refl (beyond j (le-refl _))
+          let a = ih (afterDaily (shortens c j (p .total)) here) (p .left) (p .size ∙ size) (λ x l. beyond x (omega arith)) (d .then) in
+          answer-daily inside on-time p (λ x l. refl) a lies few gap reached (d .net) (d .few) refl (beyond j (le-refl _))
       answer-read (inr d) =
           let debt : ℕ = debtOf (lengthAt c j) (p .total) (d .week) in
           let next : List ℕ = set (p .left) j debt in
@@ -331,7 +342,7 @@ module _ (c : Course) where
           let a = ih _ next (length-set (p .left) j debt ∙ p .size ∙ size)
           (λ x l. set-other (p .left) j x debt (λ q. omega arith) ∙ beyond x (omega arith)) (t .holds) in
           let u : weekStart (d .week) < at (c .ends) j = d .upto in
-          answer-weekly inside on-time p (λ x l. set-other (p .left) j x debt (λ q. omega arith)) a few gap reached
+          answer-weekly inside on-time p (λ x l. set-other (p .left) j x debt (λ q. omega arith)) a lies few gap reached
           (d .week) (omega (arith, u, lies .judged j inside)) (d .net) (d .from) u (t .reached) refl
           (getD-set-same (p .left) j debt 0 (omega (arith, p .size)))
 
@@ -341,7 +352,7 @@ module _ (c : Course) where
     answer zero j st owed k size fresh h = answer-end j st owed h
     answer (suc n) j st owed k size fresh h =
         let t = arrives _ _ (h .2) in
-        let p = paid _ (lengthAt c j) j 0 (at (c .promised) j) owed (t .holds) in
+        let p = paid _ (lengthAt c j) j 0 (at (c .loads) j) owed (t .holds) in
         answer-read n j st (t .state) owed (omega arith) size fresh (h .0) (h .1) (t .reached)
         (λ st′ next s f g. answer n (suc j) st′ next (omega arith) s f g) p (p .asked)
 
@@ -413,7 +424,7 @@ module _ (c : Course) where
     step-daily : (d : DailyStep (restWeek c) (c .judged) (spansOf c) st this rest) (left : List ℕ) → Left (suc j) carrier j 0 owed left
         → ReadDaily c (Completable c n (suc j)) j (d .here) (this .compensation) left
     step-daily d left l =
-        let b = shortened-daily this (d .head .kind) in
+        let b = shortened-at lies j inside past bytes (d .head .kind) in
         let z : at left j ≡ 0 = l .beyond j (omega arith) ∙ fresh j (le-refl _) in
         record {
           net = d .head .net;
@@ -465,7 +476,7 @@ module _ (c : Course) where
           d .gap,
           not-overdue lies j owed carrier inside fresh settled,
           after _ (d .reached)
-              (pays _ (lengthAt c j) (suc j) (this .compensation) carrier (d .head .net) j 0 (at (c .promised) j) owed (loads j (le-refl _))
+              (pays _ (lengthAt c j) (suc j) (this .compensation) carrier (d .head .net) j 0 (at (c .loads) j) owed (loads j (le-refl _))
               (λ left l. inl (step-daily d left l))),
         )
         by (inr d) =
@@ -473,7 +484,7 @@ module _ (c : Course) where
               d .gap,
               not-overdue lies j owed carrier inside fresh settled,
               after _ (d .reached)
-                  (pays _ (lengthAt c j) (suc j) (this .compensation) carrier m j 0 (at (c .promised) j) owed (loads j (le-refl _))
+                  (pays _ (lengthAt c j) (suc j) (this .compensation) carrier m j 0 (at (c .loads) j) owed (loads j (le-refl _))
                   (λ left l. inr (step-weekly d left l))),
             )
 
@@ -481,23 +492,23 @@ module _ (c : Course) where
   complete lies zero j k = complete-end j (omega arith)
   complete lies (suc n) j k = complete-next lies n j (omega arith) (complete lies n (suc j) (omega arith))
 
--- ---- the theorem, where nothing is outstanding yet: all carriers of the past are promised minutes
+-- ---- the theorem, where nothing is outstanding yet: all carriers of the past are decided
 no-more : (p number : ℕ) (carrier : ℕ → ℕ) (owed : List ℕ) (m : ℕ) → Zeros owed → p ≡ p + brought number carrier owed m 0
 no-more p number carrier owed m z = let b : brought number carrier owed m 0 ≡ 0 = brought-nothing number carrier owed m 0 z in omega arith
 
 module _ (c : Course) (lies : Lies c) (few : count c < byteValues) (bound : c .judged ≤ totalAtMost) where
   pub extend : (n j : ℕ) (st : State) (owed : List ℕ) (past : List Entry) → n + j ≡ count c → length owed ≡ count c → Zeros owed
-      → ((i : ℕ) → j ≤ i → at (c .promised) i ≡ compensationOf (suc i) past) → Completable c n j st owed
+      → ((i : ℕ) → j ≤ i → at (c .loads) i ≡ compensationOf (suc i) past) → Completable c n j st owed
       → (bytes : List ℕ) × Bytes (entryBytes * n) bytes
       × Kept (restWeek c) (c .judged) (spansOf c) st (entriesFrom (suc j) (endBefore (c .ends) j) past (spansFrom (c .starts) (c .ends) j n) bytes)
   extend n j st owed past k size z h g =
       let a = answer c lies few bound n j st owed k size (λ x l. z x) g in
-      (a .bytes, a .are-bytes, a .kept past (λ i l. sym (h i l) ∙ no-more (at (c .promised) i) (suc i) (a .carrier) owed j z))
+      (a .bytes, a .are-bytes, a .kept past (λ i l. sym (h i l) ∙ no-more (at (c .loads) i) (suc i) (a .carrier) owed j z))
 
   pub extended : (n j : ℕ) (st : State) (owed : List ℕ) (past : List Entry) → n + j ≡ count c → length owed ≡ count c → Zeros owed
-      → ((i : ℕ) → j ≤ i → at (c .promised) i ≡ compensationOf (suc i) past) → (bytes : List ℕ)
+      → ((i : ℕ) → j ≤ i → at (c .loads) i ≡ compensationOf (suc i) past) → (bytes : List ℕ)
       → Kept (restWeek c) (c .judged) (spansOf c) st (entriesFrom (suc j) (endBefore (c .ends) j) past (spansFrom (c .starts) (c .ends) j n) bytes)
       → Completable c n j st owed
   extended n j st owed past k size z h bytes g =
       complete c lies n j k st owed (λ x. 0) past bytes size (λ x l. z x) (λ x l. Way.none (z x))
-      (λ i l. sym (h i l) ∙ no-more (at (c .promised) i) (suc i) (λ x. 0) owed j z) g
+      (λ i l. sym (h i l) ∙ no-more (at (c .loads) i) (suc i) (λ x. 0) owed j z) g

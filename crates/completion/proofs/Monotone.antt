@@ -1,32 +1,30 @@
 -- A state that is at least as good can complete what another can; and what follows from that: a rest that can be a regular weekly one need not
--- be daily, a debt that is due after S needs nothing, and the best state before a rest can complete what any other can.
+-- be daily, and a debt that is due after S needs nothing.
 -- Assumes nothing.
 use mathlib.Core.Path.{_≡_, refl, sym, ap, subst, _∙_}
 use mathlib.Core.Logic.{_⊎_, inl, inr}
 use mathlib.Core.Bool.{Bool, true, false, false≢true}
 use mathlib.Core.List.{List}
 use Prim.Native.Nat.{ℕ, zero, suc, _+_, _-_, _*_, _≤_, _<_, min, zero-le}
-use native.Mathlib.Nat.{le-refl, le-trans, eq-or-lt-of-le, eq-zero-or-pos}
+use native.Mathlib.Nat.{le-refl, le-trans, eq-zero-or-pos}
 use native.Mathlib.Omega.{arith}
 use lib.Dec.{leb, eqb}
 use lib.ListN.{length, set, length-set}
 use lib.Seq.{getD-set-same, getD-set-other, set-out, set-getD}
-use borrow.Author.Tests.{leb-true, leb-false, le-leb, ltb-true, lt-ltb, eqb-true, eqb-false, eq-eqb}
+use borrow.Author.Tests.{leb-true, leb-false, le-leb, ltb-true, lt-ltb, eqb-true, eq-eqb}
 use Rattle.recording.specs.Tests.{_and_, _or_, pick, one}
 use Rattle.recording.specs.Weeks.{weekStart, weekOf}
 use Rattle.recording.proofs.TestLaws.{and-left, and-right, and-both, or-cases, or-left, or-right, one-most, less-or-not}
 use Rattle.rules.specs.Reading.{regularMinutes}
-use Rattle.rules.specs.ReadingRules.{leastNet, weeksToCompensate, dailyWindow, fullPortion, shortenedAtMost, weeklyAtLeast, regularAtLeast}
+use Rattle.rules.specs.ReadingRules.{leastNet, weeksToCompensate, shortenedAtMost, weeklyAtLeast, regularAtLeast}
 use Rattle.rules.specs.declared.Kind.the-variants.{Weekly}
 use Rattle.rules.specs.declared.Standing.the-variants.{Regular}
-use Rattle.reading.specs.Items.{endBefore, Zeros}
-use Rattle.completion.specs.declared.Counts.{Counts}
 use Rattle.completion.specs.declared.State.{State}
 use Rattle.completion.specs.declared.Brought.{Brought}
-use Rattle.completion.specs.declared.Brought.the-variants.{Broken, To}
+use Rattle.completion.specs.declared.Brought.the-variants.{Broken}
 use Rattle.completion.specs.States.{pairKept, nextWeek, advance, After, afterDaily, afterWeekly}
-use Rattle.completion.specs.Completable.{Course, at, count, restWeek, lengthAt, debtUnit, amountOf, dueOf, debtOf, Overdue, Pays, brief, ReadDaily, ReadWeekly, Reads, Tries, Completable, Lies, Stands}
-use Rattle.completion.specs.Better.{Milder, none, free, some, Debts, Within, Matched, Better, Small, AtRest, bestState}
+use Rattle.completion.specs.Completable.{Course, at, count, restWeek, lengthAt, debtUnit, amountOf, dueOf, debtOf, Overdue, Pays, shortens, ReadDaily, ReadWeekly, Reads, Tries, Completable, Lies, Stands}
+use Rattle.completion.specs.Better.{Milder, none, free, some, Debts, Within, Matched, Better, Small, AtRest}
 use Rattle.completion.proofs.Matching.{same-or-not, matched-on, matched-overdue, put-at, matched-pays}
 
 -- ---- debts
@@ -67,8 +65,6 @@ module _ (s : ℕ) where
   set-left {o} {p} i a d m = subst (λ (l : List ℕ). Debts s (set o i a) l) (set-getD p i 0) (set-both i d m)
 
   -- nothing owed is no worse than anything
-  pub zeros-least : (o p : List ℕ) → length o ≡ length p → Zeros o → Debts s o p
-  zeros-least o p e z = record { long = e; each = λ i. none (z i) }
 
   -- a debt that is no worse than one that is compensated for is left, or is no more
   data Settled (a b : ℕ) : Type 0 where
@@ -204,13 +200,10 @@ one-mono : (s t : Bool) → (s ≡ true → t ≡ true) → one s ≤ one t
 one-mono true t f = rw (f refl) (le-refl _)
 one-mono false t f = zero-le
 
-brief-mono : (c : Course) (j a b : ℕ) → a ≤ b → one (brief c j a) ≤ one (brief c j b)
-brief-mono c j a b le =
-    one-mono (brief c j a) (brief c j b)
-    (λ t. lt-ltb _ _ (more (at (c .ends) j) (endBefore (c .ends) j) (at (c .starts) j) (ltb-true _ _ t)))
-  where
-    more : (e p t : ℕ) → min e (p + dailyWindow + a) < t + fullPortion + a → min e (p + dailyWindow + b) < t + fullPortion + b
-    more e p t h = omega arith
+short-mono : (c : Course) (j a b : ℕ) → a ≤ b → one (shortens c j a) ≤ one (shortens c j b)
+short-mono c j a b le =
+    one-mono (shortens c j a) (shortens c j b)
+    (λ t. lt-ltb (lengthAt c j) (at (c .nets) j + b) (omega (arith, ltb-true (lengthAt c j) (at (c .nets) j + a) t)))
 
 daily-better : {x y : State} (s t : Bool) → one s ≤ one t → Better x y → Better (afterDaily s x) (afterDaily t y)
 daily-better s t le b = record {
@@ -295,11 +288,11 @@ module _ (c : Course) {R : ℕ → List ℕ → List ℕ → Type 0} (lasting : 
   module _ (K : State → List ℕ → Type 0) (j : ℕ) (inside : j < count c) (mono : MonoBy (suc j) K) {x y : State} (better : Better x y) where
     daily-mono : (a b : ℕ) (o p : List ℕ) → a ≤ b → R j o p → ReadDaily c K j y b p → ReadDaily c K j x a o
     daily-mono a b o p le d h =
-        let e = brief-mono c j a b le in
+        let e = short-mono c j a b le in
         record {
           net = omega (arith, h .net);
           few = omega (arith, h .few, e, better .short);
-          then = mono _ _ o p (daily-better (brief c j a) (brief c j b) e better) (lasting .on j d) (h .then);
+          then = mono _ _ o p (daily-better (shortens c j a) (shortens c j b) e better) (lasting .on j d) (h .then);
         }
 
     weekly-mono : (a b : ℕ) (o p : List ℕ) → a ≤ b → R j o p → ReadWeekly c K j y b p → ReadWeekly c K j x a o
@@ -328,7 +321,7 @@ module _ (c : Course) {R : ℕ → List ℕ → List ℕ → Type 0} (lasting : 
 
     pub tries-by : (o p : List ℕ) → R j o p → Tries c K j y p → Tries c K j x o
     tries-by o p d h =
-        lasting .pays j (Reads c K j x) (Reads c K j y) (lengthAt c j) reads-by (at (c .promised) j) (at (c .promised) j) (le-refl _) d h
+        lasting .pays j (Reads c K j x) (Reads c K j y) (lengthAt c j) reads-by (at (c .loads) j) (at (c .loads) j) (le-refl _) d h
 
   pub completable-by : Lies c → (n j : ℕ) (x y : State) (o p : List ℕ) → n + j ≡ count c → Better x y → R j o p → Completable c n j y p → Completable c n j x o
   unfolding Completable
@@ -379,11 +372,6 @@ module _ (c : Course) (lies : Lies c) where
       → Completable c n j y p → Completable c n j x o
   completable-mono = completable-by c (debts-last c) lies
 
-  pub tries-mono : (n j : ℕ) (x y : State) (o p : List ℕ) → n + suc j ≡ count c → Better x y → Debts (c .judged) o p
-      → Tries c (Completable c n (suc j)) j y p → Tries c (Completable c n (suc j)) j x o
-  tries-mono n j x y o p e b d h =
-      tries-by c (debts-last c) (Completable c n (suc j)) j (omega arith) (λ x′ y′ o′ p′. completable-mono n (suc j) x′ y′ o′ p′ e) b o p d h
-
   -- a rest that can be a regular weekly rest, in the week in which it starts, need not be daily
   pub regular-by : (K : State → List ℕ → Type 0) → Mono c K → (j : ℕ) (here : State) (load : ℕ) (owed : List ℕ) → AtRest c j here
       → regularMinutes + load ≤ lengthAt c j → ReadDaily c K j here load owed → ReadWeekly c K j here load owed
@@ -401,7 +389,7 @@ module _ (c : Course) (lies : Lies c) where
         then =
             subst (λ (m : ℕ). After (advance (restWeek c) m here) (λ there. K (afterWeekly (restWeek c w) (leb (regularMinutes + load) (lengthAt c j)) (at (c .ends) j) there) (set owed j (debtOf (lengthAt c j) load w)))) still
             (subst (λ (t : Bool). K (afterWeekly (restWeek c w) t (at (c .ends) j) here) (set owed j (pick t 0 ((w + weeksToCompensate) * debtUnit + (regularMinutes + load - lengthAt c j))))) yes
-            (mono _ _ _ owed (regular-better here (restWeek c w) (brief c j load) (at (c .ends) j) (r .small) (omega (arith, proper, r .ended)))
+            (mono _ _ _ owed (regular-better here (restWeek c w) (shortens c j load) (at (c .ends) j) (r .small) (omega (arith, proper, r .ended)))
             (set-left (c .judged) j 0 (debts-self (c .judged) owed) (none refl)) (h .then)));
       }
 
@@ -419,25 +407,6 @@ module _ (c : Course) (lies : Lies c) where
     recall h = completable-mono n j st st _ _ e (better-self st) (set-both (c .judged) i (debts-self (c .judged) owed) (free after)) h
 
 -- ---- the states that are reached
--- of compensating out of a rest, what is asked in the end
-pub record Chosen (F : ℕ → List ℕ → Type 0) (owed : List ℕ) : Type 0 where
-  pub load : ℕ
-  pub left : List ℕ
-  pub long : length left ≡ length owed
-  pub asked : F load left
-
-pub chosen : (F : ℕ → List ℕ → Type 0) (minutes m i load : ℕ) (owed : List ℕ) → Pays F minutes m i load owed → Chosen F owed
-unfolding Pays
-chosen F minutes zero i load owed h = record { load = load; left = owed; long = refl; asked = h }
-chosen F minutes (suc m) i load owed (inl h) =
-    let q = chosen F minutes m (i + 1) (load + amountOf (at owed i)) (set owed i 0) (h .2) in
-    record { load = q .load; left = q .left; long = q .long ∙ length-set owed i 0; asked = q .asked }
-chosen F minutes (suc m) i load owed (inr h) = chosen F minutes m (i + 1) load owed h
-
-after-constant : (X : Type 0) (b : Brought) → After b (λ _. X) → X
-after-constant X Broken h = absurd h
-after-constant X (To st) h = h
-
 pub daily-small : (t : Bool) {here : State} → Small here → here .short + one t ≤ shortenedAtMost → Small (afterDaily t here)
 daily-small t h few = record {
   short = few;
@@ -509,101 +478,3 @@ module _ (c : Course) (lies : Lies c) where
         week = λ i l m. omega (arith, later j i l m);
         week-judged = omega (arith, lies .judged j (h .within));
       }
-
-  -- a state from which the rests from index j on can be completed
-  pub record Onward (n j : ℕ) (long : ℕ) : Type 0 where
-    pub state : State
-    pub owed : List ℕ
-    pub as-long : length owed ≡ long
-    pub stands : Stands c j state
-    pub small : Small state
-    pub can : Completable c n j state owed
-
-  reached : (n j long : ℕ) (here : State) (load : ℕ) (owed : List ℕ) → length owed ≡ long → AtRest c j here → Reads c (Completable c n (suc j)) j here load owed
-      → Onward n (suc j) long
-  reached n j long here load owed e r (inl h) = record {
-    state = afterDaily (brief c j load) here;
-    owed = owed;
-    as-long = e;
-    stands = daily-stands j (brief c j load) r (h .few);
-    small = daily-small (brief c j load) (r .small) (h .few);
-    can = h .then;
-  }
-  reached n j long here load owed e r (inr h) =
-      let next = afterWeekly (restWeek c (h .week)) (leb (regularMinutes + load) (lengthAt c j)) (at (c .ends) j) in
-      let left = set owed j (debtOf (lengthAt c j) load (h .week)) in
-      after-constant (Onward n (suc j) long) (advance (restWeek c) (h .week - here .week) here)
-      (advanced (restWeek c) (λ _. Onward n (suc j) long) (λ there. Completable c n (suc j) (next there) left) (h .week - here .week) (r .small)
-      (λ there k q. record {
-        state = next there;
-        owed = left;
-        as-long = length-set owed j (debtOf (lengthAt c j) load (h .week)) ∙ e;
-        stands = weekly-stands j (h .week) (restWeek c (h .week)) (leb (regularMinutes + load) (lengthAt c j)) r (h .from) (h .upto) k;
-        small = weekly-small (restWeek c (h .week)) (leb (regularMinutes + load) (lengthAt c j)) (at (c .ends) j) (k .small);
-        can = q;
-      })
-      (h .then))
-
-  pub onward : (n j : ℕ) (st : State) (owed : List ℕ) → suc n + j ≡ count c → Stands c j st → Small st → Completable c (suc n) j st owed
-      → Onward n (suc j) (length owed)
-  unfolding Completable
-  onward n j st owed e stands small h =
-      let w = weekOf (at (c .starts) j) - st .week in
-      after-constant (Onward n (suc j) (length owed)) (advance (restWeek c) w st)
-      (advanced (restWeek c) (λ _. Onward n (suc j) (length owed)) (λ here. Tries c (Completable c n (suc j)) j here owed) w small
-      (λ here k q.
-      let r = arrives (omega arith) stands k in
-      let x = chosen (Reads c (Completable c n (suc j)) j here) (lengthAt c j) j 0 (at (c .promised) j) owed q in
-      reached n j (length owed) here (x .load) (x .left) (x .long) r (x .asked))
-      (h .2))
-
-  -- the best state before a rest is at least as good as any state there
-  best-better : {j : ℕ} {here : State} → AtRest c j here → Better (bestState (at (c .starts) j)) here
-  best-better h = record {
-    week = sym (h .week);
-    ended = h .ended;
-    short = zero-le;
-    weekly-before = h .small .weekly-before;
-    regular-before = h .small .regular-before;
-    weekly = h .small .weekly;
-    regular = h .small .regular;
-  }
-
-  nothing-overdue : (o : List ℕ) (t : ℕ) → Zeros o → Overdue o t → ⊥
-  unfolding Overdue
-  nothing-overdue o t z h = omega (arith, h .1, z (h .0))
-
-  best-can : (n j : ℕ) (st : State) (owed zeros : List ℕ) → suc n + j ≡ count c → Stands c j st → Small st → length zeros ≡ length owed → Zeros zeros
-      → Completable c (suc n) j st owed → Completable c (suc n) j (bestState (at (c .starts) j)) zeros
-  unfolding Completable advance
-  best-can n j st owed zeros e stands small long z h =
-      let t = at (c .starts) j in
-      let w = weekOf t - st .week in
-      let still : 0 ≡ weekOf t - weekOf t = omega arith in (
-        omega arith,
-        nothing-overdue zeros (at (c .ends) j) z,
-        subst (λ (m : ℕ). After (advance (restWeek c) m (bestState t)) (λ here. Tries c (Completable c n (suc j)) j here zeros)) still
-            (after-constant (Tries c (Completable c n (suc j)) j (bestState t) zeros) (advance (restWeek c) w st)
-            (advanced (restWeek c) (λ _. Tries c (Completable c n (suc j)) j (bestState t) zeros) (λ here. Tries c (Completable c n (suc j)) j here owed) w small
-            (λ here k q.
-            tries-mono c lies n j (bestState t) here zeros owed (omega arith) (best-better (arrives (omega arith) stands k)) (zeros-least (c .judged) zeros owed long z) q)
-            (h .2))),
-      )
-
-  -- from each later rest on, the best state before it can complete what is left
-  pub from-back : (n j : ℕ) (st : State) (owed : List ℕ) → n + j ≡ count c → Stands c j st → Small st → Completable c n j st owed
-      → (i : ℕ) → j ≤ i → i < count c → (zeros : List ℕ) → length zeros ≡ length owed → Zeros zeros
-      → Completable c (count c - i) i (bestState (at (c .starts) i)) zeros
-  from-back zero j st owed e stands small h i l k zeros long z = absurd (omega arith)
-  from-back (suc n) j st owed e stands small h i l k zeros long z =
-      let o = onward n j st owed e stands small h in
-      go (eq-or-lt-of-le l)
-      (λ q. from-back n (suc j) (o .state) (o .owed) (omega arith) (o .stands) (o .small) (o .can) i q k zeros (long ∙ sym (o .as-long)) z)
-    where
-      go : (j ≡ i) ⊎ (j < i) → (suc j ≤ i → Completable c (count c - i) i (bestState (at (c .starts) i)) zeros)
-          → Completable c (count c - i) i (bestState (at (c .starts) i)) zeros
-      go (inl q) f =
-          let m : suc n ≡ count c - j = omega arith in
-          subst (λ (x : ℕ). Completable c (count c - x) x (bestState (at (c .starts) x)) zeros) q
-          (subst (λ (x : ℕ). Completable c x j (bestState (at (c .starts) j)) zeros) m (best-can n j st owed zeros e stands small long z h))
-      go (inr q) f = f (omega arith)

@@ -3,28 +3,31 @@
 -- Assumes nothing.
 use mathlib.Core.Path.{_≡_}
 use mathlib.Core.Logic.{_⊎_}
-use mathlib.Core.Bool.{Bool, true, false}
-use mathlib.Core.List.{List, [], _∷_}
-use Prim.Native.Nat.{ℕ, zero, suc, _+_, _-_, _*_, _/_, _%_, _≤_, _<_, min}
+use mathlib.Core.Bool.{Bool}
+use mathlib.Core.List.{List}
+use Prim.Native.Nat.{ℕ, zero, suc, _+_, _-_, _*_, _/_, _%_, _≤_, _<_}
 use lib.Dec.{leb, ltb}
 use lib.ListN.{length, getD, set}
 use Rattle.recording.specs.Tests.{pick, one}
 use Rattle.recording.specs.Weeks.{weekStart, weekOf}
 use Rattle.recording.specs.declared.Span.{Span}
 use Rattle.rules.specs.Reading.{regularMinutes}
-use Rattle.rules.specs.ReadingRules.{leastNet, weeksToCompensate, dailyWindow, fullPortion, shortenedAtMost, weeklyGap}
+use Rattle.rules.specs.ReadingRules.{leastNet, weeksToCompensate, shortenedAtMost, weeklyGap}
 use Rattle.rules.specs.declared.Kind.the-variants.{Daily, Weekly}
 use Rattle.rules.specs.declared.Standing.the-variants.{Regular}
+use Rattle.fixed.specs.Nets.{regularNet}
 use Rattle.reading.specs.Items.{endBefore, spansIn, restWeeks}
 use Rattle.completion.specs.declared.State.{State}
 use Rattle.completion.specs.States.{advance, After, afterDaily, afterWeekly}
 use Rattle.completion.specs.Runs.{Ends}
 
--- What stays the same: the long rests' starts and ends, the minutes of each that are promised to carriers decided before, and S.
+-- What stays the same: the long rests' starts and ends, the least net length at which each is no shortened daily rest, the load of each from
+-- carriers decided before, and S.
 pub record Course : Type 0 where
   pub starts : List ℕ
   pub ends : List ℕ
-  pub promised : List ℕ
+  pub nets : List ℕ
+  pub loads : List ℕ
   pub judged : ℕ
 
 abbrev pub at : List ℕ → ℕ → ℕ
@@ -71,10 +74,9 @@ Pays F minutes (suc m) i load owed =
     ⊎ Pays F minutes m (i + 1) load owed
 
 module _ (c : Course) where
-  -- whether the rest of index j, daily and with a load, has a portion under 660
-  abbrev pub brief : ℕ → ℕ → Bool
-  brief j load =
-      ltb (min (at (c .ends) j) (endBefore (c .ends) j + dailyWindow + load)) (at (c .starts) j + fullPortion + load)
+  -- whether the rest of index j, daily and with a load, is shortened
+  abbrev pub shortens : ℕ → ℕ → Bool
+  shortens j load = ltb (lengthAt c j) (at (c .nets) j + load)
 
   -- all rests are read
   abbrev pub Closes : State → List ℕ → Type 0
@@ -85,8 +87,8 @@ module _ (c : Course) where
   module _ (K : State → List ℕ → Type 0) (j : ℕ) (here : State) where
     pub record ReadDaily (load : ℕ) (owed : List ℕ) : Type 0 where
       pub net : leastNet Daily + load ≤ lengthAt c j
-      pub few : here .short + one (brief j load) ≤ shortenedAtMost
-      pub then : K (afterDaily (brief j load) here) owed
+      pub few : here .short + one (shortens j load) ≤ shortenedAtMost
+      pub then : K (afterDaily (shortens j load) here) owed
 
     abbrev pub Counted : ℕ → ℕ → List ℕ → Type 0
     Counted w load owed =
@@ -104,7 +106,7 @@ module _ (c : Course) where
     Reads load owed = ReadDaily load owed ⊎ ReadWeekly load owed
 
     abbrev pub Tries : List ℕ → Type 0
-    Tries owed = Pays Reads (lengthAt c j) j 0 (at (c .promised) j) owed
+    Tries owed = Pays Reads (lengthAt c j) j 0 (at (c .loads) j) owed
 
   -- n rests are left, from index j on
   unfoldable pub Completable : ℕ → ℕ → State → List ℕ → Type 0
@@ -114,9 +116,11 @@ module _ (c : Course) where
       × (Overdue owed (at (c .ends) j) → ⊥)
       × After (advance (restWeek c) (weekOf (at (c .starts) j) - st .week) st) (λ here. Tries (Completable n (suc j)) j here owed)
 
--- the long rests lie in order, within the judged stretch
+-- the long rests lie in order, within the judged stretch, and have their numbers
 pub record Lies (c : Course) : Type 0 where
   pub ends-too : length (c .ends) ≡ length (c .starts)
+  pub nets-too : length (c .nets) ≡ length (c .starts)
+  pub net : (i : ℕ) → i < count c → at (c .nets) i ≡ regularNet (endBefore (c .ends) i) (at (c .starts) i) (at (c .ends) i)
   pub proper : (i : ℕ) → i < count c → at (c .starts) i < at (c .ends) i
   pub ordered : (i : ℕ) → suc i < count c → at (c .ends) i ≤ at (c .starts) (suc i)
   pub judged : (i : ℕ) → i < count c → at (c .ends) i ≤ c .judged

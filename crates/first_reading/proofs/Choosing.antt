@@ -21,15 +21,16 @@ use Rattle.rules.specs.declared.Kind.the-variants.{Daily, Weekly}
 use Rattle.rules.specs.declared.Standing.the-variants.{Regular}
 use Rattle.reading.specs.Items.{endBefore, spanAt, spansFrom, paid, Zeros}
 use Rattle.completion.specs.declared.State.{State}
+use Rattle.completion.specs.declared.Brought.{Brought}
 use Rattle.completion.specs.declared.Brought.the-variants.{Broken, To}
-use Rattle.completion.specs.States.{advance, afterDaily, afterWeekly}
+use Rattle.completion.specs.States.{advance, After, afterDaily, afterWeekly}
 use Rattle.completion.specs.Runs.{Kept}
-use Rattle.completion.specs.Completable.{Course, at, count, spansOf, restWeek, lengthAt, brief, Completable, Lies}
-use Rattle.completion.proofs.Heads.{arrives, after, reduction-weekly, regular-weekly, shortened-daily, Carried, DailyStep, WeeklyStep, kept-daily, kept-weekly, kept-head}
+use Rattle.completion.specs.Completable.{Course, at, count, spansOf, restWeek, lengthAt, shortens, Tries, Completable, Lies}
+use Rattle.completion.proofs.Heads.{arrives, after, reduction-weekly, regular-weekly, Carried, DailyStep, WeeklyStep, kept-daily, kept-weekly, kept-head}
 use Rattle.completion.proofs.Payments.{set-other}
-use Rattle.completion.proofs.Carriers.{end-at, rests, extend, extended}
+use Rattle.completion.proofs.Carriers.{end-at, rests, shortened-at, extend, extended}
 use Rattle.search.specs.Search.{Later}
-use Rattle.first_reading.specs.Choices.{loadAt, reductionAt, promising, GoesDaily, CarriedBy, afterCounted, GoesWeekly, NotPast, FirstWeekly, KeepsFrom, LeastFrom, Ahead}
+use Rattle.first_reading.specs.Choices.{loadAt, reductionAt, carrying, CanBeRead, GoesDaily, CarriedBy, afterCounted, GoesWeekly, NotPast, FirstWeekly, KeepsFrom, LeastFrom, Ahead}
 
 -- ---- bytes by threes
 three : (n : ℕ) → entryBytes * suc n ≡ suc (suc (suc (entryBytes * n)))
@@ -77,12 +78,12 @@ after-entry a b d r t (inr (e, inl l)) = absurd (omega arith)
 after-entry a b d r t (inr (e, inr (f, inl l))) = absurd (omega arith)
 after-entry a b d r t (inr (e, inr (f, inr (g, h)))) = h
 
--- ---- other promises
-abbrev pub with-promised : Course → List ℕ → Course
-with-promised c p = record { starts = c .starts; ends = c .ends; promised = p; judged = c .judged }
+-- ---- other loads
+abbrev pub with-loads : Course → List ℕ → Course
+with-loads c p = record { starts = c .starts; ends = c .ends; nets = c .nets; loads = p; judged = c .judged }
 
-pub lies-with : (c : Course) (p : List ℕ) → Lies c → Lies (with-promised c p)
-lies-with c p l = record { ends-too = l .ends-too; proper = l .proper; ordered = l .ordered; judged = l .judged }
+pub lies-with : (c : Course) (p : List ℕ) → Lies c → Lies (with-loads c p)
+lies-with c p l = record { ends-too = l .ends-too; nets-too = l .nets-too; net = l .net; proper = l .proper; ordered = l .ordered; judged = l .judged }
 
 -- ---- what is asked of the later rests, by how many are left
 later-out : (c : Course) (n j : ℕ) (st : State) (owed : List ℕ) → suc n + j ≡ count c → Later c j st owed → Completable c n (suc j) st owed
@@ -97,25 +98,25 @@ later-in c n j st owed k h =
     let b : suc j ≡ j + 1 = omega arith in
     subst (λ (i : ℕ). Completable c (count c - (j + 1)) i st owed) b (subst (λ (m : ℕ). Completable c m (suc j) st owed) a h)
 
--- ---- what is promised besides
+-- ---- the loads besides
 pub carrier-low : (c : Course) (j w x : ℕ) → CarriedBy c j w x → x ≤ count c
 carrier-low c j w x (CarriedBy.alone z h) = omega arith
 carrier-low c j w x (CarriedBy.later i z l m u d) = omega arith
 
-promised-on : (c : Course) (j i x : ℕ) → length (c .promised) ≡ count c → x ≤ count c
-    → at (paid (c .promised) x (reductionAt c j)) i ≡ pick (eqb x (suc i)) (reductionAt c j) 0 + at (c .promised) i
-promised-on c j i zero long h = rw (ne-eqb 0 (suc i) (λ q. omega arith)) (omega arith)
-promised-on c j i (suc y) long h = by _ refl
+loads-on : (c : Course) (j i x : ℕ) → length (c .loads) ≡ count c → x ≤ count c
+    → at (paid (c .loads) x (reductionAt c j)) i ≡ pick (eqb x (suc i)) (reductionAt c j) 0 + at (c .loads) i
+loads-on c j i zero long h = rw (ne-eqb 0 (suc i) (λ q. omega arith)) (omega arith)
+loads-on c j i (suc y) long h = by _ refl
   where
     by : (b : Bool) → eqb (suc y) (suc i) ≡ b
-        → at (set (c .promised) y (at (c .promised) y + reductionAt c j)) i ≡ pick b (reductionAt c j) 0 + at (c .promised) i
+        → at (set (c .loads) y (at (c .loads) y + reductionAt c j)) i ≡ pick b (reductionAt c j) 0 + at (c .loads) i
     by true t =
         let e : y ≡ i = omega (arith, eqb-true (suc y) (suc i) t) in
-        let a : at (set (c .promised) y (at (c .promised) y + reductionAt c j)) y ≡ at (c .promised) y + reductionAt c j =
-        getD-set-same (c .promised) y (at (c .promised) y + reductionAt c j) 0 (omega (arith, long)) in
-        subst (λ (m : ℕ). at (set (c .promised) y (at (c .promised) y + reductionAt c j)) m ≡ reductionAt c j + at (c .promised) m) e (a ∙ omega arith)
+        let a : at (set (c .loads) y (at (c .loads) y + reductionAt c j)) y ≡ at (c .loads) y + reductionAt c j =
+        getD-set-same (c .loads) y (at (c .loads) y + reductionAt c j) 0 (omega (arith, long)) in
+        subst (λ (m : ℕ). at (set (c .loads) y (at (c .loads) y + reductionAt c j)) m ≡ reductionAt c j + at (c .loads) m) e (a ∙ omega arith)
     by false t =
-        set-other (c .promised) y i (at (c .promised) y + reductionAt c j) (λ q. eqb-false (suc y) (suc i) t (omega arith)) ∙ omega arith
+        set-other (c .loads) y i (at (c .loads) y + reductionAt c j) (λ q. eqb-false (suc y) (suc i) t (omega arith)) ∙ omega arith
 
 -- ---- the entry of index j after the entries of the past
 module _ (c : Course) (j : ℕ) (past : List Entry) where
@@ -129,7 +130,7 @@ module _ (c : Course) (j : ℕ) (past : List Entry) where
   weekly w x = entry weeklyKind w x
 
   abbrev shortly : Bool
-  shortly = brief c j (loadAt c j)
+  shortly = shortens c j (loadAt c j)
 
 module _ (c : Course) (n j : ℕ) (st : State) (past : List Entry) where
   abbrev after-it : Entry → List ℕ → List Entry
@@ -167,14 +168,14 @@ module _ (c : Course) (n j : ℕ) (st : State) (past : List Entry) where
     daily-first : (rest : List ℕ) → DailyFirst here rest → Begins here (dailyKind ∷ 0 ∷ 0 ∷ rest)
     weekly-first : (w x : ℕ) (rest : List ℕ) → WeeklyFirst here w x rest → Begins here (weeklyKind ∷ w ∷ x ∷ rest)
 
-  module _ (loads : (i : ℕ) → j ≤ i → at (c .promised) i ≡ compensationOf (suc i) past) where
+  module _ (loads : (i : ℕ) → j ≤ i → at (c .loads) i ≡ compensationOf (suc i) past) where
     own-load : compensationOf (suc j) past ≡ loadAt c j
     own-load = sym (loads j (le-refl _))
 
-    daily-brief : shortened (daily c j past) ≡ shortly c j past
-    daily-brief = shortened-daily (daily c j past) refl ∙ ap (brief c j) own-load
+    daily-short : Lies c → j < count c → shortened (daily c j past) ≡ shortly c j past
+    daily-short lies inside = shortened-at c lies j inside past (dailyKind ∷ 0 ∷ 0 ∷ []) refl ∙ ap (shortens c j) own-load
 
-    daily-loads : (i : ℕ) → suc j ≤ i → at (c .promised) i ≡ compensationOf (suc i) (daily c j past ∷ past)
+    daily-loads : (i : ℕ) → suc j ≤ i → at (c .loads) i ≡ compensationOf (suc i) (daily c j past ∷ past)
     unfolding compensationOf
     daily-loads i l = loads i (omega arith) ∙ rw (ne-eqb 0 (suc i) (λ q. omega arith)) (omega arith)
 
@@ -204,16 +205,16 @@ module _ (c : Course) (n j : ℕ) (st : State) (past : List Entry) where
           let e : endOf (spansOf c) x ≡ at (c .ends) i = ap (endOf (spansOf c)) z ∙ end-at c i m in
           Carried.there (omega arith) (omega (arith, rests c)) (omega (arith, own-load, u)) (subst (λ (t : ℕ). t ≤ deadline (weekly c j past w x)) (sym e) d)
 
-      -- what is promised besides is what the entry brings
-      weekly-loads : length (c .promised) ≡ count c → CarriedBy c j w x
-          → (i : ℕ) → suc j ≤ i → at (promising c j x .promised) i ≡ compensationOf (suc i) (weekly c j past w x ∷ past)
+      -- the loads besides are what the entry brings
+      weekly-loads : length (c .loads) ≡ count c → CarriedBy c j w x
+          → (i : ℕ) → suc j ≤ i → at (carrying c j x .loads) i ≡ compensationOf (suc i) (weekly c j past w x ∷ past)
       unfolding compensationOf
       weekly-loads long h i l =
-          promised-on c j i x long (carrier-low c j w x h)
+          loads-on c j i x long (carrier-low c j w x h)
           ∙ ap (λ (m : ℕ). pick (eqb x (suc i)) (reductionAt c j) 0 + m) (loads i (omega arith))
           ∙ ap (λ (m : ℕ). pick (eqb x (suc i)) m 0 + compensationOf (suc i) past) (sym weekly-reduction)
 
-    module _ (here : State) (reached : advance (restWeek c) (weekOf (at (c .starts) j) - st .week) st ≡ To here) where
+    module _ (lies : Lies c) (inside : j < count c) (here : State) (reached : advance (restWeek c) (weekOf (at (c .starts) j) - st .week) st ≡ To here) where
       daily-keeps : (rest : List ℕ) → DailyFirst here rest → KeepsFrom c (suc n) j st past (dailyKind ∷ 0 ∷ 0 ∷ rest)
       daily-keeps rest h =
           keeps-in dailyKind 0 0 rest
@@ -225,11 +226,11 @@ module _ (c : Course) (n j : ℕ) (st : State) (past : List Entry) where
               week = refl;
               compensatedBy = refl;
               net = omega (arith, own-load, h .net);
-              few = subst (λ (b : Bool). here .short + one b ≤ shortenedAtMost) (sym daily-brief) (h .few);
+              few = subst (λ (b : Bool). here .short + one b ≤ shortenedAtMost) (sym (daily-short lies inside)) (h .few);
             };
             gap = h .gap;
             reached = reached;
-            then = subst (λ (b : Bool). KeepsFrom c n (suc j) (afterDaily b here) (daily c j past ∷ past) rest) (sym daily-brief) (h .then);
+            then = subst (λ (b : Bool). KeepsFrom c n (suc j) (afterDaily b here) (daily c j past ∷ past) rest) (sym (daily-short lies inside)) (h .then);
           }))
 
       weekly-keeps : (w x : ℕ) (rest : List ℕ) → WeeklyFirst here w x rest → KeepsFrom c (suc n) j st past (weeklyKind ∷ w ∷ x ∷ rest)
@@ -260,10 +261,10 @@ module _ (c : Course) (n j : ℕ) (st : State) (past : List Entry) where
             net = omega (arith, own-load, d .head .net);
             few =
                 subst (λ (s : State). s .short + one (shortly c j past) ≤ shortenedAtMost) e
-                (subst (λ (b : Bool). d .here .short + one b ≤ shortenedAtMost) daily-brief (d .head .few));
+                (subst (λ (b : Bool). d .here .short + one b ≤ shortenedAtMost) (daily-short lies inside) (d .head .few));
             then =
                 subst (λ (s : State). KeepsFrom c n (suc j) (afterDaily (shortly c j past) s) (daily c j past ∷ past) rest) e
-                (subst (λ (b : Bool). KeepsFrom c n (suc j) (afterDaily b (d .here)) (daily c j past ∷ past) rest) daily-brief (d .then));
+                (subst (λ (b : Bool). KeepsFrom c n (suc j) (afterDaily b (d .here)) (daily c j past ∷ past) rest) (daily-short lies inside) (d .then));
           }
 
       weekly-begins : (w x : ℕ) (rest : List ℕ)
@@ -305,8 +306,8 @@ record Tail (n : ℕ) (P : List ℕ → Type 0) : Type 0 where
 pub record NextDaily (c : Course) (j : ℕ) (past : List Entry) (here : State) (r : List ℕ) : Type 0 where
   pub rest : List ℕ
   pub begins : r ≡ dailyKind ∷ 0 ∷ 0 ∷ rest
-  pub few : here .short + one (brief c j (loadAt c j)) ≤ shortenedAtMost
-  pub ahead : Ahead c (suc j) (afterDaily (brief c j (loadAt c j)) here) (daily c j past ∷ past) rest
+  pub few : here .short + one (shortens c j (loadAt c j)) ≤ shortenedAtMost
+  pub ahead : Ahead c (suc j) (afterDaily (shortens c j (loadAt c j)) here) (daily c j past ∷ past) rest
 
 pub record NextWeekly (c : Course) (j : ℕ) (past : List Entry) (here : State) (w x : ℕ) (r : List ℕ) : Type 0 where
   pub rest : List ℕ
@@ -314,10 +315,10 @@ pub record NextWeekly (c : Course) (j : ℕ) (past : List Entry) (here : State) 
   pub found : x ≤ count c
   pub there : State
   pub counted : advance (restWeek c) (w - here .week) here ≡ To there
-  pub ahead : Ahead (promising c j x) (suc j) (afterCounted c j w there) (weekly c j past w x ∷ past) rest
+  pub ahead : Ahead (carrying c j x) (suc j) (afterCounted c j w there) (weekly c j past w x ∷ past) rest
 
-module _ (c : Course) (lies : Lies c) (few : count c < byteValues) (bound : c .judged ≤ totalAtMost) (long : length (c .promised) ≡ count c)
-    (n j : ℕ) (k : suc n + j ≡ count c) (st : State) (past : List Entry) (loads : (i : ℕ) → j ≤ i → at (c .promised) i ≡ compensationOf (suc i) past)
+module _ (c : Course) (lies : Lies c) (few : count c < byteValues) (bound : c .judged ≤ totalAtMost) (long : length (c .loads) ≡ count c)
+    (n j : ℕ) (k : suc n + j ≡ count c) (st : State) (past : List Entry) (loads : (i : ℕ) → j ≤ i → at (c .loads) i ≡ compensationOf (suc i) past)
     (here : State) (reached : advance (restWeek c) (weekOf (at (c .starts) j) - st .week) st ≡ To here) where
   module _ (owed : List ℕ) (size : length owed ≡ count c) (zeros : Zeros owed) where
     goes-daily : (rest : List ℕ) → DailyFirst c n j st past here rest → GoesDaily c j here owed
@@ -337,8 +338,8 @@ module _ (c : Course) (lies : Lies c) (few : count c < byteValues) (bound : c .j
       carried = h .carried;
       then =
           after _ (h .counted)
-          (later-in (promising c j x) n j _ owed k
-          (extended (promising c j x) (lies-with c (promising c j x .promised) lies) few bound n (suc j) _ owed (weekly c j past w x ∷ past) (omega arith) size zeros
+          (later-in (carrying c j x) n j _ owed k
+          (extended (carrying c j x) (lies-with c (carrying c j x .loads) lies) few bound n (suc j) _ owed (weekly c j past w x ∷ past) (omega arith) size zeros
           (weekly-loads c n j st past loads w x long (h .carried)) rest (h .then)));
     }
 
@@ -351,8 +352,8 @@ module _ (c : Course) (lies : Lies c) (few : count c < byteValues) (bound : c .j
     weekly-goes : (w x : ℕ) → at (c .starts) j ≤ st .ended + weeklyGap → GoesWeekly c j here owed w x → Tail n (WeeklyFirst c n j st past here w x)
     weekly-goes w x gap g =
         let t = arrives _ _ (g .then) in
-        let a = extend (promising c j x) (lies-with c (promising c j x .promised) lies) few bound n (suc j) _ owed (weekly c j past w x ∷ past) (omega arith) size zeros
-        (weekly-loads c n j st past loads w x long (g .carried)) (later-out (promising c j x) n j _ owed k (t .holds)) in
+        let a = extend (carrying c j x) (lies-with c (carrying c j x .loads) lies) few bound n (suc j) _ owed (weekly c j past w x ∷ past) (omega arith) size zeros
+        (weekly-loads c n j st past loads w x long (g .carried)) (later-out (carrying c j x) n j _ owed k (t .holds)) in
         record {
           rest = a .0;
           bytes = a .1;
@@ -370,7 +371,7 @@ module _ (c : Course) (lies : Lies c) (few : count c < byteValues) (bound : c .j
 
   -- ---- what is left after the entry
   ahead-daily : (rest : List ℕ) → LeastFrom c (suc n) j st past (dailyKind ∷ 0 ∷ 0 ∷ rest) → DailyFirst c n j st past here rest
-      → Ahead c (suc j) (afterDaily (brief c j (loadAt c j)) here) (daily c j past ∷ past) rest
+      → Ahead c (suc j) (afterDaily (shortens c j (loadAt c j)) here) (daily c j past ∷ past) rest
   ahead-daily rest l h = record {
     left = n;
     counts = omega arith;
@@ -380,7 +381,7 @@ module _ (c : Course) (lies : Lies c) (few : count c < byteValues) (bound : c .j
       first = λ t b g.
           after-entry dailyKind 0 0 rest t
           (l .first (dailyKind ∷ 0 ∷ 0 ∷ t) (with-bytes n dailyKind 0 0 t (omega arith) (omega arith) (omega arith) b)
-          (daily-keeps c n j st past loads here reached t (record { gap = h .gap; net = h .net; few = h .few; then = g })));
+          (daily-keeps c n j st past loads lies (omega arith) here reached t (record { gap = h .gap; net = h .net; few = h .few; then = g })));
     };
     loads = daily-loads c n j st past loads;
   }
@@ -392,7 +393,7 @@ module _ (c : Course) (lies : Lies c) (few : count c < byteValues) (bound : c .j
   carrier-byte w x h = omega (arith, carrier-low c j w x h)
 
   ahead-weekly : (w x : ℕ) (rest : List ℕ) → LeastFrom c (suc n) j st past (weeklyKind ∷ w ∷ x ∷ rest) → (h : WeeklyFirst c n j st past here w x rest)
-      → Ahead (promising c j x) (suc j) (afterCounted c j w (h .there)) (weekly c j past w x ∷ past) rest
+      → Ahead (carrying c j x) (suc j) (afterCounted c j w (h .there)) (weekly c j past w x ∷ past) rest
   ahead-weekly w x rest l h = record {
     left = n;
     counts = omega arith;
@@ -402,7 +403,7 @@ module _ (c : Course) (lies : Lies c) (few : count c < byteValues) (bound : c .j
       first = λ t b g.
           after-entry weeklyKind w x rest t
           (l .first (weeklyKind ∷ w ∷ x ∷ t) (with-bytes n weeklyKind w x t (omega arith) (week-byte w (h .upto)) (carrier-byte w x (h .carried)) b)
-          (weekly-keeps c n j st past loads here reached w x t (record {
+          (weekly-keeps c n j st past loads lies (omega arith) here reached w x t (record {
             gap = h .gap;
             net = h .net;
             from = h .from;
@@ -423,8 +424,8 @@ module _ (c : Course) (lies : Lies c) (few : count c < byteValues) (bound : c .j
   how-begins : (r : List ℕ) → LeastFrom c (suc n) j st past r → Begins c n j st past here r
   how-begins r l =
       let e = entered n r (l .bytes) in
-      let k : KeepsFrom c (suc n) j st past (e .kind ∷ e .week ∷ e .carrier ∷ e .rest) = subst (KeepsFrom c (suc n) j st past) (e .begins) (l .keeps) in
-      subst (Begins c n j st past here) (sym (e .begins)) (begins c n j st past loads here reached (e .kind) (e .week) (e .carrier) (e .rest) k)
+      let h : KeepsFrom c (suc n) j st past (e .kind ∷ e .week ∷ e .carrier ∷ e .rest) = subst (KeepsFrom c (suc n) j st past) (e .begins) (l .keeps) in
+      subst (Begins c n j st past here) (sym (e .begins)) (begins c n j st past loads lies (omega arith) here reached (e .kind) (e .week) (e .carrier) (e .rest) h)
 
   -- a rest too short for a weekly one
   must-be-daily : (r : List ℕ) → LeastFrom c (suc n) j st past r → lengthAt c j < leastNet (Weekly Regular) + loadAt c j → Begins c n j st past here r
@@ -439,21 +440,21 @@ module _ (c : Course) (lies : Lies c) (few : count c < byteValues) (bound : c .j
         let t = daily-goes owed size zeros (h .gap) g in
         let o = entry-order weeklyKind w x dailyKind 0 0 rest (t .rest)
         (l .first (dailyKind ∷ 0 ∷ 0 ∷ t .rest) (with-bytes n dailyKind 0 0 (t .rest) (omega arith) (omega arith) (omega arith) (t .bytes))
-        (daily-keeps c n j st past loads here reached (t .rest) (t .holds))) in
+        (daily-keeps c n j st past loads lies (omega arith) here reached (t .rest) (t .holds))) in
         absurd (omega (arith, o .first))
 
-    is-weekly : (r : List ℕ) (w x : ℕ) → LeastFrom c (suc n) j st past r → (GoesDaily c j here owed → ⊥) → FirstWeekly c j here owed w x
-        → Begins c n j st past here r → NextWeekly c j past here w x r
-    is-weekly r w x l nay f (daily-first rest h) = absurd (nay (goes-daily owed size zeros rest h))
-    is-weekly r w x l nay f (weekly-first w′ x′ rest h) =
+    is-weekly : (r : List ℕ) (w x : ℕ) → LeastFrom c (suc n) j st past r → (GoesDaily c j here owed → ⊥) → CanBeRead c j here owed
+        → FirstWeekly c j here owed w x → Begins c n j st past here r → NextWeekly c j past here w x r
+    is-weekly r w x l nay can f (daily-first rest h) = absurd (nay (goes-daily owed size zeros rest h))
+    is-weekly r w x l nay can f (weekly-first w′ x′ rest h) =
         let mine = goes-weekly owed size zeros w′ x′ rest h in
         let low : x ≤ count c = f .found w′ x′ mine in
-        let g = f .goes low in
+        let g = f .goes low can in
         let t = weekly-goes owed size zeros w x (h .gap) g in
         let o = entry-order weeklyKind w′ x′ weeklyKind w x rest (t .rest)
         (l .first (weeklyKind ∷ w ∷ x ∷ t .rest)
         (with-bytes n weeklyKind w x (t .rest) (omega arith) (week-byte w (g .upto)) (carrier-byte w x (g .carried)) (t .bytes))
-        (weekly-keeps c n j st past loads here reached w x (t .rest) (t .holds))) in
+        (weekly-keeps c n j st past loads lies (omega arith) here reached w x (t .rest) (t .holds))) in
         let m = both (f .first w′ x′ mine) (o .second refl) (o .third refl) in
         subst (λ (y : ℕ). NextWeekly c j past here w y (weeklyKind ∷ w′ ∷ x′ ∷ rest)) (m .1)
         (subst (λ (v : ℕ). NextWeekly c j past here v x′ (weeklyKind ∷ w′ ∷ x′ ∷ rest)) (m .0)
@@ -464,12 +465,12 @@ module _ (c : Course) (lies : Lies c) (few : count c < byteValues) (bound : c .j
         both (NotPast.same e s) a b = (sym e, omega (arith, b (sym e)))
 
 -- ---- the step: before the rest of index j, in a state brought on to the week in which it starts
-module _ (c : Course) (lies : Lies c) (few : count c < byteValues) (bound : c .judged ≤ totalAtMost) (long : length (c .promised) ≡ count c)
+module _ (c : Course) (lies : Lies c) (few : count c < byteValues) (bound : c .judged ≤ totalAtMost) (long : length (c .loads) ≡ count c)
     (j : ℕ) (inside : j < count c) (st : State) (past : List Entry) (r : List ℕ) where
   abbrev Brought-to : State → Type 0
   Brought-to here = advance (restWeek c) (weekOf (at (c .starts) j) - st .week) st ≡ To here
 
-  step-short : (n : ℕ) → n + j ≡ count c → LeastFrom c n j st past r → ((i : ℕ) → j ≤ i → at (c .promised) i ≡ compensationOf (suc i) past)
+  step-short : (n : ℕ) → n + j ≡ count c → LeastFrom c n j st past r → ((i : ℕ) → j ≤ i → at (c .loads) i ≡ compensationOf (suc i) past)
       → (here : State) → Brought-to here → lengthAt c j < leastNet (Weekly Regular) + loadAt c j → NextDaily c j past here r
   step-short zero k l loads here reached s = absurd (omega arith)
   step-short (suc n) k l loads here reached s =
@@ -500,20 +501,33 @@ module _ (c : Course) (lies : Lies c) (few : count c < byteValues) (bound : c .j
   never-broken a e = step-broken (a .left) (a .counts) (a .least) e
 
   module _ (owed : List ℕ) (size : length owed ≡ count c) (zeros : Zeros owed) where
-    step-daily : (n : ℕ) → n + j ≡ count c → LeastFrom c n j st past r → ((i : ℕ) → j ≤ i → at (c .promised) i ≡ compensationOf (suc i) past)
-        → (here : State) → Brought-to here → GoesDaily c j here owed → NextDaily c j past here r
+    -- where there is a first reading, the rests can be read
+    can-be-read : (n : ℕ) → n + j ≡ count c → LeastFrom c n j st past r → ((i : ℕ) → j ≤ i → at (c .loads) i ≡ compensationOf (suc i) past)
+        → (here : State) → Brought-to here → CanBeRead c j here owed
+    unfolding Completable
+    can-be-read zero k l loads here reached = absurd (omega arith)
+    can-be-read (suc n) k l loads here reached =
+        let a : n ≡ count c - (j + 1) = omega arith in
+        let b : suc j ≡ j + 1 = omega arith in
+        let g = extended c lies few bound (suc n) j st owed past k size zeros loads r (l .keeps) in
+        let t = subst (λ (x : Brought). After x (λ y. Tries c (Completable c n (suc j)) j y owed)) reached (g .2) in
+        subst (λ (i : ℕ). Tries c (Completable c (count c - (j + 1)) i) j here owed) b (subst (λ (m : ℕ). Tries c (Completable c m (suc j)) j here owed) a t)
+
+    step-daily : (n : ℕ) → n + j ≡ count c → LeastFrom c n j st past r → ((i : ℕ) → j ≤ i → at (c .loads) i ≡ compensationOf (suc i) past)
+        → (here : State) → Brought-to here → (CanBeRead c j here owed → GoesDaily c j here owed) → NextDaily c j past here r
     step-daily zero k l loads here reached g = absurd (omega arith)
     step-daily (suc n) k l loads here reached g =
-        is-daily c lies few bound long n j k st past loads here reached owed size zeros r l g (how-begins c lies few bound long n j k st past loads here reached r l)
+        is-daily c lies few bound long n j k st past loads here reached owed size zeros r l (g (can-be-read (suc n) k l loads here reached))
+        (how-begins c lies few bound long n j k st past loads here reached r l)
 
-    pub goes-as-daily : Ahead c j st past r → (here : State) → Brought-to here → GoesDaily c j here owed → NextDaily c j past here r
+    pub goes-as-daily : Ahead c j st past r → (here : State) → Brought-to here → (CanBeRead c j here owed → GoesDaily c j here owed) → NextDaily c j past here r
     goes-as-daily a here reached g = step-daily (a .left) (a .counts) (a .least) (a .loads) here reached g
 
-    step-weekly : (n : ℕ) → n + j ≡ count c → LeastFrom c n j st past r → ((i : ℕ) → j ≤ i → at (c .promised) i ≡ compensationOf (suc i) past)
+    step-weekly : (n : ℕ) → n + j ≡ count c → LeastFrom c n j st past r → ((i : ℕ) → j ≤ i → at (c .loads) i ≡ compensationOf (suc i) past)
         → (here : State) → Brought-to here → (GoesDaily c j here owed → ⊥) → (w x : ℕ) → FirstWeekly c j here owed w x → NextWeekly c j past here w x r
     step-weekly zero k l loads here reached nay w x f = absurd (omega arith)
     step-weekly (suc n) k l loads here reached nay w x f =
-        is-weekly c lies few bound long n j k st past loads here reached owed size zeros r w x l nay f
+        is-weekly c lies few bound long n j k st past loads here reached owed size zeros r w x l nay (can-be-read (suc n) k l loads here reached) f
         (how-begins c lies few bound long n j k st past loads here reached r l)
 
     pub goes-as-weekly : Ahead c j st past r → (here : State) → Brought-to here → (GoesDaily c j here owed → ⊥) → (w x : ℕ)

@@ -1,4 +1,4 @@
--- Laws of the functions that write the first reading: what a promise leaves room for, candidates in order, and the bytes written so far.
+-- Laws of the functions that write the first reading: what a load leaves room for, candidates in order, and the bytes written so far.
 -- Assumes nothing.
 use mathlib.Core.Path.{_≡_, refl, sym, ap, subst, _∙_}
 use mathlib.Core.Logic.{_⊎_, inl, inr, ⊎-elim}
@@ -8,8 +8,8 @@ use Prim.Native.Nat.{ℕ, zero, suc, _+_, _-_, _*_, _≤_, _<_, zero-le}
 use native.Mathlib.Nat.{le-refl}
 use native.Mathlib.Omega.{arith}
 use lib.Dec.{leb, ltb}
-use lib.ListN.{length, set, take, replicate, length-set, length-append, length-take, length-replicate}
-use lib.Seq.{getD-set-same, set-set, set-getD}
+use lib.ListN.{length, set, length-set, length-append}
+use lib.Seq.{getD-set-same}
 use borrow.Author.Tests.{leb-true, leb-false, ltb-true, ltb-false}
 use Rattle.recording.specs.Weeks.{weekStart, weekOf}
 use Rattle.recording.specs.Rests.{longRestsAtMost}
@@ -21,25 +21,26 @@ use Rattle.rules.specs.declared.Kind.the-variants.{Daily, Weekly}
 use Rattle.rules.specs.declared.Standing.the-variants.{Regular}
 use Rattle.rules.proofs.FirstLaws.{bytes-length}
 use Rattle.reading.specs.Items.{paid, Zeros}
-use Rattle.reading.proofs.LaterLaws.{zeros-at}
 use Rattle.completion.specs.declared.State.{State}
 use Rattle.completion.specs.declared.Brought.{Brought}
 use Rattle.completion.specs.declared.Brought.the-variants.{Broken, To}
 use Rattle.completion.specs.States.{startState, advance, After, afterDaily, afterWeekly}
-use Rattle.completion.specs.Completable.{Course, at, count, restWeek, lengthAt, amountOf, debtOf, Pays, brief, Reads, Tries, Completable, Lies, Stands}
-use Rattle.completion.specs.Better.{AtRest}
+use Rattle.completion.specs.Completable.{Course, at, count, restWeek, lengthAt, amountOf, debtOf, Pays, shortens, Reads, Tries, Completable, Lies, Stands}
+use Rattle.completion.specs.Better.{AtRest, bestState}
 use Rattle.completion.proofs.Heads.{arrives, after}
 use Rattle.completion.proofs.Monotone.{daily-stands}
 use Rattle.completion.proofs.Payments.{set-other}
 use Rattle.steps.specs.Steps.{Says}
-use Rattle.hopeless.specs.Table.{levelWords, levelAt}
-use Rattle.search.specs.Search.{courseOf, Later, Sound, Lent, Before}
-use Rattle.search.proofs.Answers.{noneOf, none-size, none-zeros, empty-sound, reached-at}
+use Rattle.search.specs.Search.{FoundIf, courseOf, Later, Sound, Lent, Before}
+use Rattle.search.proofs.Leading.{Equal}
+use Rattle.search.proofs.Slots.{sized-too, reached-at}
+use Rattle.search.proofs.Sweeps.{noneOf, none-size, none-zeros}
 use Rattle.first_reading.specs.First.{Least, restsOnly}
-use Rattle.first_reading.proofs.Choosing.{with-promised, lies-with, carrier-low}
-use Rattle.first_reading.specs.Choices.{loadAt, reductionAt, promising, CarriedBy, afterCounted, GoesWeekly, NotPast, FirstWeekly, LeastFrom, Ahead, withEntry, Placed, FirstOf, Sized, Room, Carries, GoesWith}
+use Rattle.first_reading.proofs.Choosing.{with-loads, lies-with, carrier-low}
+use Rattle.first_reading.specs.Choices.{loadAt, reductionAt, carrying, CanBeRead, CarriedBy, afterCounted, GoesWeekly, Room, NotPast, FirstWeekly}
+use Rattle.first_reading.specs.Choices.{LeastFrom, Ahead, withEntry, Placed, FirstOf, Limited, Carries, GoesWith}
 
--- ---- each rest that is left is long enough for what is promised out of it
+-- ---- each rest that is left is long enough for its load
 record Paying (F : ℕ → List ℕ → Type 0) (load : ℕ) : Type 0 where
   total : ℕ
   left : List ℕ
@@ -56,15 +57,15 @@ paying F minutes (suc m) i load owed (inr h) = paying F minutes m (i + 1) load o
 
 module _ (c : Course) where
   abbrev LongEnough : ℕ → Type 0
-  LongEnough y = leastNet Daily + at (c .promised) y ≤ lengthAt c y
+  LongEnough y = leastNet Daily + at (c .loads) y ≤ lengthAt c y
 
   here-or-later : (j y : ℕ) → j ≤ y → LongEnough j → (suc j ≤ y → LongEnough y) → LongEnough y
   here-or-later j y l now then = ⊎-elim then (λ h. let e : j ≡ y = omega arith in subst LongEnough e now) (less-or-not j y)
 
-  long-on : (j : ℕ) (here : State) (load y : ℕ) (K : State → List ℕ → Type 0) (owed : List ℕ) → at (c .promised) j ≤ load → j ≤ y
+  long-on : (j : ℕ) (here : State) (load y : ℕ) (K : State → List ℕ → Type 0) (owed : List ℕ) → at (c .loads) j ≤ load → j ≤ y
       → ((st : State) (o : List ℕ) → suc j ≤ y → K st o → LongEnough y) → Reads c K j here load owed → LongEnough y
   long-on j here load y K owed more l ih (inl d) =
-      here-or-later j y l (omega (arith, d .net)) (λ h. ih (afterDaily (brief c j load) here) owed h (d .then))
+      here-or-later j y l (omega (arith, d .net)) (λ h. ih (afterDaily (shortens c j load) here) owed h (d .then))
   long-on j here load y K owed more l ih (inr d) =
       let next : State → State = afterWeekly (restWeek c (d .week)) (leb (regularMinutes + load) (lengthAt c j)) (at (c .ends) j) in
       let owes : List ℕ = set owed j (debtOf (lengthAt c j) load (d .week)) in
@@ -76,12 +77,12 @@ module _ (c : Course) where
   long-enough zero j st owed y l m h = absurd (omega arith)
   long-enough (suc n) j st owed y l m h =
       let t = arrives (advance (restWeek c) (weekOf (at (c .starts) j) - st .week) st) (λ here. Tries c (Completable c n (suc j)) j here owed) (h .2) in
-      let p = paying (Reads c (Completable c n (suc j)) j (t .state)) (lengthAt c j) j 0 (at (c .promised) j) owed (t .holds) in
+      let p = paying (Reads c (Completable c n (suc j)) j (t .state)) (lengthAt c j) j 0 (at (c .loads) j) owed (t .holds) in
       long-on j (t .state) (p .total) y (Completable c n (suc j)) (p .left) (p .more) l
       (λ st′ o k g. long-enough n (suc j) st′ o y k (omega arith) g) (p .asked)
 
--- ---- promises
-pub before-with : (c : Course) (p : List ℕ) {j : ℕ} {st : State} → Before c j st → Before (with-promised c p) j st
+-- ---- other loads
+pub before-with : (c : Course) (p : List ℕ) {j : ℕ} {st : State} → Before c j st → Before (with-loads c p) j st
 before-with c p h = record {
   within = h .within;
   stands = record { short = h .stands .short; ended = h .stands .ended; week = h .stands .week; week-judged = h .stands .week-judged };
@@ -94,56 +95,55 @@ pub paid-length : (p : List ℕ) (x d : ℕ) → length (paid p x d) ≡ length 
 paid-length p zero d = refl
 paid-length p (suc i) d = length-set p i _
 
-pub sized-of : {c : Course} {o t : List ℕ} → Lent c o t → Sized c
-sized-of h = record {
-  lies = h .lies;
-  promised-too = h .promised-too;
-  few = h .few;
-  judged = h .judged;
-  promised-low = h .promised-low;
-}
+pub limited : {c : Course} {o : List ℕ} → Lent c o → Limited c
+limited {c} h = sized-too c (h .sized .lies) (h .sized) (h .sized .loads-too ∙ sym (h .sized .owed-too))
 
-pub lent-of : {c d : Course} {o o′ t t′ : List ℕ} → Sized d → count d ≡ count c → Lent c o t → o′ ≡ o → length t′ ≡ length t → Lent d o′ t′
-lent-of {c} {d} s k h e f = record {
-  lies = s .lies;
-  promised-too = s .promised-too;
-  owed-too = ap length e ∙ h .owed-too ∙ sym k;
-  few = s .few;
-  judged = s .judged;
-  promised-low = s .promised-low;
-  room = omega (arith, h .room, f, k);
+pub lent-of : {c d : Course} {o o′ : List ℕ} → Limited d → count d ≡ count c → Lent c o → o′ ≡ o → Lent d o′
+lent-of {c} {d} s k h e = record {
+  sized = sized-too d (s .lies) s (ap length e ∙ h .sized .owed-too ∙ sym k ∙ sym (s .loads-too));
   below = zero-le;
   unused = λ x l. ap (λ (q : List ℕ). at q x) e ∙ h .unused x l;
 }
 
-pub lent-same : {c : Course} {p o o′ t t′ : List ℕ} → p ≡ c .promised → o′ ≡ o → length t′ ≡ length t → Lent c o t
-    → Lent (with-promised c p) o′ t′
-lent-same {c} {p} {o} {o′} {t} {t′} q e f h =
-    subst (λ (x : List ℕ). Lent (with-promised c x) o′ t′) (sym q) (lent-of (sized-of h) refl h e f)
+-- slices that are as they were
+module _ {c : Course} {p : List ℕ} (q : p ≡ c .loads) where
+  pub lent-same : {o o′ : List ℕ} → o′ ≡ o → Lent c o → Lent (with-loads c p) o′
+  lent-same {o} {o′} e h = subst (λ (x : List ℕ). Lent (with-loads c x) o′) (sym q) (lent-of (limited h) refl h e)
 
--- a table that is sound for the promises, and for promises that are equal
-pub sound-with : (c : Course) {p t : List ℕ} → p ≡ c .promised → Sound c t → Sound (with-promised c p) t
-sound-with c {p} {t} q h = subst (λ (x : List ℕ). Sound (with-promised c x) t) (sym q) h
+  pub sound-with : {t : List ℕ} → Sound c t → Sound (with-loads c p) t
+  sound-with {t} h = subst (λ (x : List ℕ). Sound (with-loads c x) t) (sym q) h
 
-pub with-sound : (c : Course) {p t : List ℕ} → p ≡ c .promised → Sound (with-promised c p) t → Sound c t
-with-sound c {p} {t} q h = subst (λ (x : List ℕ). Sound (with-promised c x) t) q h
+  pub with-sound : {t : List ℕ} → Sound (with-loads c p) t → Sound c t
+  with-sound {t} h = subst (λ (x : List ℕ). Sound (with-loads c x) t) q h
 
--- what was asked of slices that are as they were
-pub goes-same : {c : Course} {j w x : ℕ} {next : State} {p o o′ : List ℕ} → p ≡ c .promised → o′ ≡ o → GoesWith (with-promised c p) j w next o′ x
-    → GoesWith c j w next o x
-goes-same {c} {j} {w} {x} {next} {p} {o} {o′} q e g =
-    subst (λ (l : List ℕ). GoesWith c j w next l x) e (subst (λ (l : List ℕ). GoesWith (with-promised c l) j w next o′ x) q g)
+  -- what was asked of them
+  pub found-same : (here : State) {j w x : ℕ} {next : State} {r : Bool} {o o′ o″ t : List ℕ} → o′ ≡ o
+      → FoundIf (CanBeRead (with-loads c p) j here o′) (GoesWith (with-loads c p) j w next o′ x) r o′ o″ (Sound (with-loads c p) t)
+      → FoundIf (CanBeRead c j here o) (GoesWith c j w next o x) r o o″ (Sound c t)
+  found-same here {j} {w} {x} {next} {r} {o} {o′} {o″} {t} e f =
+      subst (λ (l : List ℕ). FoundIf (CanBeRead c j here l) (GoesWith c j w next l x) r l o″ (Sound c t)) e
+      (subst (λ (l : List ℕ). FoundIf (CanBeRead (with-loads c l) j here o′) (GoesWith (with-loads c l) j w next o′ x) r o′ o″ (Sound (with-loads c l) t)) q f)
 
-pub goes-then : {c : Course} {j w x : ℕ} {next : State} {p o o′ : List ℕ} → p ≡ c .promised → o′ ≡ o → GoesWith c j w next o x
-    → GoesWith (with-promised c p) j w next o′ x
-goes-then {c} {j} {w} {x} {next} {p} {o} {o′} q e g =
-    subst (λ (l : List ℕ). GoesWith (with-promised c l) j w next o′ x) (sym q) (subst (λ (l : List ℕ). GoesWith c j w next l x) (sym e) g)
+  pub room-same : {j x : ℕ} → Room (with-loads c p) j x → Room c j x
+  room-same {j} {x} f = subst (λ (l : List ℕ). Room (with-loads c l) j x) q f
 
-pub first-same : {c : Course} {j w x : ℕ} {here : State} {p o o′ : List ℕ} → p ≡ c .promised → o′ ≡ o
-    → FirstOf (GoesWeekly (with-promised c p) j here o′ w) (count c) x → FirstOf (GoesWeekly c j here o w) (count c) x
-first-same {c} {j} {w} {x} {here} {p} {o} {o′} q e f =
-    subst (λ (l : List ℕ). FirstOf (GoesWeekly c j here l w) (count c) x) e
-    (subst (λ (l : List ℕ). FirstOf (GoesWeekly (with-promised c l) j here o′ w) (count c) x) q f)
+  pub first-same : {j w x : ℕ} {here : State} {o o′ : List ℕ} → o′ ≡ o
+      → FirstOf (CanBeRead (with-loads c p) j here o′) (GoesWeekly (with-loads c p) j here o′ w) (Room (with-loads c p) j) (count c) x
+      → FirstOf (CanBeRead c j here o) (GoesWeekly c j here o w) (Room c j) (count c) x
+  first-same {j} {w} {x} {here} {o} {o′} e f =
+      subst (λ (l : List ℕ). FirstOf (CanBeRead c j here l) (GoesWeekly c j here l w) (Room c j) (count c) x) e
+      (subst (λ (l : List ℕ). FirstOf (CanBeRead (with-loads c l) j here o′) (GoesWeekly (with-loads c l) j here o′ w) (Room (with-loads c l) j) (count c) x) q f)
+
+  pub weekly-same : {j w x : ℕ} {here : State} {o o′ : List ℕ} → o′ ≡ o → FirstWeekly (with-loads c p) j here o′ w x → FirstWeekly c j here o w x
+  weekly-same {j} {w} {x} {here} {o} {o′} e f =
+      subst (λ (l : List ℕ). FirstWeekly c j here l w x) e (subst (λ (l : List ℕ). FirstWeekly (with-loads c l) j here o′ w x) q f)
+
+-- ---- answers
+pub if-no : {R P S : Type 0} {o o′ : List ℕ} → (P → ⊥) → o′ ≡ o → S → FoundIf R P false o o′ S
+if-no n e s = record { yes = λ h. absurd (false≢true h); no = λ _ p. n p; same = e; sound = s }
+
+pub if-carry : {R P Q S : Type 0} {r : Bool} {o o′ : List ℕ} → Equal P Q → FoundIf R P r o o′ S → FoundIf R Q r o o′ S
+if-carry i h = record { yes = λ e a. i .to (h .yes e a); no = λ e q. h .no e (i .from q); same = h .same; sound = h .sound }
 
 -- ---- a state that is left as it is
 pub before-here : (c : Course) (lies : Lies c) (j : ℕ) (here : State) → AtRest c j here → Before c (j + 1) here
@@ -158,76 +158,68 @@ before-here c lies j here h =
       reached = λ _. reached-at c lies j (omega (arith, h .week));
     }
 
-pub before-on : {c : Course} (lies : Lies c) {j : ℕ} {st : State} → j < count c → weekOf (at (c .starts) j) ≤ st .week → Before c j st → Before c (j + 1) st
-before-on {c} lies {j} l r h = record {
-  within = omega (arith, l);
-  stands = record {
-    short = h .stands .short;
-    ended = λ i k m. h .stands .ended i (omega (arith, k)) m;
-    week = λ i k m. h .stands .week i (omega (arith, k)) m;
-    week-judged = h .stands .week-judged;
-  };
-  small = h .small;
-  ended = h .ended;
-  reached = λ _. reached-at c lies j r;
-}
+pub before-best : (c : Course) (lies : Lies c) (j : ℕ) {st : State} → j < count c → st ≡ bestState (at (c .starts) j) → Before c (j + 1) st
+before-best c lies j {st} inside e =
+    subst (Before c (j + 1)) (sym e)
+    (before-here c lies j (bestState (at (c .starts) j)) (record {
+      within = inside;
+      small = record { short = zero-le; weekly-before = le-refl _; regular-before = le-refl _; weekly = le-refl _; regular = le-refl _ };
+      week = refl;
+      ended = le-refl _;
+    }))
 
 module _ (c : Course) (j : ℕ) where
-  paid-low : Sized c → (x : ℕ) → x ≤ count c → Room c j x → (i : ℕ) → at (paid (c .promised) x (reductionAt c j)) i ≤ totalAtMost
-  paid-low s zero l r i = s .promised-low i
+  paid-low : Limited c → (x : ℕ) → x ≤ count c → Room c j x → (i : ℕ) → at (paid (c .loads) x (reductionAt c j)) i ≤ totalAtMost
+  paid-low s zero l r i = s .loads-low i
   paid-low s (suc y) l r i = by (less-or-not y i)
     where
       v : ℕ
-      v = at (c .promised) y + reductionAt c j
+      v = at (c .loads) y + reductionAt c j
 
-      other : (i ≡ y → ⊥) → at (set (c .promised) y (at (c .promised) y + reductionAt c j)) i ≤ totalAtMost
-      other n = subst (λ (m : ℕ). m ≤ totalAtMost) (sym (set-other (c .promised) y i _ n)) (s .promised-low i)
+      other : (i ≡ y → ⊥) → at (set (c .loads) y (at (c .loads) y + reductionAt c j)) i ≤ totalAtMost
+      other n = subst (λ (m : ℕ). m ≤ totalAtMost) (sym (set-other (c .loads) y i _ n)) (s .loads-low i)
 
-      same : at (set (c .promised) y (at (c .promised) y + reductionAt c j)) y ≤ totalAtMost
+      same : at (set (c .loads) y (at (c .loads) y + reductionAt c j)) y ≤ totalAtMost
       same =
-          let e : at (set (c .promised) y (at (c .promised) y + reductionAt c j)) y ≡ at (c .promised) y + reductionAt c j =
-          getD-set-same (c .promised) y (at (c .promised) y + reductionAt c j) 0 (omega (arith, s .promised-too)) in
+          let e : at (set (c .loads) y (at (c .loads) y + reductionAt c j)) y ≡ at (c .loads) y + reductionAt c j =
+          getD-set-same (c .loads) y (at (c .loads) y + reductionAt c j) 0 (omega (arith, s .loads-too)) in
           omega (arith, e, r .room y refl, s .lies .judged y (omega arith), s .judged)
 
-      by : (y < i) ⊎ (i ≤ y) → at (set (c .promised) y (at (c .promised) y + reductionAt c j)) i ≤ totalAtMost
+      by : (y < i) ⊎ (i ≤ y) → at (set (c .loads) y (at (c .loads) y + reductionAt c j)) i ≤ totalAtMost
       by (inl h) = other (λ q. omega arith)
       by (inr h) =
           ⊎-elim (λ k. other (λ q. omega arith))
-          (λ k. let e : y ≡ i = omega arith in subst (λ (m : ℕ). at (set (c .promised) y (at (c .promised) y + reductionAt c j)) m ≤ totalAtMost) e same)
+          (λ k. let e : y ≡ i = omega arith in subst (λ (m : ℕ). at (set (c .loads) y (at (c .loads) y + reductionAt c j)) m ≤ totalAtMost) e same)
           (less-or-not i y)
 
-  pub sized-with : Sized c → (x : ℕ) → x ≤ count c → Room c j x → Sized (promising c j x)
-  sized-with s x l r = record {
+  pub limited-with : Limited c → (x : ℕ) → x ≤ count c → Room c j x → Limited (carrying c j x)
+  limited-with s x l r = record {
     lies = lies-with c _ (s .lies);
-    promised-too = paid-length (c .promised) x (reductionAt c j) ∙ s .promised-too;
+    loads-too = paid-length (c .loads) x (reductionAt c j) ∙ s .loads-too;
+    owed-too = paid-length (c .loads) x (reductionAt c j) ∙ s .loads-too;
     few = s .few;
     judged = s .judged;
-    promised-low = paid-low s x l r;
+    loads-low = paid-low s x l r;
   }
 
   -- what can be gone on with has room
-  room-by : (w : ℕ) (next : State) (owed : List ℕ) (x : ℕ) → length (c .promised) ≡ count c → CarriedBy c j w x → Later (promising c j x) j next owed
+  room-by : (w : ℕ) (next : State) (owed : List ℕ) (x : ℕ) → length (c .loads) ≡ count c → CarriedBy c j w x → Later (carrying c j x) j next owed
       → Room c j x
   room-by w next owed x long (CarriedBy.alone z h) g = record { room = λ i q. absurd (omega (arith, z, q)) }
   room-by w next owed x long (CarriedBy.later i z l m u d) g =
-      let e : at (promising c j x .promised) i ≡ at (c .promised) i + reductionAt c j =
-      ap (λ (y : ℕ). at (paid (c .promised) y (reductionAt c j)) i) z ∙ getD-set-same (c .promised) i _ 0 (omega (arith, long)) in
-      let h : leastNet Daily + at (promising c j x .promised) i ≤ lengthAt c i =
-      long-enough (promising c j x) (count c - (j + 1)) (j + 1) next owed i (omega arith) (omega arith) g in
-      let r : leastNet Daily + (at (c .promised) i + reductionAt c j) ≤ lengthAt c i = omega (arith, h, e) in
+      let e : at (carrying c j x .loads) i ≡ at (c .loads) i + reductionAt c j =
+      ap (λ (y : ℕ). at (paid (c .loads) y (reductionAt c j)) i) z ∙ getD-set-same (c .loads) i _ 0 (omega (arith, long)) in
+      let h : leastNet Daily + at (carrying c j x .loads) i ≤ lengthAt c i =
+      long-enough (carrying c j x) (count c - (j + 1)) (j + 1) next owed i (omega arith) (omega arith) g in
+      let r : leastNet Daily + (at (c .loads) i + reductionAt c j) ≤ lengthAt c i = omega (arith, h, e) in
       record {
         room = λ i′ q.
             let k : i ≡ i′ = omega (arith, z, q) in
-            subst (λ (y : ℕ). leastNet Daily + (at (c .promised) y + reductionAt c j) ≤ lengthAt c y) k r;
+            subst (λ (y : ℕ). leastNet Daily + (at (c .loads) y + reductionAt c j) ≤ lengthAt c y) k r;
       }
 
-  pub room-with : (w : ℕ) (next : State) (owed : List ℕ) (x : ℕ) → length (c .promised) ≡ count c → GoesWith c j w next owed x → Room c j x
+  pub room-with : (w : ℕ) (next : State) (owed : List ℕ) (x : ℕ) → length (c .loads) ≡ count c → GoesWith c j w next owed x → Room c j x
   room-with w next owed x long g = room-by w next owed x long (g .carried) (g .then)
-
-  pub room-weekly : (w : ℕ) (here : State) (owed : List ℕ) (x : ℕ) → length (c .promised) ≡ count c → GoesWeekly c j here owed w x → Room c j x
-  room-weekly w here owed x long g =
-      let t = arrives (advance (restWeek c) (w - here .week) here) (λ there. Later (promising c j x) j (afterCounted c j w there) owed) (g .then) in
-      room-by w (afterCounted c j w (t .state)) owed x long (g .carried) (t .holds)
 
   -- ---- carriers in order
   carrier-past : {w x : ℕ} → CarriedBy c j w x → 0 < x → j + 2 ≤ x
@@ -256,22 +248,22 @@ module _ (c : Course) (j : ℕ) where
       from = from;
       upto = upto;
       carried = g .carried;
-      then = after _ counted (subst (λ (st : State). Later (promising c j x) j st owed) e (g .then));
+      then = after _ counted (subst (λ (st : State). Later (carrying c j x) j st owed) e (g .then));
     }
 
     pub to-with : (x : ℕ) → GoesWeekly c j here owed w x → GoesWith c j w next owed x
     to-with x g = record {
       carried = g .carried;
       then =
-          subst (λ (st : State). Later (promising c j x) j st owed) (sym e)
-          (subst (λ (b : Brought). After b (λ y. Later (promising c j x) j (afterCounted c j w y) owed)) counted (g .then));
+          subst (λ (st : State). Later (carrying c j x) j st owed) (sym e)
+          (subst (λ (b : Brought). After b (λ y. Later (carrying c j x) j (afterCounted c j w y) owed)) counted (g .then));
     }
 
   pub not-counted : (w : ℕ) (here : State) (owed : List ℕ) (x : ℕ) → advance (restWeek c) (w - here .week) here ≡ Broken → GoesWeekly c j here owed w x → ⊥
-  not-counted w here owed x e g = subst (λ (b : Brought). After b (λ y. Later (promising c j x) j (afterCounted c j w y) owed)) e (g .then)
+  not-counted w here owed x e g = subst (λ (b : Brought). After b (λ y. Later (carrying c j x) j (afterCounted c j w y) owed)) e (g .then)
 
   -- ---- weeks in order
-  pub none-before : {here : State} {owed : List ℕ} (w x : ℕ) → FirstOf (GoesWeekly c j here owed w) (count c) x → count c < x
+  pub none-before : {here : State} {owed : List ℕ} (w x : ℕ) → FirstOf (CanBeRead c j here owed) (GoesWeekly c j here owed w) (Room c j) (count c) x → count c < x
       → ((v y : ℕ) → v < w → GoesWeekly c j here owed v y → ⊥) → (v y : ℕ) → v < w + 1 → GoesWeekly c j here owed v y → ⊥
   none-before {here} {owed} w x f past old v y l g =
       ⊎-elim (λ h. old v y h g)
@@ -280,10 +272,11 @@ module _ (c : Course) (j : ℕ) where
       omega (arith, k, carrier-low c j v y (g .carried)))
       (less-or-not v w)
 
-  pub first-here : {here : State} {owed : List ℕ} (w x : ℕ) → FirstOf (GoesWeekly c j here owed w) (count c) x → x ≤ count c
-      → ((v y : ℕ) → v < w → GoesWeekly c j here owed v y → ⊥) → FirstWeekly c j here owed w x
-  first-here {here} {owed} w x f l old = record {
-    goes = λ h. f .goes h;
+  pub first-here : {here : State} {owed : List ℕ} (w x : ℕ) → FirstOf (CanBeRead c j here owed) (GoesWeekly c j here owed w) (Room c j) (count c) x → x ≤ count c
+      → at (c .starts) j < weekStart (w + 1) → weekStart w < at (c .ends) j → ((v y : ℕ) → v < w → GoesWeekly c j here owed v y → ⊥) → FirstWeekly c j here owed w x
+  first-here {here} {owed} w x f l from upto old = record {
+    goes = f .goes;
+    fits = λ h. record { from = from; upto = upto; room = f .fits h };
     found = λ v y g. l;
     first = λ v y g.
         ⊎-elim (λ h. absurd (old v y h g))
@@ -296,6 +289,7 @@ module _ (c : Course) (j : ℕ) where
       → FirstWeekly c j here owed w (count c + 1)
   none-at-all {here} {owed} w past old = record {
     goes = λ h. absurd (omega arith);
+    fits = λ h. absurd (omega arith);
     found = λ v y g. absurd (none v y g);
     first = λ v y g. absurd (none v y g);
   }
@@ -303,7 +297,6 @@ module _ (c : Course) (j : ℕ) where
       none : (v y : ℕ) → GoesWeekly c j here owed v y → ⊥
       none v y g = old v y (omega (arith, g .upto)) g
 
--- ---- answers
 -- ---- whether a rest can be the carrier
 module _ (c : Course) (j w x : ℕ) where
   abbrev due : ℕ
@@ -341,39 +334,30 @@ module _ (c : Course) (j w x : ℕ) where
       by (CarriedBy.later i e l m u d) = let q : x - 1 ≡ i = omega (arith, e) in let v = ap (at (c .ends)) q in omega (arith, v, d, p)
 
   pub carries-fits : (x ≡ 0 → ⊥) → (reductionAt c j ≡ 0 → ⊥) → j + 1 < x → x ≤ count c → at (c .ends) (x - 1) ≤ due
-      → (less : ℕ) → less ≡ reductionAt c j → Says (Carries c j w x) (leb (leastNet Daily + (at (c .promised) (x - 1) + less)) (at (c .ends) (x - 1) - at (c .starts) (x - 1)))
+      → (less : ℕ) → less ≡ reductionAt c j → Says (Carries c j w x) (leb (leastNet Daily + (at (c .loads) (x - 1) + less)) (at (c .ends) (x - 1) - at (c .starts) (x - 1)))
   carries-fits n r l m d less e = record {
     yes = λ h. record {
       carried = CarriedBy.later (x - 1) (omega (arith, l)) (omega (arith, l)) (omega (arith, l, m)) (omega arith) d;
       fits = record {
         room = λ i q.
             let v : x - 1 ≡ i = omega (arith, q) in
-            let g = leb-true (leastNet Daily + (at (c .promised) (x - 1) + less)) (at (c .ends) (x - 1) - at (c .starts) (x - 1)) h in
-            subst (λ (y : ℕ). leastNet Daily + (at (c .promised) y + reductionAt c j) ≤ lengthAt c y) v (omega (arith, g, e));
+            let g = leb-true (leastNet Daily + (at (c .loads) (x - 1) + less)) (at (c .ends) (x - 1) - at (c .starts) (x - 1)) h in
+            subst (λ (y : ℕ). leastNet Daily + (at (c .loads) y + reductionAt c j) ≤ lengthAt c y) v (omega (arith, g, e));
       };
     };
     no = λ h k.
-        let g = leb-false (leastNet Daily + (at (c .promised) (x - 1) + less)) (at (c .ends) (x - 1) - at (c .starts) (x - 1)) h in
+        let g = leb-false (leastNet Daily + (at (c .loads) (x - 1) + less)) (at (c .ends) (x - 1) - at (c .starts) (x - 1)) h in
         let v = k .fits .room (x - 1) (omega (arith, l)) in
         omega (arith, g, v, e);
   }
 
--- ---- a promise is made and taken back
-pub paid-none : (p : List ℕ) (x d : ℕ) → x ≡ 0 → paid p x d ≡ p
-paid-none p x d e = ap (λ (y : ℕ). paid p y d) e
-
-pub paid-some : (p : List ℕ) (x d : ℕ) → (x ≡ 0 → ⊥) → paid p x d ≡ set p (x - 1) (at p (x - 1) + d)
-paid-some p zero d n = absurd (n refl)
-paid-some p (suc i) d n = let e : i ≡ suc i - 1 = omega arith in ap (λ (y : ℕ). set p y (at p y + d)) e
-
-pub paid-fits : (p : List ℕ) (x d most : ℕ) → (x ≡ 0 → ⊥) → x ≤ length p → ((i : ℕ) → at (paid p x d) i ≤ most) → at p (x - 1) + d ≤ most
-paid-fits p x d most n l h =
-    let e : at (paid p x d) (x - 1) ≡ at p (x - 1) + d =
-    ap (λ (q : List ℕ). at q (x - 1)) (paid-some p x d n) ∙ getD-set-same p (x - 1) (at p (x - 1) + d) 0 (omega (arith, l, n)) in
-    omega (arith, e, h (x - 1))
-
-pub taken-back : (p last : List ℕ) (i v : ℕ) → last ≡ set p i v → set last i (at p i) ≡ p
-taken-back p last i v e = ap (λ (l : List ℕ). set l i (at p i)) e ∙ set-set p i v (at p i) ∙ set-getD p i 0
+-- with a carrier that is one, the later rests are what is left to ask
+pub with-carrier : (c : Course) (j w : ℕ) (next : State) (o : List ℕ) (x : ℕ) {less : ℕ} → less ≡ reductionAt c j → CarriedBy c j w x
+    → Equal (Later (with-loads c (paid (c .loads) x less)) j next o) (GoesWith c j w next o x)
+with-carrier c j w next o x {less} e k = record {
+  to = λ p. record { carried = k; then = subst (λ (d : ℕ). Later (with-loads c (paid (c .loads) x d)) j next o) e p };
+  from = λ g. subst (λ (d : ℕ). Later (with-loads c (paid (c .loads) x d)) j next o) (sym e) (g .then);
+}
 
 -- ---- the bytes written so far
 pub record Progress (c : Course) (f reading : List ℕ) (j : ℕ) (st : State) : Type 0 where
@@ -386,8 +370,8 @@ pub record Progress (c : Course) (f reading : List ℕ) (j : ℕ) (st : State) :
   pub long : length front ≡ entryBytes * j
   pub ahead : Ahead c j st past left
 
-pub progress-start : (c : Course) (f reading : List ℕ) (st : State) → Least (restsOnly (c .starts) (c .ends) (c .judged)) f
-    → Zeros (c .promised) → st ≡ startState (restWeek c 0) → Progress c f reading 0 st
+pub progress-start : (c : Course) (f reading : List ℕ) (st : State) → Least (restsOnly (c .starts) (c .ends) (c .nets) (c .judged)) f
+    → Zeros (c .loads) → st ≡ startState (restWeek c 0) → Progress c f reading 0 st
 unfolding entries compensationOf
 progress-start c f reading st l z e = record {
   front = [];
@@ -476,26 +460,21 @@ pub counted-state : (c : Course) (j w : ℕ) (rest : Bool) (there next : State)
 counted-state c j w rest there next e r =
     e ∙ ap (λ (b : Bool). afterWeekly b (leb (regularMinutes + loadAt c j) (lengthAt c j)) (at (c .ends) j) there) r
 
-pub at-rest-with : (c : Course) (p : List ℕ) {j : ℕ} {here : State} → AtRest c j here → AtRest (with-promised c p) j here
+pub at-rest-with : (c : Course) (p : List ℕ) {j : ℕ} {here : State} → AtRest c j here → AtRest (with-loads c p) j here
 at-rest-with c p h = record { within = h .within; small = h .small; week = h .week; ended = h .ended }
 
--- ---- before anything is promised or owed
-pub lent-start : (starts ends : List ℕ) (s : ℕ) → Lies (restsOnly starts ends s) → length starts ≤ longRestsAtMost → s ≤ totalAtMost
-    → Lent (courseOf starts ends (noneOf (length starts)) s) (noneOf (length starts)) (replicate (levelWords * longRestsAtMost) 0)
-lent-start starts ends s l few judged = record {
-  lies = lies-with (restsOnly starts ends s) (noneOf (length starts)) l;
-  promised-too = none-size (length starts) few;
-  owed-too = none-size (length starts) few;
-  few = few;
-  judged = judged;
-  promised-low = λ i. omega (arith, none-zeros (length starts) i);
-  room = rw (length-replicate {A = ℕ} (levelWords * longRestsAtMost) 0) (omega (arith, few));
+-- ---- before a rest has a load or anything is owed
+pub lent-start : (starts ends nets : List ℕ) (s : ℕ) → Lies (restsOnly starts ends nets s) → length starts ≤ longRestsAtMost → s ≤ totalAtMost
+    → Lent (courseOf starts ends nets (noneOf (length starts)) s) (noneOf (length starts))
+lent-start starts ends nets s l few judged = record {
+  sized = record {
+    lies = lies-with (restsOnly starts ends nets s) (noneOf (length starts)) l;
+    loads-too = none-size (length starts) few;
+    owed-too = none-size (length starts) few;
+    few = few;
+    judged = judged;
+    loads-low = λ i. omega (arith, none-zeros (length starts) i);
+  };
   below = zero-le;
   unused = λ x _. none-zeros (length starts) x;
 }
-
-pub sound-start : (starts ends : List ℕ) (s : ℕ) → Lies (restsOnly starts ends s) → length starts ≤ longRestsAtMost
-    → Sound (courseOf starts ends (noneOf (length starts)) s) (replicate (levelWords * longRestsAtMost) 0)
-sound-start starts ends s l few =
-    empty-sound (courseOf starts ends (noneOf (length starts)) s) (lies-with (restsOnly starts ends s) (noneOf (length starts)) l)
-    (λ i h. zeros-at (levelWords * longRestsAtMost) (levelAt i))

@@ -3,14 +3,11 @@
 -- Assumes nothing.
 use mathlib.Core.Path.{_≡_}
 use mathlib.Core.Logic.{_⊎_}
-use mathlib.Core.Bool.{Bool, true, false}
 use mathlib.Core.List.{List, _∷_}
 use Prim.Native.Nat.{ℕ, suc, _+_, _-_, _*_, _≤_, _<_}
 use lib.Dec.{leb}
-use lib.ListN.{length, set}
+use lib.ListN.{set}
 use Rattle.recording.specs.Tests.{one}
-use Rattle.recording.specs.Rests.{longRestsAtMost}
-use Rattle.recording.specs.Operations.{totalAtMost}
 use Rattle.recording.specs.Weeks.{weekStart}
 use Rattle.rules.specs.Reading.{Entry, dailyKind, weeklyKind, regularMinutes, compensationOf, entryBytes, entriesFrom}
 use Rattle.rules.specs.ReadingRules.{leastNet, shortenedAtMost, weeksToCompensate}
@@ -22,21 +19,25 @@ use Rattle.completion.specs.declared.State.{State}
 use Rattle.completion.specs.declared.Brought.the-variants.{To}
 use Rattle.completion.specs.States.{advance, After, afterDaily, afterWeekly}
 use Rattle.completion.specs.Runs.{Kept}
-use Rattle.completion.specs.Completable.{Course, at, count, spansOf, restWeek, lengthAt, brief, ReadDaily, Lies}
-use Rattle.hopeless.specs.Table.{Empty}
-use Rattle.search.specs.Search.{Later, Sound, Lent, Before}
+use Rattle.completion.specs.Completable.{Course, at, count, spansOf, restWeek, lengthAt, shortens, ReadDaily, Tries}
+use Rattle.nogoods.specs.Table.{Empty}
+use Rattle.search.specs.Search.{Later, Sound, Sized, Lent, Before}
 
 module _ (c : Course) where
-  -- the minutes promised out of the rest of index j, and by how many it is reduced as a weekly rest
+  -- the load of the rest of index j, and by how many minutes it is reduced as a weekly rest
   abbrev pub loadAt : ℕ → ℕ
-  loadAt j = at (c .promised) j
+  loadAt j = at (c .loads) j
 
   abbrev pub reductionAt : ℕ → ℕ
   reductionAt j = regularMinutes + loadAt j - lengthAt c j
 
-  -- the reduction of the rest of index j is promised out of the rest of number x, if that is one
-  abbrev pub promising : ℕ → ℕ → Course
-  promising j x = record { starts = c .starts; ends = c .ends; promised = paid (c .promised) x (reductionAt j); judged = c .judged }
+  -- the reduction of the rest of index j adds to the load of the rest of number x, if that is one
+  abbrev pub carrying : ℕ → ℕ → Course
+  carrying j x = record { starts = c .starts; ends = c .ends; nets = c .nets; loads = paid (c .loads) x (reductionAt j); judged = c .judged }
+
+  -- the rests from that of index j on can be read, from a state in the week in which it starts
+  abbrev pub CanBeRead : ℕ → State → List ℕ → Type 0
+  CanBeRead j here owed = Tries c (Later c j) j here owed
 
   -- the rest of index j is daily, and the later ones can be read
   abbrev pub GoesDaily : ℕ → State → List ℕ → Type 0
@@ -58,16 +59,28 @@ module _ (c : Course) where
     pub from : at (c .starts) j < weekStart (w + 1)
     pub upto : weekStart w < at (c .ends) j
     pub carried : CarriedBy j w x
-    pub then : After (advance (restWeek c) (w - here .week) here) (λ there. Later (promising j x) j (afterCounted j w there) owed)
+    pub then : After (advance (restWeek c) (w - here .week) here) (λ there. Later (carrying j x) j (afterCounted j w there) owed)
+
+  -- the reduction of the rest of index j fits into the rest of number x, if that is one, beside its load and what it needs itself
+  pub record Room (j x : ℕ) : Type 0 where
+    pub room : (i : ℕ) → x ≡ suc i → leastNet Daily + (loadAt i + reductionAt j) ≤ lengthAt c i
+
+  -- the rest of index j has a minute in week w, and its reduction fits
+  pub record Fits (j w x : ℕ) : Type 0 where
+    pub from : at (c .starts) j < weekStart (w + 1)
+    pub upto : weekStart w < at (c .ends) j
+    pub room : Room j x
 
 -- a week and a carrier that do not stand after others
 pub data NotPast (w x w′ x′ : ℕ) : Type 0 where
   sooner : w < w′ → NotPast w x w′ x′
   same : w ≡ w′ → x ≤ x′ → NotPast w x w′ x′
 
--- the first week and carrier with which the rest of index j can be gone on with; the carrier is past the rests where there are none
+-- the first week and carrier with which the rest of index j can be gone on with, if the rests can be read at all; the carrier is past the rests where
+-- there are none
 pub record FirstWeekly (c : Course) (j : ℕ) (here : State) (owed : List ℕ) (w x : ℕ) : Type 0 where
-  pub goes : x ≤ count c → GoesWeekly c j here owed w x
+  pub goes : x ≤ count c → CanBeRead c j here owed → GoesWeekly c j here owed w x
+  pub fits : x ≤ count c → Fits c j w x
   pub found : (w′ x′ : ℕ) → GoesWeekly c j here owed w′ x′ → x ≤ count c
   pub first : (w′ x′ : ℕ) → GoesWeekly c j here owed w′ x′ → NotPast w x w′ x′
 
@@ -89,7 +102,7 @@ module _ (c : Course) where
     pub left : ℕ
     pub counts : left + j ≡ count c
     pub least : LeastFrom left j st past r
-    pub loads : (i : ℕ) → j ≤ i → at (c .promised) i ≡ compensationOf (suc i) past
+    pub loads : (i : ℕ) → j ≤ i → at (c .loads) i ≡ compensationOf (suc i) past
 
 -- the entry of index j as its three bytes
 abbrev pub withEntry : List ℕ → ℕ → ℕ → ℕ → ℕ → List ℕ
@@ -107,60 +120,53 @@ pub record Placed (c : Course) (j : ℕ) (st : State) (past : List Entry) (r rea
   pub ahead : Ahead c (suc j) st (entry ∷ past) rest
 
 -- ---- what the functions answer
--- x is the first number of which P holds, or past the most
-pub record FirstOf (P : ℕ → Type 0) (most x : ℕ) : Type 0 where
-  pub goes : x ≤ most → P x
+-- x is the first number of which P holds, where R does, or past the most; Q holds of it at any rate
+pub record FirstOf (R : Type 0) (P Q : ℕ → Type 0) (most x : ℕ) : Type 0 where
+  pub goes : x ≤ most → R → P x
+  pub fits : x ≤ most → Q x
   pub first : (y : ℕ) → P y → x ≤ y
 
 module _ (c : Course) where
-  -- the long rests lie in order within the limits, and so do the minutes promised out of each
-  pub record Sized : Type 0 where
-    pub lies : Lies c
-    pub promised-too : length (c .promised) ≡ count c
-    pub few : count c ≤ longRestsAtMost
-    pub judged : c .judged ≤ totalAtMost
-    pub promised-low : (i : ℕ) → at (c .promised) i ≤ totalAtMost
-
-  -- the reduction of the rest of index j fits into the rest of number x, if that is one, beside what is promised out of it and what it needs itself
-  pub record Room (j x : ℕ) : Type 0 where
-    pub room : (i : ℕ) → x ≡ suc i → leastNet Daily + (at (c .promised) i + reductionAt c j) ≤ lengthAt c i
+  -- the long rests lie in order within the limits, and so do their loads
+  abbrev pub Limited : Type 0
+  Limited = Sized c (c .loads)
 
   pub record Carries (j w x : ℕ) : Type 0 where
     pub carried : CarriedBy c j w x
-    pub fits : Room j x
+    pub fits : Room c j x
 
   -- the rest of index j is weekly, counted in week w, and leads to the state next: it can be gone on with carrier x
   pub record GoesWith (j w : ℕ) (next : State) (owed : List ℕ) (x : ℕ) : Type 0 where
     pub carried : CarriedBy c j w x
-    pub then : Later (promising c j x) j next owed
+    pub then : Later (carrying c j x) j next owed
 
   -- the entry of a daily rest was written, and r is the state after it, where it does not break rule 9
   pub record PutDaily (j : ℕ) (here : State) (reading reading′ : List ℕ) (r : State) : Type 0 where
     pub before : Before c (j + 1) r
     pub written : reading′ ≡ withEntry reading j dailyKind 0 0
-    pub done : here .short + one (brief c j (loadAt c j)) ≤ shortenedAtMost → r ≡ afterDaily (brief c j (loadAt c j)) here
+    pub done : here .short + one (shortens c j (loadAt c j)) ≤ shortenedAtMost → r ≡ afterDaily (shortens c j (loadAt c j)) here
 
--- the entry of a weekly rest counted in week w, with carrier x, was written and its reduction promised, and r is the state after it
+-- the entry of a weekly rest counted in week w, with carrier x, was written and its reduction added to a load, and r is the state after it
 pub record DoneWeekly (c c′ : Course) (j : ℕ) (there : State) (w x : ℕ) (reading reading′ : List ℕ) (r : State) : Type 0 where
-  pub promised : c′ .promised ≡ promising c j x .promised
+  pub loads : c′ .loads ≡ carrying c j x .loads
   pub written : reading′ ≡ withEntry reading j weeklyKind w x
   pub state : r ≡ afterCounted c j w there
 
 pub record PutWeekly (c c′ : Course) (j : ℕ) (here : State) (w x : ℕ) (reading reading′ : List ℕ) (r : State) : Type 0 where
-  pub sized : Sized c′
+  pub limited : Limited c′
   pub before : Before c′ (j + 1) r
-  pub kept : x ≡ 0 → c′ .promised ≡ c .promised
+  pub kept : x ≡ 0 → c′ .loads ≡ c .loads
   pub done : (there : State) → x ≤ count c → advance (restWeek c) (w - here .week) here ≡ To there → DoneWeekly c c′ j there w x reading reading′ r
 
--- the table of k levels is as it was, or empty where x is the number of a rest
-pub record Renewed (k x : ℕ) (table table′ : List ℕ) : Type 0 where
-  pub kept : x ≡ 0 → table′ ≡ table
-  pub empty : (x ≡ 0 → ⊥) → Empty table′ k
+-- the nogoods of k rests are as they were, or none where x is the number of a rest
+pub record Renewed (k x : ℕ) (nogoods nogoods′ : List ℕ) : Type 0 where
+  pub kept : x ≡ 0 → nogoods′ ≡ nogoods
+  pub empty : (x ≡ 0 → ⊥) → Empty nogoods′ k
 
 -- the rest of index j was read: wherever there is a first reading, its entry was written
-pub record Stepped (c c′ : Course) (j : ℕ) (st : State) (owed owed′ table′ reading reading′ : List ℕ) (r : State) : Type 0 where
-  pub lent : Lent c′ owed′ table′
-  pub sound : Sound c′ table′
+pub record Stepped (c c′ : Course) (j : ℕ) (st : State) (owed owed′ nogoods′ reading reading′ : List ℕ) (r : State) : Type 0 where
+  pub lent : Lent c′ owed′
+  pub sound : Sound c′ nogoods′
   pub same : owed′ ≡ owed
   pub before : Before c′ (j + 1) r
   pub placed : (past : List Entry) (left : List ℕ) → Ahead c j st past left → Placed c′ j r past left reading reading′

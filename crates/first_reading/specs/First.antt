@@ -17,6 +17,6 @@ pub record Least (c : Course) (r : List ℕ) : Type 0 where
   pub keeps : KeptBy c r
   pub first : (t : List ℕ) → Bytes (entryBytes * count c) t → KeptBy c t → NotAfter r t
 
--- long rests of which nothing is promised
-abbrev pub restsOnly : List ℕ → List ℕ → ℕ → Course
-restsOnly starts ends s = record { starts = starts; ends = ends; promised = []; judged = s }
+-- long rests that have no load yet
+abbrev pub restsOnly : List ℕ → List ℕ → List ℕ → ℕ → Course
+restsOnly starts ends nets s = record { starts = starts; ends = ends; nets = nets; loads = []; judged = s }

@@ -5,4 +5,5 @@ pub mod Rules
 pub mod AccountRight
 pub mod Steps
 pub mod PartRight
+pub mod NetLaws
 pub mod Surveying

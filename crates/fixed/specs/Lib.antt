@@ -1,3 +1,4 @@
 pub mod Account
+pub mod Nets
 pub mod Walk
 pub mod Parts

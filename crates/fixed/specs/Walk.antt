@@ -8,6 +8,7 @@ use Rattle.recording.specs.Words.{minutesOf}
 use Rattle.recording.specs.Weeks.{weekMinutes}
 use Rattle.recording.specs.Scan.{cutAt, origin, placeOf, writtenFrom}
 use Rattle.fixed.specs.Account.{accountFrom, opening}
+use Rattle.fixed.specs.Nets.{netOf}
 use Rattle.fixed.specs.declared.Account.{Account}
 use Rattle.fixed.specs.declared.Survey.{Survey}
 use Rattle.fixed.specs.declared.Tested.{Tested}
@@ -35,9 +36,10 @@ pub record Ran (s : Account) (a n : ℕ) (r : Account) : Type 0 where
   pub bounded : Bounded r
   pub now : r .now ≡ s .now + n
 
--- the first m minutes: their place, the long rests' starts and ends, their account
-pub record Surveyed (words : List ℕ) (m : ℕ) (starts ends : List ℕ) (r : Survey) (starts′ ends′ : List ℕ) : Type 0 where
+-- the first m minutes: their place, the long rests' starts, ends and numbers by rule 9, their account
+pub record Surveyed (words : List ℕ) (m : ℕ) (starts ends nets : List ℕ) (r : Survey) (starts′ ends′ nets′ : List ℕ) : Type 0 where
   pub place : r .place ≡ placeOf origin (cutAt m words)
   pub begun : starts′ ≡ writtenFrom (λ s. s .start) origin (cutAt m words) starts
   pub ended : ends′ ≡ writtenFrom (λ s. s .end) origin (cutAt m words) ends
+  pub numbered : nets′ ≡ writtenFrom (netOf (take m (minutesOf words))) origin (cutAt m words) nets
   pub account : r .account ≡ accountFrom opening (take m (minutesOf words))

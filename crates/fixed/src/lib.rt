@@ -10,6 +10,7 @@ ghost use Rattle.recording.specs.Operations.{totalAtMost};
 ghost use Rattle.rules.specs.Fixed.{rested};
 ghost use Rattle.rules.specs.Operations.{fixedTested};
 ghost use Rattle.fixed.specs.Account.{dayAfter, weekNext, brokenAt, smaller, firstBreak};
+ghost use Rattle.fixed.specs.Nets.{regularNet};
 ghost use Rattle.fixed.specs.Walk.{Bounded, Ran, Surveyed, tested};
 ghost use Rattle.fixed.specs.Parts.{drivingOf, inWeek, drivenMore, dayMore, weekMore, partAfter, sameBreaches, Taken};
 
@@ -82,6 +83,10 @@ const WEEK: u32 = 3360;
 const FORTNIGHT: u32 = 5400;
 
 const DAY_LENGTH: u32 = 900;
+
+pub const DAILY_WINDOW: u32 = 1440;
+
+pub const FULL_PORTION: u32 = 660;
 
 // Rule 1: the driving sum after a rest of n minutes.
 pub fn rested_for(n: u32, d: Driven) -> Driven
@@ -376,11 +381,28 @@ pub fn run(s: Account, activity: u32, n: u32) -> Account
     t
 }
 
-// One walk over the first m minutes: the long rests' starts and ends into the lent slices as far as they reach, the place and
-// the account.
-pub fn survey_of(words: &[u32], m: u32, starts: &mut [u32], ends: &mut [u32]) -> Survey
+// Rule 9: the least net length at which the rest from `start` to `end` is no shortened daily rest, where P is p.
+pub fn regular_net(p: u32, start: u32, end: u32) -> u32
+    requires { ⌜ (p ≤ totalAtMost) × (start ≤ end) × (end ≤ totalAtMost) ⌝ }
+    ensures { λ r. ⌜ r ≡ regularNet p start end ⌝ }
+{
+    if start + FULL_PORTION <= p + DAILY_WINDOW {
+        return FULL_PORTION;
+    }
+    end - start + 1
+}
+
+// One walk over the first m minutes: the long rests' starts, ends and numbers by rule 9 into the lent slices as far as they
+// reach, the place and the account.
+pub fn survey_of(
+    words: &[u32],
+    m: u32,
+    starts: &mut [u32],
+    ends: &mut [u32],
+    nets: &mut [u32],
+) -> Survey
     requires { ⌜ length (minutesOf (now words)) ≤ totalAtMost ⌝ }
-    ensures { λ r. ⌜ Surveyed (now (words .entry)) m (now (starts .entry)) (now (ends .entry)) r (now (starts .exit)) (now (ends .exit)) ⌝ }
+    ensures { λ r. ⌜ Surveyed (now (words .entry)) m (now (starts .entry)) (now (ends .entry)) (now (nets .entry)) r (now (starts .exit)) (now (ends .exit)) (now (nets .exit)) ⌝ }
 {
     let mut p = Place {
         now: 0,
@@ -417,6 +439,8 @@ pub fn survey_of(words: &[u32], m: u32, starts: &mut [u32], ends: &mut [u32]) ->
         let ended = recording::ends_rest(p, activity, minutes);
         recording::put_if(starts, ended, p.count, p.from);
         recording::put_if(ends, ended, p.count, p.now);
+        let day = s.day;
+        recording::put_if(nets, ended, p.count, regular_net(day.start, p.from, p.now));
         s = run(s, activity, minutes);
         p = recording::after_run(p, activity, minutes);
         togo -= minutes;
@@ -440,7 +464,8 @@ pub fn fixed_test(words: &[u32], m: u32) -> Tested
     }
     let mut starts = [0u32; 1];
     let mut ends = [0u32; 1];
-    let found = survey_of(words, m, &mut starts, &mut ends);
+    let mut nets = [0u32; 1];
+    let found = survey_of(words, m, &mut starts, &mut ends, &mut nets);
     let account = found.account;
     Tested::Answer(account.rule)
 }

@@ -50,7 +50,7 @@ fn rule_code(t: Tested) -> u64
 }
 
 // A refusal's number; ANSWER and the count of a pass; or 2 × ANSWER, 8 × the minute and the article of a breach.
-fn outcome_code(o: Outcome) -> u64
+pub fn outcome_code(o: Outcome) -> u64
     ensures { λ r. ⌜ r ≡ codeOf outcomeValue (outcomeBy o) ⌝ }
 {
     match o {

@@ -9,10 +9,12 @@ use lib.ListN.{getD, set}
 use borrow.Author.Tests.{le-leb, lt-ltb, ne-eqb}
 use Rattle.recording.specs.Tests.{_and_, _or_, pick}
 use Rattle.recording.specs.Weeks.{weekStart, touches}
-use Rattle.rules.specs.Reading.{weeklyKind, asRead}
+use Rattle.recording.specs.Operations.{totalAtMost}
+use Rattle.rules.specs.Reading.{weeklyKind, asRead, isWeekly}
 use Rattle.rules.specs.declared.Kind.{Kind}
-use Rattle.rules.specs.ReadingRules.{weeklyLength, formedDaily, formedWeekly, formed}
-use Rattle.reading.specs.Items.{entryBy, endBefore, endAt, restBy, paid}
+use Rattle.rules.specs.ReadingRules.{weeklyLength, formedDaily, formedWeekly, formed, fullPortion, shortened}
+use Rattle.fixed.proofs.NetLaws.{net-most, net-says}
+use Rattle.reading.specs.Items.{entryBy, endBefore, endAt, Sane, restBy, paid}
 use Rattle.reading.specs.declared.LongRest.{LongRest}
 use Rattle.reading.specs.declared.Item.{Item}
 
@@ -44,3 +46,10 @@ kind-is x e q = sym (ap (λ (r : LongRest). r .kind) e) ∙ q
 pub paid-suc : (loads : List ℕ) (c d : ℕ) → (c ≡ 0 → ⊥) → paid loads c d ≡ set loads (c - 1) (getD loads (c - 1) 0 + d)
 paid-suc loads zero d h = absurd (h refl)
 paid-suc loads (suc c) d h = let e : c ≡ suc c - 1 = omega arith in ap (λ (n : ℕ). set loads n (getD loads n 0 + d)) e
+
+-- rule 9 by the number of an item
+pub item-net : (x : Item) → Sane x → x .net ≤ fullPortion + totalAtMost + 1
+item-net x h = omega (arith, h .net, net-most (x .before) (x .start) (x .end), h .end)
+
+pub item-shortened : (x : Item) → Sane x → isWeekly (asRead (entryBy x)) ≡ false → ltb (x .end - x .start) (x .net + x .load) ≡ shortened (entryBy x)
+item-shortened x h d = ap (λ (n : ℕ). ltb (x .end - x .start) (n + x .load)) (h .net) ∙ sym (net-says (entryBy x) (h .ordered) d)

@@ -32,12 +32,14 @@ use Rattle.rules.specs.Operations.{readingTested}
 use Rattle.rules.specs.Verdict.{lawful}
 use Rattle.rules.proofs.RestWeekLaws.{insideRest, reading-by-rests}
 use Rattle.fixed.specs.Account.{smaller, accountFrom, opening}
+use Rattle.fixed.specs.Nets.{regularNet, netsFrom}
 use Rattle.fixed.specs.Walk.{Surveyed}
 use Rattle.fixed.specs.declared.Survey.{Survey}
 use Rattle.fixed.specs.declared.Account.{Account}
 use Rattle.fixed.proofs.AccountRight.{account-right}
+use Rattle.fixed.proofs.NetLaws.{nets-length, nets-at, nets-written}
 use Rattle.reading.specs.declared.Tally.{Tally}
-use Rattle.reading.specs.Items.{spanAt, spansFrom, spansIn, Laid, Zeros, testFrom, freshTally, Through, rule11With, restWeeks, zeros, laterBy}
+use Rattle.reading.specs.Items.{endBefore, spanAt, spansFrom, spansIn, Laid, Zeros, testFrom, freshTally, Through, rule11With, restWeeks, zeros, laterBy}
 use Rattle.reading.proofs.PairLaws.{rule11-with}
 
 -- ---- rules 8 to 10, then 11
@@ -103,10 +105,13 @@ zeros-at n i = at (less-or-not i n)
     at (inr h) = List·getD-eq-default (replicate n 0) 0 {n = i} (rw length-replicate h)
 
 -- ---- the rests that one walk writes over zeros
+first-at : (vs : List ℕ) (i : ℕ) → length vs ≤ longRestsAtMost → i < length vs → getD (sets zeros 0 vs) i 0 ≡ getD vs i 0
+first-at vs i h l =
+    let k : 0 + length vs ≤ length zeros = rw length-replicate (omega arith) in
+    ap (λ (x : List ℕ). getD x i 0) (sets-eq vs zeros 0 k) ∙ List·getD-append vs _ 0 i l
+
 front-at : (f : Span → ℕ) (rs : List Span) (i : ℕ) → length rs ≤ longRestsAtMost → i < length rs → getD (sets zeros 0 (map f rs)) i 0 ≡ getD (map f rs) i 0
-front-at f rs i h l =
-    let k : 0 + length (map f rs) ≤ length zeros = rw (length-map, length-replicate) (omega arith) in
-    ap (λ (x : List ℕ). getD x i 0) (sets-eq (map f rs) zeros 0 k) ∙ List·getD-append (map f rs) _ 0 i (rw length-map l)
+front-at f rs i h l = first-at (map f rs) i (rw length-map h) (rw length-map l)
 
 pub map-at : (f : Span → ℕ) (rs : List Span) (i : ℕ) (d : Span) → i < length rs → getD (map f rs) i 0 ≡ f (getD rs i d)
 map-at f [] i d h = absurd (omega arith)
@@ -143,7 +148,8 @@ pub if-zero : (n x : ℕ) → n ≡ 0 → ifNone n x ≡ x
 if-zero zero x e = refl
 if-zero (suc n) x e = absurd (omega arith)
 
-module _ (ws reading : List ℕ) {m : Measure} (q : measured ws ≡ answered m) {r : Survey} {starts ends : List ℕ} (v : Surveyed ws (m .total) zeros zeros r starts ends) where
+module _ (ws reading : List ℕ) {m : Measure} (q : measured ws ≡ answered m) {r : Survey} {starts ends nets : List ℕ}
+    (v : Surveyed ws (m .total) zeros zeros zeros r starts ends nets) where
   abbrev ms : List ℕ
   ms = minutesOf ws
 
@@ -177,11 +183,26 @@ module _ (ws reading : List ℕ) {m : Measure} (q : measured ws ≡ answered m) 
   ends-are : ends ≡ sets zeros 0 (map (λ (x : Span). x .end) (longRests (minutesOf ws)))
   ends-are = v .ended ∙ scan-written (λ x. x .end) (cutAt (m .total) ws) zeros ∙ ap (λ (l : List ℕ). sets zeros 0 (map (λ (x : Span). x .end) (longRests l))) cut-whole
 
+  nets-are : nets ≡ sets zeros 0 (netsFrom 0 (longRests (minutesOf ws)))
+  nets-are = nets-written ws (m .total) v ∙ ap (λ (l : List ℕ). sets zeros 0 (netsFrom 0 (longRests l))) whole
+
   start-at : (i : ℕ) → i < length (longRests (minutesOf ws)) → getD starts i 0 ≡ getD (longRests (minutesOf ws)) i nowhere .start
   start-at i h = ap (λ (x : List ℕ). getD x i 0) starts-are ∙ front-at (λ x. x .start) (longRests (minutesOf ws)) i few h ∙ map-at (λ x. x .start) (longRests (minutesOf ws)) i nowhere h
 
   end-at : (i : ℕ) → i < length (longRests (minutesOf ws)) → getD ends i 0 ≡ getD (longRests (minutesOf ws)) i nowhere .end
   end-at i h = ap (λ (x : List ℕ). getD x i 0) ends-are ∙ front-at (λ x. x .end) (longRests (minutesOf ws)) i few h ∙ map-at (λ x. x .end) (longRests (minutesOf ws)) i nowhere h
+
+  end-before-at : (i : ℕ) → i < length (longRests (minutesOf ws)) → getD (0 ∷ map (λ (x : Span). x .end) (longRests (minutesOf ws))) i 0 ≡ endBefore ends i
+  end-before-at zero h = refl
+  end-before-at (suc i) h = sym (end-at i (omega arith) ∙ sym (map-at (λ x. x .end) (longRests (minutesOf ws)) i nowhere (omega arith)))
+
+  net-at : (i : ℕ) → i < length (longRests (minutesOf ws)) → getD nets i 0 ≡ regularNet (endBefore ends i) (getD starts i 0) (getD ends i 0)
+  net-at i h =
+      let rs = longRests (minutesOf ws) in
+      let a : getD starts i 0 ≡ getD (map (λ (x : Span). x .start) rs) i 0 = start-at i h ∙ sym (map-at (λ x. x .start) rs i nowhere h) in
+      let b : getD ends i 0 ≡ getD (map (λ (x : Span). x .end) rs) i 0 = end-at i h ∙ sym (map-at (λ x. x .end) rs i nowhere h) in
+      ap (λ (x : List ℕ). getD x i 0) nets-are ∙ first-at (netsFrom 0 rs) i (rw nets-length few) (rw nets-length h) ∙ nets-at 0 rs i h
+      ∙ λ t. regularNet (end-before-at i h t) (sym a t) (sym b t)
 
   pub spans-rests : spansIn starts ends (m .count) ≡ longRests (minutesOf ws)
   spans-rests =
@@ -190,14 +211,15 @@ module _ (ws reading : List ℕ) {m : Measure} (q : measured ws ≡ answered m) 
       (λ j h. let e : 0 + j ≡ j = omega arith in ap (λ (n : ℕ). getD starts n 0) e ∙ start-at j h)
       (λ j h. let e : 0 + j ≡ j = omega arith in ap (λ (n : ℕ). getD ends n 0) e ∙ end-at j h)
 
-  sized : (xs : List ℕ) (f : Span → ℕ) → xs ≡ sets zeros 0 (map f (longRests (minutesOf ws))) → length xs ≡ longRestsAtMost
-  sized xs f e = ap length e ∙ length-sets zeros 0 (map f (longRests (minutesOf ws))) ∙ length-replicate {A = ℕ} longRestsAtMost 0
+  sized : (xs vs : List ℕ) → xs ≡ sets zeros 0 vs → length xs ≡ longRestsAtMost
+  sized xs vs e = ap length e ∙ length-sets zeros 0 vs ∙ length-replicate {A = ℕ} longRestsAtMost 0
 
-  pub laid : length reading ≡ entryBytes * m .count → Laid starts ends reading zeros (m .count)
+  pub laid : length reading ≡ entryBytes * m .count → Laid starts ends nets reading zeros (m .count)
   laid e = record {
     few = omega (arith, few, count-is);
-    starts-in = omega (arith, few, count-is, sized starts (λ x. x .start) starts-are);
-    ends-in = omega (arith, few, count-is, sized ends (λ x. x .end) ends-are);
+    starts-in = omega (arith, few, count-is, sized starts (map (λ (x : Span). x .start) (longRests (minutesOf ws))) starts-are);
+    ends-in = omega (arith, few, count-is, sized ends (map (λ (x : Span). x .end) (longRests (minutesOf ws))) ends-are);
+    nets-in = omega (arith, few, count-is, sized nets (netsFrom 0 (longRests (minutesOf ws))) nets-are);
     loads-in = rw length-replicate (omega (arith, few, count-is));
     reading-in = e;
     ordered = λ i h.
@@ -206,6 +228,7 @@ module _ (ws reading : List ℕ) {m : Measure} (q : measured ws ≡ answered m) 
     limited = λ i h.
         let l : i < length (longRests (minutesOf ws)) = omega (arith, count-is) in
         omega (arith, end-at i l, in-order (rests-ordered (minutesOf ws)) i l .1, judged-within (minutesOf ws), within);
+    numbered = λ i h. net-at i (omega (arith, count-is));
   }
 
   rule-is : r .account .rule ≡ fixedTest (minutesOf ws)

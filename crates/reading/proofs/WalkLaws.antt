@@ -64,9 +64,9 @@ module _ (starts ends reading : List ℕ) (k : ℕ) where
   byte-at i j = getD-drop (entryBytes * i) reading j 0
 
   -- the item is that entry, where its load is the compensation
-  pub item-entry : (i : ℕ) (earlier : List Entry) (loads : List ℕ) → getD loads i 0 ≡ compensationOf (suc i) earlier
-      → entryBy (itemAt starts ends reading loads i) ≡ thisEntry i earlier
-  item-entry i earlier loads e =
+  pub item-entry : (i : ℕ) (earlier : List Entry) (nets loads : List ℕ) → getD loads i 0 ≡ compensationOf (suc i) earlier
+      → entryBy (itemAt starts ends nets reading loads i) ≡ thisEntry i earlier
+  item-entry i earlier nets loads e =
       let z : 3 * i ≡ 3 * i + 0 = omega arith in
       λ t. record {
         number = add-one i t;
@@ -79,9 +79,9 @@ module _ (starts ends reading : List ℕ) (k : ℕ) where
       }
 
   -- whatever its load, it has the same form
-  pub item-formed : (i : ℕ) (earlier : List Entry) (loads : List ℕ) → formed k (entryBy (itemAt starts ends reading loads i)) ≡ formed k (thisEntry i earlier)
+  pub item-formed : (i : ℕ) (earlier : List Entry) (nets loads : List ℕ) → formed k (entryBy (itemAt starts ends nets reading loads i)) ≡ formed k (thisEntry i earlier)
   unfolding formed formedDaily formedWeekly
-  item-formed i earlier loads =
+  item-formed i earlier nets loads =
       let z : 3 * i ≡ 3 * i + 0 = omega arith in
       let k0 = ap (λ (n : ℕ). getD reading n 0) z ∙ sym (byte-at i 0) in
       λ t. formed k (record {
@@ -103,19 +103,19 @@ module _ (starts ends reading : List ℕ) (k : ℕ) where
   unfolding rule6
   form-start = record { earlier = []; same = ap (allOf (formed k)) left-all }
 
-  pub form-on : {i : ℕ} (f : Forming i) (loads : List ℕ) → i < k → formed k (entryBy (itemAt starts ends reading loads i)) ≡ true → Forming (i + 1)
+  pub form-on : {i : ℕ} (f : Forming i) (nets loads : List ℕ) → i < k → formed k (entryBy (itemAt starts ends nets reading loads i)) ≡ true → Forming (i + 1)
   unfolding allOf _and_
-  form-on {i} f loads h t =
+  form-on {i} f nets loads h t =
       record {
         earlier = thisEntry i (f .earlier) ∷ f .earlier;
-        same = f .same ∙ ap (allOf (formed k)) (left-next i (f .earlier) h) ∙ rw (sym (item-formed i (f .earlier) loads) ∙ t) refl;
+        same = f .same ∙ ap (allOf (formed k)) (left-next i (f .earlier) h) ∙ rw (sym (item-formed i (f .earlier) nets loads) ∙ t) refl;
       }
 
-  pub form-broken : {i : ℕ} (f : Forming i) (loads : List ℕ) → i < k → formed k (entryBy (itemAt starts ends reading loads i)) ≡ false
+  pub form-broken : {i : ℕ} (f : Forming i) (nets loads : List ℕ) → i < k → formed k (entryBy (itemAt starts ends nets reading loads i)) ≡ false
       → false ≡ rule6 k (entries (spansIn starts ends k) reading)
   unfolding allOf _and_
-  form-broken {i} f loads h t =
-      sym (f .same ∙ ap (allOf (formed k)) (left-next i (f .earlier) h) ∙ rw (sym (item-formed i (f .earlier) loads) ∙ t) refl)
+  form-broken {i} f nets loads h t =
+      sym (f .same ∙ ap (allOf (formed k)) (left-next i (f .earlier) h) ∙ rw (sym (item-formed i (f .earlier) nets loads) ∙ t) refl)
 
   pub form-done : {i : ℕ} → Forming i → k ≤ i → true ≡ rule6 k (entries (spansIn starts ends k) reading)
   unfolding allOf
@@ -126,14 +126,15 @@ end-before-most : (ends : List ℕ) (k : ℕ) → ((i : ℕ) → i < k → getD 
 end-before-most ends k f zero h = omega arith
 end-before-most ends k f (suc i) h = f i (omega arith)
 
-pub sane-item : (starts ends reading loads : List ℕ) (k i : ℕ) → Laid starts ends reading loads k → ((j : ℕ) → getD reading j 0 < 256) → i < k → getD loads i 0 ≤ loadAtMost
-    → Sane (itemAt starts ends reading loads i)
-sane-item starts ends reading loads k i l b h g = record {
+pub sane-item : (starts ends nets reading loads : List ℕ) (k i : ℕ) → Laid starts ends nets reading loads k → ((j : ℕ) → getD reading j 0 < 256) → i < k → getD loads i 0 ≤ loadAtMost
+    → Sane (itemAt starts ends nets reading loads i)
+sane-item starts ends nets reading loads k i l b h g = record {
   before = end-before-most ends k (l .limited) i h;
   ordered = l .ordered i h;
   end = l .limited i h;
   week = omega (arith, b (3 * i + 1));
   load = g;
+  net = l .numbered i h;
 }
 
 -- ---- bounds of a tally
@@ -158,7 +159,7 @@ unfolding longEnough
 owes-here e t q = rw q (owes-little e t)
 
 -- ---- rules 7 to 10 and the counts: what the walk keeps at index i
-module _ (starts ends reading : List ℕ) (k s : ℕ) where
+module _ (starts ends nets reading : List ℕ) (k s : ℕ) where
   abbrev rests : List Span
   rests = spansIn starts ends k
 
@@ -167,7 +168,7 @@ module _ (starts ends reading : List ℕ) (k s : ℕ) where
 
   pub record Walking (i : ℕ) (t : Tally) (loads weekly regular : List ℕ) : Type 0 where
     pub earlier : List Entry
-    pub laid : Laid starts ends reading loads k
+    pub laid : Laid starts ends nets reading loads k
     pub owed : (j : ℕ) → i ≤ j → j < k → getD loads j 0 ≡ compensationOf (suc j) earlier
     pub below : Below (regularMinutes * i) loads
     pub seven : rule7 (entries (spansIn starts ends k) reading) ≡ allOf longEnough (left starts ends reading k i earlier)
@@ -183,7 +184,7 @@ module _ (starts ends reading : List ℕ) (k s : ℕ) where
     pub weekly-size : length weekly ≡ 256
     pub regular-size : length regular ≡ 256
 
-  pub walk-start : (loads weekly regular : List ℕ) → Laid starts ends reading loads k → Zeros loads → Zeros weekly → Zeros regular → length weekly ≡ 256 → length regular ≡ 256
+  pub walk-start : (loads weekly regular : List ℕ) → Laid starts ends nets reading loads k → Zeros loads → Zeros weekly → Zeros regular → length weekly ≡ 256 → length regular ≡ 256
       → Walking 0 freshTally loads weekly regular
   unfolding rule7 compensationOf
   walk-start loads weekly regular l z zw zr nw nr = record {
@@ -208,20 +209,20 @@ module _ (starts ends reading : List ℕ) (k s : ℕ) where
     this = thisEntry starts ends reading k i (w .earlier)
 
     -- the item is the entry
-    pub here-item : entryBy (itemAt starts ends reading loads i) ≡ thisEntry starts ends reading k i (w .earlier)
-    here-item = item-entry starts ends reading k i (w .earlier) loads (w .owed i (le-refl _) h)
+    pub here-item : entryBy (itemAt starts ends nets reading loads i) ≡ thisEntry starts ends reading k i (w .earlier)
+    here-item = item-entry starts ends reading k i (w .earlier) nets loads (w .owed i (le-refl _) h)
 
-    pub item-sane : ((j : ℕ) → getD reading j 0 < 256) → Sane (itemAt starts ends reading loads i)
-    item-sane b = sane-item starts ends reading loads k i (w .laid) b h (omega (arith, w .below i, w .laid .few))
+    pub item-sane : ((j : ℕ) → getD reading j 0 < 256) → Sane (itemAt starts ends nets reading loads i)
+    item-sane b = sane-item starts ends nets reading loads k i (w .laid) b h (omega (arith, w .below i, w .laid .few))
 
     next : left starts ends reading k i (w .earlier) ≡ this ∷ left starts ends reading k (i + 1) (this ∷ w .earlier)
     next = left-next starts ends reading k i (w .earlier) h
 
-    enough-here : (b : Bool) → b ≡ enoughBy (restBy (itemAt starts ends reading loads i)) (getD loads i 0) → b ≡ longEnough this
+    enough-here : (b : Bool) → b ≡ enoughBy (restBy (itemAt starts ends nets reading loads i)) (getD loads i 0) → b ≡ longEnough this
     unfolding longEnough
     enough-here b e = e ∙ ap (λ (x : Entry). leb (leastNet (asRead x) + x .compensation) (minutes x)) here-item
 
-    pub too-short : {r : LongRest} {b : Bool} → r ≡ restBy (itemAt starts ends reading loads i) → b ≡ enoughBy r (getD loads i 0) → b ≡ false
+    pub too-short : {r : LongRest} {b : Bool} → r ≡ restBy (itemAt starts ends nets reading loads i) → b ≡ enoughBy r (getD loads i 0) → b ≡ false
         → rule7 (entries (spansIn starts ends k) reading) ≡ false
     unfolding allOf _and_
     too-short {r} {b} q e z =
@@ -248,17 +249,17 @@ module _ (starts ends reading : List ℕ) (k s : ℕ) where
         )
 
     pub walk-on : {r : LongRest} {b : Bool} {end : ℕ} {t′ : Tally} {loads′ weekly′ regular′ : List ℕ} {d : ℕ}
-        → r ≡ restBy (itemAt starts ends reading loads i) → b ≡ enoughBy r (getD loads i 0) → b ≡ true
-        → end ≡ endAt ends k (itemAt starts ends reading loads i .carrier)
-        → t′ ≡ tallyBy s end t (entryBy (itemAt starts ends reading loads i))
-        → weekly′ ≡ bumped (isWeekly (r .kind)) weekly (itemAt starts ends reading loads i .week)
-        → regular′ ≡ bumped (isRegular (r .kind)) regular (itemAt starts ends reading loads i .week)
+        → r ≡ restBy (itemAt starts ends nets reading loads i) → b ≡ enoughBy r (getD loads i 0) → b ≡ true
+        → end ≡ endAt ends k (itemAt starts ends nets reading loads i .carrier)
+        → t′ ≡ tallyBy s end t (entryBy (itemAt starts ends nets reading loads i))
+        → weekly′ ≡ bumped (isWeekly (r .kind)) weekly (itemAt starts ends nets reading loads i .week)
+        → regular′ ≡ bumped (isRegular (r .kind)) regular (itemAt starts ends nets reading loads i .week)
         → d ≡ reductionOf (r .kind)
-        → loads′ ≡ paid loads (itemAt starts ends reading loads i .carrier) d
+        → loads′ ≡ paid loads (itemAt starts ends nets reading loads i .carrier) d
         → Walking (i + 1) t′ loads′ weekly′ regular′
     unfolding allOf _and_ compensationOf
     walk-on {r} {b} {end} {t′} {loads′} {weekly′} {regular′} {d} qr qb eb qe qt qw qg qd ql =
-        let x = itemAt starts ends reading loads i in
+        let x = itemAt starts ends nets reading loads i in
         let kind : r .kind ≡ asRead this = ap (λ (y : LongRest). y .kind) qr ∙ ap asRead here-item in
         let wk : x .week ≡ this .week = ap (λ (y : Entry). y .week) here-item in
         let carried : x .carrier ≡ this .compensatedBy = ap (λ (y : Entry). y .compensatedBy) here-item in
@@ -272,10 +273,12 @@ module _ (starts ends reading : List ℕ) (k s : ℕ) where
             few = w .laid .few;
             starts-in = w .laid .starts-in;
             ends-in = w .laid .ends-in;
+            nets-in = w .laid .nets-in;
             loads-in = omega (arith, w .laid .loads-in);
             reading-in = w .laid .reading-in;
             ordered = w .laid .ordered;
             limited = w .laid .limited;
+            numbered = w .laid .numbered;
           };
           owed = λ j g l.
               ap (λ (y : List ℕ). getD y j 0) ql ∙ paid-at loads (x .carrier) d j (omega (arith, w .laid .loads-in))
@@ -297,7 +300,7 @@ module _ (starts ends reading : List ℕ) (k s : ℕ) where
           regular-size = ap length qg ∙ bumped-length (isRegular (r .kind)) regular (x .week) ∙ w .regular-size;
         }
 
-    pub pay-room : {r : LongRest} {b : Bool} {d : ℕ} → r ≡ restBy (itemAt starts ends reading loads i) → b ≡ enoughBy r (getD loads i 0) → b ≡ true
+    pub pay-room : {r : LongRest} {b : Bool} {d : ℕ} → r ≡ restBy (itemAt starts ends nets reading loads i) → b ≡ enoughBy r (getD loads i 0) → b ≡ true
         → d ≡ reductionOf (r .kind) → (d ≤ loadAtMost) × Below loadAtMost loads
     pay-room {r} {b} qr qb eb qd =
         let kind : r .kind ≡ asRead this = ap (λ (y : LongRest). y .kind) qr ∙ ap asRead here-item in

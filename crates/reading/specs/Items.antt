@@ -18,6 +18,7 @@ use Rattle.rules.specs.declared.Kind.{Kind}
 use Rattle.rules.specs.declared.Kind.the-variants.{Daily, Weekly}
 use Rattle.rules.specs.declared.Standing.the-variants.{Regular, Reduced}
 use Rattle.fixed.specs.Account.{smaller}
+use Rattle.fixed.specs.Nets.{regularNet}
 use Rattle.reading.specs.declared.Item.{Item}
 use Rattle.reading.specs.declared.LongRest.{LongRest}
 use Rattle.reading.specs.declared.Tally.{Tally}
@@ -41,20 +42,21 @@ abbrev pub endBefore : List ℕ → ℕ → ℕ
 endBefore ends zero = 0
 endBefore ends (suc i) = getD ends i 0
 
--- the item of index i, from the rests' starts and ends, the reading and the loads
-abbrev pub itemAt : List ℕ → List ℕ → List ℕ → List ℕ → ℕ → Item
-itemAt starts ends reading loads i = record {
+-- the item of index i, from the rests' starts, ends and numbers by rule 9, the reading and the loads
+abbrev pub itemAt : List ℕ → List ℕ → List ℕ → List ℕ → List ℕ → ℕ → Item
+itemAt starts ends nets reading loads i = record {
   number = i + 1;
   before = endBefore ends i;
   start = getD starts i 0;
   end = getD ends i 0;
+  net = getD nets i 0;
   kind = getD reading (3 * i) 0;
   week = getD reading (3 * i + 1) 0;
   carrier = getD reading (3 * i + 2) 0;
   load = getD loads i 0;
 }
 
--- an item whose numbers are in bounds
+-- an item whose numbers are in bounds, with its number by rule 9
 abbrev pub loadAtMost : ℕ
 loadAtMost = 1000000
 
@@ -64,6 +66,7 @@ pub record Sane (x : Item) : Type 0 where
   pub end : x .end ≤ totalAtMost
   pub week : x .week ≤ 255
   pub load : x .load ≤ loadAtMost
+  pub net : x .net ≡ regularNet (x .before) (x .start) (x .end)
 
 -- ---- an item as a long rest, and the rules of one
 abbrev pub restBy : Item → LongRest
@@ -125,15 +128,17 @@ spansFrom starts ends i (suc n) = spanAt starts ends i ∷ spansFrom starts ends
 abbrev pub spansIn : List ℕ → List ℕ → ℕ → List Span
 spansIn starts ends k = spansFrom starts ends 0 k
 
--- they stand in the slices, in order, within the limit
-pub record Laid (starts ends reading loads : List ℕ) (k : ℕ) : Type 0 where
+-- they stand in the slices, in order, within the limit, with their numbers by rule 9
+pub record Laid (starts ends nets reading loads : List ℕ) (k : ℕ) : Type 0 where
   pub few : k ≤ longRestsAtMost
   pub starts-in : k ≤ length starts
   pub ends-in : k ≤ length ends
+  pub nets-in : k ≤ length nets
   pub loads-in : k ≤ length loads
   pub reading-in : length reading ≡ entryBytes * k
   pub ordered : (i : ℕ) → i < k → getD starts i 0 ≤ getD ends i 0
   pub limited : (i : ℕ) → i < k → getD ends i 0 ≤ totalAtMost
+  pub numbered : (i : ℕ) → i < k → getD nets i 0 ≡ regularNet (endBefore ends i) (getD starts i 0) (getD ends i 0)
 
 -- all zeros
 abbrev pub Zeros : List ℕ → Type 0

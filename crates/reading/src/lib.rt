@@ -18,13 +18,14 @@ ghost use Rattle.rules.specs.Operations.{readingTested};
 ghost use Rattle.fixed.specs.Walk.{tested};
 ghost use Rattle.reading.specs.Items.{entryBy, endBefore, itemAt, Sane, loadAtMost, Below, restBy, enoughBy, endAt, timeBy, gapBy, shortAfter, tallyBy, paid, bumped, spansIn, Laid, Zeros, Walked, enoughWith, rule11With, restWeeks, spanOf, zeros, laterBy};
 
-// A long rest with its entry: its number from 1, the end of the long rest before it or 0, its start and end, its three bytes, and
-// the compensation that it gives, the document's load.
+// A long rest with its entry: its number from 1, the end of the long rest before it or 0, its start and end, the least net length
+// at which it is no shortened daily rest, its three bytes, and the compensation that it gives, the document's load.
 pub struct Item {
     pub number: u32,
     pub before: u32,
     pub start: u32,
     pub end: u32,
+    pub net: u32,
     pub kind: u32,
     pub week: u32,
     pub carrier: u32,
@@ -66,10 +67,6 @@ pub const WEEKLY_NET: u32 = 1440;
 
 pub const WEEKS_TO_COMPENSATE: u32 = 4;
 
-pub const DAILY_WINDOW: u32 = 1440;
-
-pub const FULL_PORTION: u32 = 660;
-
 pub const SHORTENED_AT_MOST: u32 = 3;
 
 pub const WEEKLY_GAP: u32 = 8640;
@@ -103,9 +100,16 @@ pub fn end_before(ends: &[u32], i: usize) -> u32
 }
 
 // The item of index i.
-fn item_at(starts: &[u32], ends: &[u32], reading: &[u8], loads: &[u32], i: usize) -> Item
-    requires { ⌜ (i < 1000) × (i < length (now starts)) × (i < length (now ends)) × (3 * i + 2 < length (now reading)) × (i < length (now loads)) ⌝ }
-    ensures { λ r. ⌜ r ≡ itemAt (now (starts .entry)) (now (ends .entry)) (now (reading .entry)) (now (loads .entry)) i ⌝ }
+fn item_at(
+    starts: &[u32],
+    ends: &[u32],
+    nets: &[u32],
+    reading: &[u8],
+    loads: &[u32],
+    i: usize,
+) -> Item
+    requires { ⌜ (i < 1000) × (i < length (now starts)) × (i < length (now ends)) × (i < length (now nets)) × (3 * i + 2 < length (now reading)) × (i < length (now loads)) ⌝ }
+    ensures { λ r. ⌜ r ≡ itemAt (now (starts .entry)) (now (ends .entry)) (now (nets .entry)) (now (reading .entry)) (now (loads .entry)) i ⌝ }
 {
     let at = entries::ENTRY_BYTES * i;
     let week = at + 1;
@@ -115,6 +119,7 @@ fn item_at(starts: &[u32], ends: &[u32], reading: &[u8], loads: &[u32], i: usize
         before: end_before(ends, i),
         start: starts[i],
         end: ends[i],
+        net: nets[i],
         kind: wide(reading[at]),
         week: wide(reading[week]),
         carrier: wide(reading[carrier]),
@@ -237,11 +242,7 @@ fn shortened_item(x: Item, r: LongRest) -> bool
 {
     let kind = r.kind;
     match kind {
-        Kind::Daily => {
-            let window = x.before + DAILY_WINDOW + x.load;
-            let full = x.start + FULL_PORTION + x.load;
-            fixed::lesser(x.end, window) < full
-        }
+        Kind::Daily => x.end - x.start < x.net + x.load,
         Kind::Weekly(_) => false,
     }
 }
@@ -384,13 +385,20 @@ fn is_regular(r: LongRest) -> bool
 }
 
 // Rule 6 of all long rests.
-fn form_test(starts: &[u32], ends: &[u32], reading: &[u8], loads: &[u32], k: usize) -> bool
-    requires { ⌜ Laid (now starts) (now ends) (now reading) (now loads) k × Zeros (now loads) ⌝ }
+fn form_test(
+    starts: &[u32],
+    ends: &[u32],
+    nets: &[u32],
+    reading: &[u8],
+    loads: &[u32],
+    k: usize,
+) -> bool
+    requires { ⌜ Laid (now starts) (now ends) (now nets) (now reading) (now loads) k × Zeros (now loads) ⌝ }
     ensures { λ r. ⌜ r ≡ rule6 k (entries (spansIn (now (starts .entry)) (now (ends .entry)) k) (now (reading .entry))) ⌝ }
 {
     let mut i = 0;
     while i < k {
-        let x = item_at(starts, ends, reading, loads, i);
+        let x = item_at(starts, ends, nets, reading, loads, i);
         i += 1;
         if !formed_item(k as u32, x) {
             return false;
@@ -404,6 +412,7 @@ fn form_test(starts: &[u32], ends: &[u32], reading: &[u8], loads: &[u32], k: usi
 fn rest_walk(
     starts: &[u32],
     ends: &[u32],
+    nets: &[u32],
     reading: &[u8],
     loads: &mut [u32],
     weekly: &mut [u32],
@@ -411,7 +420,7 @@ fn rest_walk(
     k: usize,
     s: u32,
 ) -> Walk
-    requires { ⌜ Laid (now starts) (now ends) (now reading) (now loads) k × Zeros (now loads) × Zeros (now weekly) × Zeros (now regular) × (length (now weekly) ≡ 256) × (length (now regular) ≡ 256) ⌝ }
+    requires { ⌜ Laid (now starts) (now ends) (now nets) (now reading) (now loads) k × Zeros (now loads) × Zeros (now weekly) × Zeros (now regular) × (length (now weekly) ≡ 256) × (length (now regular) ≡ 256) ⌝ }
     ensures { λ r. ⌜ Walked s (spansIn (now (starts .entry)) (now (ends .entry)) k) (entries (spansIn (now (starts .entry)) (now (ends .entry)) k) (now (reading .entry))) r (now (weekly .exit)) (now (regular .exit)) ⌝ }
 {
     let mut t = Tally {
@@ -421,7 +430,7 @@ fn rest_walk(
     };
     let mut i = 0;
     while i < k {
-        let x = item_at(starts, ends, reading, loads, i);
+        let x = item_at(starts, ends, nets, reading, loads, i);
         i += 1;
         let r = as_read(x);
         if !long_enough(r, x.load) {
@@ -548,13 +557,13 @@ fn gap_rule(q: u32, s: u32) -> u32
     10
 }
 
-// Rules 6 to 11 of a reading, where the k long rests stand in `starts` and `ends` and S is s: 0 or the smallest broken one.
-fn later_test(starts: &[u32], ends: &[u32], reading: &[u8], k: usize, s: u32) -> u32
-    requires { ⌜ Laid (now starts) (now ends) (now reading) zeros k × (s ≤ totalAtMost) ⌝ }
+// Rules 6 to 11 of a reading, where the k long rests stand in `starts`, `ends` and `nets` and S is s: 0 or the smallest broken one.
+fn later_test(starts: &[u32], ends: &[u32], nets: &[u32], reading: &[u8], k: usize, s: u32) -> u32
+    requires { ⌜ Laid (now starts) (now ends) (now nets) (now reading) zeros k × (s ≤ totalAtMost) ⌝ }
     ensures { λ r. ⌜ r ≡ laterBy (now (starts .entry)) (now (ends .entry)) (now (reading .entry)) k s ⌝ }
 {
     let mut loads = [0u32; recording::LONG_RESTS];
-    if !form_test(starts, ends, reading, &loads, k) {
+    if !form_test(starts, ends, nets, reading, &loads, k) {
         return FORM_BROKEN;
     }
     let mut weekly = [0u32; 256];
@@ -562,6 +571,7 @@ fn later_test(starts: &[u32], ends: &[u32], reading: &[u8], k: usize, s: u32) ->
     let Walk::AllThrough(t) = rest_walk(
         starts,
         ends,
+        nets,
         reading,
         &mut loads,
         &mut weekly,
@@ -597,11 +607,12 @@ pub fn reading_test(words: &[u32], reading: &[u8]) -> Tested
     }
     let mut starts = [0u32; recording::LONG_RESTS];
     let mut ends = [0u32; recording::LONG_RESTS];
-    let found = fixed::survey_of(words, total, &mut starts, &mut ends);
+    let mut nets = [0u32; recording::LONG_RESTS];
+    let found = fixed::survey_of(words, total, &mut starts, &mut ends, &mut nets);
     let account = found.account;
     let rule = account.rule;
     if rule != 0 {
         return Tested::Answer(rule);
     }
-    Tested::Answer(later_test(&starts, &ends, reading, count, judged))
+    Tested::Answer(later_test(&starts, &ends, &nets, reading, count, judged))
 }

@@ -56,6 +56,7 @@ fn show_net(net: u32) {
         before: 0,
         start: 60,
         end: 60 + net,
+        net: fixed::regular_net(0, 60, 60 + net),
         kind: 1,
         week: 0,
         carrier: 0,

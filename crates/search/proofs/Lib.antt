@@ -1,1 +1,7 @@
-pub mod Answers
+pub mod Leading
+pub mod Memory
+pub mod Slots
+pub mod Fronts
+pub mod Chain
+pub mod Sweeps
+pub mod Merging

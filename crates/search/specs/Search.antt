@@ -3,60 +3,61 @@
 use mathlib.Core.Path.{_≡_}
 use mathlib.Core.Bool.{Bool, true, false}
 use mathlib.Core.List.{List}
-use Prim.Native.Nat.{ℕ, _+_, _-_, _*_, _≤_, _<_}
-use lib.Dec.{ltb, eqb}
+use Prim.Native.Nat.{ℕ, _+_, _-_, _≤_, _<_}
 use lib.ListN.{length}
-use Rattle.recording.specs.Tests.{_and_}
 use Rattle.recording.specs.Rests.{longRestsAtMost}
 use Rattle.recording.specs.Operations.{totalAtMost}
 use Rattle.recording.specs.Weeks.{weekOf}
 use Rattle.completion.specs.declared.State.{State}
 use Rattle.completion.specs.Completable.{Course, at, count, Tries, Completable, Lies, Stands}
-use Rattle.completion.specs.Better.{Small, bestState}
-use Rattle.hopeless.specs.Table.{levelWords, debtsAtMost, entryAt, debtsOf, InUse, Known}
+use Rattle.completion.specs.Better.{Small}
+use Rattle.nogoods.specs.Table.{debtsAtMost, entryAt, debtsOf, InUse, Known}
 
--- r says whether P holds; what is owed is as it was; and S holds of the table
+-- r says whether P holds; what is owed is as it was; and S holds of the nogoods
 pub record Found (P : Type 0) (r : Bool) (owed owed′ : List ℕ) (S : Type 0) : Type 0 where
   pub yes : r ≡ true → P
   pub no : r ≡ false → P → ⊥
   pub same : owed′ ≡ owed
   pub sound : S
 
--- the same, where only a no says something
-pub record Asked (P : Type 0) (r : Bool) (owed owed′ : List ℕ) (S : Type 0) : Type 0 where
+-- the same, where a yes may rest on R
+pub record FoundIf (R P : Type 0) (r : Bool) (owed owed′ : List ℕ) (S : Type 0) : Type 0 where
+  pub yes : r ≡ true → R → P
   pub no : r ≡ false → P → ⊥
   pub same : owed′ ≡ owed
   pub sound : S
 
-abbrev pub courseOf : List ℕ → List ℕ → List ℕ → ℕ → Course
-courseOf starts ends promised s = record { starts = starts; ends = ends; promised = promised; judged = s }
+abbrev pub courseOf : List ℕ → List ℕ → List ℕ → List ℕ → ℕ → Course
+courseOf starts ends nets loads s = record { starts = starts; ends = ends; nets = nets; loads = loads; judged = s }
 
 module _ (c : Course) where
   -- what is asked of the rests after that of index j
   abbrev pub Later : ℕ → State → List ℕ → Type 0
   Later j = Completable c (count c - (j + 1)) (j + 1)
 
-  -- each entry in use has few enough debts, and each state that it beats is hopeless, where only rests before that of index j owe
-  pub record Sound (table : List ℕ) : Type 0 where
-    pub few : (j e : ℕ) → j < count c → InUse table j e → debtsOf table (entryAt j e) ≤ debtsAtMost
-    pub hopeless : (j : ℕ) (here : State) (owed : List ℕ) → j < count c → here .week ≡ weekOf (at (c .starts) j) → length owed ≡ count c
-        → ((x : ℕ) → j ≤ x → at owed x ≡ 0) → Known table j here owed → Tries c (Later j) j here owed → ⊥
+  -- each nogood in use has few enough debts, and no state that it beats can be completed, where only rests before that of index j owe
+  pub record Sound (nogoods : List ℕ) : Type 0 where
+    pub few : (j e : ℕ) → j < count c → InUse nogoods j e → debtsOf nogoods (entryAt j e) ≤ debtsAtMost
+    pub closed : (j : ℕ) (here : State) (owed : List ℕ) → j < count c → here .week ≡ weekOf (at (c .starts) j) → length owed ≡ count c
+        → ((x : ℕ) → j ≤ x → at owed x ≡ 0) → Known nogoods j here owed → Tries c (Later j) j here owed → ⊥
 
-  -- the long rests lie in order within the limits, and there is room for what is owed and for the table; the first n slots are in use, no more than
-  -- there are rests before that of index j
-  pub record Slots (j n : ℕ) (owed table : List ℕ) : Type 0 where
+  -- the long rests lie in order within the limits, and there is a slot for what each may owe
+  pub record Sized (owed : List ℕ) : Type 0 where
     pub lies : Lies c
-    pub promised-too : length (c .promised) ≡ count c
+    pub loads-too : length (c .loads) ≡ count c
     pub owed-too : length owed ≡ count c
     pub few : count c ≤ longRestsAtMost
     pub judged : c .judged ≤ totalAtMost
-    pub promised-low : (i : ℕ) → at (c .promised) i ≤ totalAtMost
-    pub room : levelWords * count c ≤ length table
+    pub loads-low : (i : ℕ) → at (c .loads) i ≤ totalAtMost
+
+  -- the first n slots are in use, no more than there are rests before that of index j
+  pub record Slots (j n : ℕ) (owed : List ℕ) : Type 0 where
+    pub sized : Sized owed
     pub below : n ≤ j
     pub unused : (x : ℕ) → n ≤ x → at owed x ≡ 0
 
-  -- the same, where nothing is owed
-  abbrev pub Lent : List ℕ → List ℕ → Type 0
+  -- nothing is owed
+  abbrev pub Lent : List ℕ → Type 0
   Lent = Slots 0 0
 
   -- a state before the rest of index j, or after the last rest
@@ -66,11 +67,3 @@ module _ (c : Course) where
     pub small : Small st
     pub ended : st .ended ≤ c .judged
     pub reached : 0 < j → weekOf (at (c .starts) (j - 1)) ≤ st .week
-
-  -- from each rest on, the best state before it can complete what is left
-  abbrev pub FromEach : List ℕ → Type 0
-  FromEach owed = (i : ℕ) → i < count c → Completable c (count c - i) i (bestState (at (c .starts) i)) owed
-
--- the rest before that of index i starts in the same week
-abbrev pub laterOfWeek : List ℕ → ℕ → Bool
-laterOfWeek starts i = ltb 0 i and eqb (weekOf (at starts (i - 1))) (weekOf (at starts i))

@@ -1,26 +1,25 @@
 -- Laws of the steps of the search: when a debt is due, weeks one by one, and what holds of all indices. Assumes nothing.
-use mathlib.Core.Path.{_≡_, refl, sym, ap, subst, _∙_}
+use mathlib.Core.Path.{_≡_, refl, sym, ap, subst}
 use mathlib.Core.Logic.{⊎-elim}
 use mathlib.Core.Bool.{Bool, true, false, false≢true}
 use mathlib.Core.List.{List}
-use Prim.Native.Nat.{ℕ, zero, suc, _+_, _-_, _/_, _≤_, _<_, min, zero-le}
+use Prim.Native.Nat.{ℕ, zero, suc, _+_, _-_, _*_, _/_, _≤_, _<_, min, zero-le}
 use native.Mathlib.Nat.{le-refl}
 use native.Mathlib.Omega.{arith}
-use lib.Dec.{ltb}
-use lib.ListN.{length, set}
-use lib.Seq.{getD-set-same, getD-set-other}
-use borrow.Author.Tests.{lt-ltb, le-ltb}
+use lib.Dec.{leb, ltb}
+use borrow.Author.Tests.{lt-leb, le-leb, ltb-true, ltb-false}
 use Rattle.recording.specs.Tests.{pick}
 use Rattle.recording.specs.Weeks.{weekOf}
 use Rattle.recording.proofs.TestLaws.{less-or-not}
-use Rattle.rules.specs.ReadingRules.{regularAtLeast}
-use Rattle.reading.specs.Items.{Zeros}
+use Rattle.rules.specs.Reading.{regularMinutes, standingOf, isRegular, reductionOf}
+use Rattle.rules.specs.ReadingRules.{regularAtLeast, weeksToCompensate}
+use Rattle.rules.specs.declared.Kind.the-variants.{Weekly}
 use Rattle.completion.specs.declared.State.{State}
 use Rattle.completion.specs.declared.Brought.the-variants.{Broken, To}
 use Rattle.completion.specs.States.{pairKept, nextWeek, advance, afterDaily}
-use Rattle.completion.specs.Completable.{at, debtUnit, dueOf, Overdue}
+use Rattle.completion.specs.Completable.{at, debtUnit, dueOf, debtOf, Overdue}
 use Rattle.completion.specs.Better.{Small}
-use Rattle.steps.specs.Steps.{Says, Fits, NoneFrom, Stored, nothing, stored, Settled}
+use Rattle.steps.specs.Steps.{Says, Fits, NoneFrom, standingFor, debtBy}
 
 pub no-more : (n : ℕ) → n ≤ regularAtLeast → n ≡ min regularAtLeast (n + 0)
 no-more n l = omega arith
@@ -130,121 +129,30 @@ passed-on {owed} {i} {load} {minutes} {d} n old = record {
   each = λ x a b. up-to (λ y. Fits (at owed y) load minutes → ⊥) d x b n (old .each x a);
 }
 
--- ---- debts moved to the front
--- the first r slots of l hold the debts of the first i slots of o
-pub record Settling (o l : List ℕ) (i r : ℕ) : Type 0 where
-  pub few : r ≤ i
-  pub rest : NoneFrom l r
-  pub from : ℕ → ℕ
-  pub from-below : (x : ℕ) → x < r → from x < i
-  pub same : (x : ℕ) → x < r → at l x ≡ at o (from x)
-  pub owes : (x : ℕ) → x < r → 0 < at l x
-  pub rises : (x y : ℕ) → x < y → y < r → from x < from y
-  pub to : ℕ → ℕ
-  pub to-below : (x : ℕ) → x < i → 0 < at o x → to x < r
-  pub back : (x : ℕ) → x < i → 0 < at o x → from (to x) ≡ x
-
-pub settle-start : (o l : List ℕ) → Zeros l → Settling o l 0 0
-settle-start o l z = record {
-  few = zero-le;
-  rest = λ x _. z x;
-  from = λ x. x;
-  from-below = λ x h. absurd (omega arith);
-  same = λ x h. absurd (omega arith);
-  owes = λ x h. absurd (omega arith);
-  rises = λ x y a b. absurd (omega arith);
-  to = λ x. x;
-  to-below = λ x h. absurd (omega arith);
-  back = λ x h. absurd (omega arith);
-}
-
--- a slot without a debt
-module _ {o l : List ℕ} {i r : ℕ} (before : Settling o l i r) (z : at o i ≡ 0) where
-  earlier : (x : ℕ) → x < i + 1 → 0 < at o x → x < i
-  earlier x h p = ⊎-elim (λ k. k) (λ k. absurd (let e : x ≡ i = omega arith in omega (arith, p, ap (at o) e, z))) (less-or-not x i)
-
-  settle-none : Settling o l (i + 1) r
-  settle-none = record {
-    few = omega (arith, before .few);
-    rest = before .rest;
-    from = before .from;
-    from-below = λ x h. omega (arith, before .from-below x h);
-    same = before .same;
-    owes = before .owes;
-    rises = before .rises;
-    to = before .to;
-    to-below = λ x h p. before .to-below x (earlier x h p) p;
-    back = λ x h p. before .back x (earlier x h p) p;
-  }
-
--- and one with a debt
-module _ {o l : List ℕ} {i r : ℕ} (before : Settling o l i r) (room : r < length l) (p : 0 < at o i) where
-  abbrev l′ : List ℕ
-  l′ = set l r (at o i)
-
-  abbrev from′ : ℕ → ℕ
-  from′ x = pick (ltb x r) (before .from x) i
-
-  abbrev to′ : ℕ → ℕ
-  to′ x = pick (ltb x i) (before .to x) r
-
-  from-old : (x : ℕ) → x < r → from′ x ≡ before .from x
-  from-old x h = ap (λ (b : Bool). pick b (before .from x) i) (lt-ltb x r h)
-
-  from-new : from′ r ≡ i
-  from-new = ap (λ (b : Bool). pick b (before .from r) i) (le-ltb r r (le-refl r))
-
-  to-old : (x : ℕ) → x < i → to′ x ≡ before .to x
-  to-old x h = ap (λ (b : Bool). pick b (before .to x) r) (lt-ltb x i h)
-
-  to-new : to′ i ≡ r
-  to-new = ap (λ (b : Bool). pick b (before .to i) r) (le-ltb i i (le-refl i))
-
-  new-slot : at l′ r ≡ at o i
-  new-slot = getD-set-same l r (at o i) 0 room
-
-  old-slot : (x : ℕ) → (x ≡ r → ⊥) → at l′ x ≡ at l x
-  old-slot x n = getD-set-other l r x (at o i) 0 n
-
-  settle-some : Settling o l′ (i + 1) (r + 1)
-  settle-some = record {
-    few = omega (arith, before .few);
-    rest = λ x h. old-slot x (λ e. omega (arith, h, e)) ∙ before .rest x (omega arith);
-    from = from′;
-    from-below = λ x h. up-to (λ y. from′ y < i + 1) r x h (omega (arith, from-new)) (λ k. omega (arith, from-old x k, before .from-below x k));
-    same = λ x h. up-to (λ y. at l′ y ≡ at o (from′ y)) r x h (new-slot ∙ ap (at o) (sym from-new))
-        (λ k. old-slot x (λ e. omega (arith, k, e)) ∙ before .same x k ∙ ap (at o) (sym (from-old x k)));
-    owes = λ x h. up-to (λ y. 0 < at l′ y) r x h (omega (arith, new-slot, p))
-        (λ k. omega (arith, old-slot x (λ e. omega (arith, k, e)), before .owes x k));
-    rises = λ x y a h. up-to (λ y. x < y → from′ x < from′ y) r y h
-        (λ b. omega (arith, from-new, from-old x b, before .from-below x b))
-        (λ k b. omega (arith, from-old x (omega (arith, b, k)), from-old y k, before .rises x y b k)) a;
-    to = to′;
-    to-below = λ x h q. up-to (λ y. 0 < at o y → to′ y < r + 1) i x h (λ _. omega (arith, to-new))
-        (λ k s. omega (arith, to-old x k, before .to-below x k s)) q;
-    back = λ x h q. up-to (λ y. 0 < at o y → from′ (to′ y) ≡ y) i x h (λ _. ap from′ to-new ∙ from-new)
-        (λ k s. ap from′ (to-old x k) ∙ from-old (before .to x) (before .to-below x k s) ∙ before .back x k s) q;
-  }
-
-pub settle-on : {o l l′ : List ℕ} {i r r′ : ℕ} → Settling o l i r → r < length l → Stored l l′ r (at o i) r′ → Settling o l′ (i + 1) r′
-settle-on {o} {l} {l′} {i} {r} {r′} before room (nothing z e q) =
-    subst (λ (x : List ℕ). Settling o x (i + 1) r′) (sym q) (subst (λ (x : ℕ). Settling o l (i + 1) x) (sym e) (settle-none before z))
-settle-on {o} {l} {l′} {i} {r} {r′} before room (stored p e q) =
-    subst (λ (x : List ℕ). Settling o x (i + 1) r′) (sym q) (subst (λ (x : ℕ). Settling o (set l r (at o i)) (i + 1) x) (sym e) (settle-some before room p))
-
-pub settle-end : {o l : List ℕ} {n i r : ℕ} → NoneFrom o n → i ≤ n → n ≤ i → Settling o l i r → Settled o l n r
-settle-end {o} {l} {n} {i} {r} none a b h = record {
-  few = omega (arith, h .few);
-  rest = h .rest;
-  from = h .from;
-  from-below = λ x k. omega (arith, h .from-below x k);
-  same = h .same;
-  owes = h .owes;
-  rises = h .rises;
-  to = h .to;
-  to-below = λ x p. h .to-below x (below x p) p;
-  back = λ x p. h .back x (below x p) p;
-}
+-- ---- the standing of a weekly rest
+pub standing-regular : (minutes load : ℕ) → isRegular (Weekly (standingFor minutes load)) ≡ leb (regularMinutes + load) minutes
+standing-regular minutes load = by (ltb minutes (regularMinutes + load)) refl
   where
-    below : (x : ℕ) → 0 < at o x → x < i
-    below x p = ⊎-elim (λ k. omega (arith, k, b)) (λ k. absurd (omega (arith, p, none x k))) (less-or-not x n)
+    by : (b : Bool) → ltb minutes (regularMinutes + load) ≡ b
+        → isRegular (Weekly (standingOf b (regularMinutes + load - minutes))) ≡ leb (regularMinutes + load) minutes
+    by true e = sym (lt-leb (regularMinutes + load) minutes (ltb-true minutes (regularMinutes + load) e))
+    by false e = sym (le-leb (regularMinutes + load) minutes (ltb-false minutes (regularMinutes + load) e))
+
+pub standing-debt : (minutes load w : ℕ) → debtBy (standingFor minutes load) w ≡ debtOf minutes load w
+unfolding debtOf
+standing-debt minutes load w = by (ltb minutes (regularMinutes + load)) refl
+  where
+    owed : ℕ
+    owed = (w + weeksToCompensate) * debtUnit + (regularMinutes + load - minutes)
+
+    by : (b : Bool) → ltb minutes (regularMinutes + load) ≡ b
+        → debtBy (standingOf b (regularMinutes + load - minutes)) w ≡ pick (leb (regularMinutes + load) minutes) 0 owed
+    by true e = rw (lt-leb (regularMinutes + load) minutes (ltb-true minutes (regularMinutes + load) e)) refl
+    by false e = rw (le-leb (regularMinutes + load) minutes (ltb-false minutes (regularMinutes + load) e)) refl
+
+pub standing-low : (minutes load : ℕ) → reductionOf (Weekly (standingFor minutes load)) ≤ regularMinutes + load
+standing-low minutes load = by (ltb minutes (regularMinutes + load))
+  where
+    by : (b : Bool) → reductionOf (Weekly (standingOf b (regularMinutes + load - minutes))) ≤ regularMinutes + load
+    by true = omega arith
+    by false = zero-le

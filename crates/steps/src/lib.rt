@@ -2,19 +2,23 @@
 use completion::Brought;
 use completion::Counts;
 use completion::State;
+use reading::LongRest;
+use rules::Kind;
+use rules::Standing;
 ghost use mathlib.Core.Path.{_≡_};
 ghost use Prim.Native.Nat.{_+_, _-_, _<_, _≤_, min};
 ghost use lib.ListN.{length};
 ghost use lib.Dec.{ltb};
 ghost use Rattle.recording.specs.Tests.{pick};
-ghost use Rattle.recording.specs.Operations.{totalAtMost};
 ghost use Rattle.recording.specs.Weeks.{week, weekOf, inside};
+ghost use Rattle.rules.specs.Reading.{isRegular, reductionOf};
 ghost use Rattle.rules.specs.ReadingRules.{shortenedAtMost, weeklyAtLeast, regularAtLeast};
-ghost use Rattle.reading.specs.Items.{loadAtMost, endBefore, spanAt, spansIn, restWeeks, Zeros};
+ghost use Rattle.rules.specs.declared.Kind.the-variants.{Daily, Weekly};
+ghost use Rattle.reading.specs.Items.{loadAtMost, spanAt, spansIn, restWeeks};
 ghost use Rattle.completion.specs.States.{freshCounts, countedMore, startState, pairKept, nextWeek, advance as advanced, afterDaily, afterWeekly};
-ghost use Rattle.completion.specs.Completable.{at, dueOf, debtOf, Overdue};
+ghost use Rattle.completion.specs.Completable.{at, dueOf, Overdue};
 ghost use Rattle.completion.specs.Better.{Small, bestState};
-ghost use Rattle.steps.specs.Steps.{Says, Ordered, Fits, Debtor, NoneFrom, Stored, Settled, briefOf};
+ghost use Rattle.steps.specs.Steps.{Says, Ordered, Fits, Debtor, NoneFrom, standingFor, debtBy};
 
 // A debt is a word: so many units of the week at whose start it is due, and the minutes. 0 is none.
 pub const DEBT_UNIT: u32 = 2048;
@@ -265,52 +269,64 @@ pub fn debtor(owed: &[u32], n: usize, i: usize, load: u32, minutes: u32) -> usiz
     n
 }
 
-// Stores a debt in slot r, if it is one; the next slot.
-fn keep_debt(left: &mut [u32], r: usize, debt: u32) -> usize
-    requires { ⌜ r < length (now left) ⌝ }
-    ensures { λ next. ⌜ Stored (now (left .entry)) (now (left .exit)) r debt next ⌝ }
+// Whether a daily rest of so many minutes, with a load, is shortened: `net` is the least net length at which it is not.
+pub fn is_short(minutes: u32, net: u32, load: u32) -> bool
+    requires { ⌜ (net ≤ loadAtMost) × (load ≤ loadAtMost) ⌝ }
+    ensures { λ r. ⌜ r ≡ ltb minutes (net + load) ⌝ }
 {
-    if debt == 0 {
-        return r;
+    minutes < net + load
+}
+
+// A long rest taken as daily.
+pub fn as_daily(start: u32, end: u32) -> LongRest
+    ensures { λ r. ⌜ r .kind ≡ Daily ⌝ }
+{
+    LongRest {
+        start: start,
+        end: end,
+        kind: Kind::Daily,
     }
-    left[r] = debt;
-    r + 1
 }
 
-// Copies the debts in the first n slots of `owed` to the front of `left`, in order; how many there are.
-pub fn settle(owed: &[u32], n: usize, left: &mut [u32]) -> usize
-    requires { ⌜ (n ≤ length (now owed)) × (n ≤ length (now left)) × Zeros (now left) × NoneFrom (now owed) n ⌝ }
-    ensures { λ r. ⌜ Settled (now (owed .entry)) (now (left .exit)) n r ⌝ }
-{
-    let mut r = 0;
-    let mut i = 0;
-    while i < n {
-        r = keep_debt(left, r, owed[i]);
-        i += 1;
-    }
-    r
-}
-
-// Whether the rest of index j, daily and with a load, has a portion under 660.
-pub fn brief(starts: &[u32], ends: &[u32], j: usize, load: u32) -> bool
-    requires { ⌜ (j < length (now starts)) × (j < length (now ends)) × (at (now starts) j ≤ totalAtMost) × (endBefore (now ends) j ≤ totalAtMost) × (load ≤ loadAtMost) ⌝ }
-    ensures { λ r. ⌜ r ≡ briefOf (now (starts .entry)) (now (ends .entry)) j load ⌝ }
-{
-    let window = reading::end_before(ends, j) + reading::DAILY_WINDOW + load;
-    let full = starts[j] + reading::FULL_PORTION + load;
-    fixed::lesser(ends[j], window) < full
-}
-
-// The debt of a weekly rest of so many minutes, with a load, counted in week w.
-pub fn debt_of(minutes: u32, load: u32, w: u32) -> u32
-    requires { ⌜ (load ≤ loadAtMost) × (w ≤ 255) ⌝ }
-    ensures { λ r. ⌜ r ≡ debtOf minutes load w ⌝ }
+// A long rest with a load taken as weekly: regular, or reduced by what it lacks.
+pub fn as_weekly(start: u32, end: u32, load: u32) -> LongRest
+    requires { ⌜ (start ≤ end) × (load ≤ loadAtMost) ⌝ }
+    ensures { λ r. ⌜ r .kind ≡ Weekly (standingFor (end - start) load) ⌝ }
 {
     let full = reading::REGULAR + load;
-    if full <= minutes {
-        return 0;
+    if end - start < full {
+        return LongRest {
+            start: start,
+            end: end,
+            kind: Kind::Weekly(Standing::Reduced(full - (end - start))),
+        };
     }
-    (w + reading::WEEKS_TO_COMPENSATE) * DEBT_UNIT + (full - minutes)
+    LongRest {
+        start: start,
+        end: end,
+        kind: Kind::Weekly(Standing::Regular),
+    }
+}
+
+// Whether a weekly rest is regular.
+pub fn is_regular(standing: Standing) -> bool
+    ensures { λ r. ⌜ r ≡ isRegular (Weekly standing) ⌝ }
+{
+    match standing {
+        Standing::Regular => true,
+        Standing::Reduced(_) => false,
+    }
+}
+
+// The debt of a weekly rest that is counted in week w.
+pub fn debt_of(standing: Standing, w: u32) -> u32
+    requires { ⌜ (reductionOf (Weekly standing) ≤ loadAtMost) × (w < 255) ⌝ }
+    ensures { λ r. ⌜ r ≡ debtBy standing w ⌝ }
+{
+    match standing {
+        Standing::Regular => 0,
+        Standing::Reduced(minutes) => (w + reading::WEEKS_TO_COMPENSATE) * DEBT_UNIT + minutes,
+    }
 }
 
 // The debt, or 0 where it is due after s and needs nothing.

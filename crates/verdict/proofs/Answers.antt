@@ -25,7 +25,7 @@ use Rattle.completion.specs.Completable.{Course, Lies}
 use Rattle.first_reading.specs.First.{Least, restsOnly}
 use Rattle.verdict.specs.Verdicts.{Cut, HasReading, Finding, unbroken, broken, findingOf, found, Whole}
 use Rattle.verdict.specs.declared.Rests.{Rests}
-use Rattle.verdict.proofs.Lawfulness.{to-has, starts-size, ends-size, rests-lie, rests-few, judged-low, whole-there, reading-size, first-least-there}
+use Rattle.verdict.proofs.Lawfulness.{to-has, starts-size, ends-size, nets-size, rests-lie, rests-few, judged-low, whole-there, reading-size, first-least-there}
 
 -- a first lawful reading, where the answer says that there is one
 first-is : (ms : List ℕ) → true ≡ not (isNone (firstLawful ms)) → (f : List ℕ) × (firstLawful ms ≡ some f)
@@ -97,10 +97,10 @@ module _ (ws : List ℕ) where
     whole : prefix (k .total) (minutesOf ws) ≡ minutesOf ws
     whole = ap (λ (n : ℕ). take n (minutesOf ws)) total-is ∙ take-length (minutesOf ws)
 
-    -- the long rests of the whole, as one walk leaves them in two slices
-    module _ {r : Rests} {starts ends : List ℕ} (c : Cut ws (k .total) r starts ends) where
+    -- the long rests of the whole, as one walk leaves them in three slices
+    module _ {r : Rests} {starts ends nets : List ℕ} (c : Cut ws (k .total) r starts ends nets) where
       abbrev lentRests : Course
-      lentRests = restsOnly (take (r .count) starts) (take (r .count) ends) (r .judged)
+      lentRests = restsOnly (take (r .count) starts) (take (r .count) ends) (take (r .count) nets) (r .judged)
 
       pub starts-there : r .count ≡ length (take (r .count) starts)
       starts-there = starts-size ws (k .total) within c
@@ -108,7 +108,10 @@ module _ (ws : List ℕ) where
       pub ends-there : r .count ≡ length (take (r .count) ends)
       ends-there = ends-size ws (k .total) within c
 
-      pub ruling-there : (length (minutesOf ws) ≤ totalAtMost) × (k .total ≡ length (minutesOf ws)) × Whole (minutesOf ws) (take (r .count) starts) (take (r .count) ends) r
+      pub nets-there : r .count ≡ length (take (r .count) nets)
+      nets-there = nets-size ws (k .total) within c
+
+      pub ruling-there : (length (minutesOf ws) ≤ totalAtMost) × (k .total ≡ length (minutesOf ws)) × Whole (minutesOf ws) (take (r .count) starts) (take (r .count) ends) (take (r .count) nets) r
       ruling-there = (within, total-is, whole-there ws (k .total) within c total-is)
 
       pub rests-there : Lies lentRests × (length (take (r .count) starts) ≤ longRestsAtMost) × (r .judged ≤ totalAtMost)

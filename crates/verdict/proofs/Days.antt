@@ -8,11 +8,13 @@ use native.Mathlib.Nat.{eq-or-lt-of-le}
 use native.Mathlib.Omega.{arith}
 use lib.ListN.{length, take}
 use lib.Seq.{length-take-le, getD-take}
+use Rattle.fixed.specs.Nets.{regularNet}
+use Rattle.reading.specs.Items.{endBefore}
 use Rattle.completion.specs.Completable.{at, Lies}
 use Rattle.first_reading.specs.First.{restsOnly}
 use Rattle.verdict.specs.Verdicts.{HasKept, Some, firstRests, dayStart, DayReadable}
 
-module _ {starts ends : List ℕ} {most : ℕ} (l : Lies (restsOnly starts ends most)) where
+module _ {starts ends nets : List ℕ} {most : ℕ} (l : Lies (restsOnly starts ends nets most)) where
   pub ends-low : (i : ℕ) → i < length ends → at ends i ≤ most
   ends-low i h = l .judged i (omega (arith, l .ends-too))
 
@@ -42,17 +44,31 @@ module _ {starts ends : List ℕ} {most : ℕ} (l : Lies (restsOnly starts ends 
     end-in : (i : ℕ) → i < length (take n starts) → at (take n ends) i ≡ at ends i
     end-in i g = getD-take n ends i 0 (omega (arith, first-starts))
 
-    pub lies-first : (s : ℕ) → dayStart ends n ≤ s → Lies (firstRests starts ends n s)
+    pub first-nets : n ≡ length (take n nets)
+    first-nets = sym (length-take-le n nets (omega (arith, l .nets-too)))
+
+    before-in : (i : ℕ) → i < length (take n starts) → endBefore (take n ends) i ≡ endBefore ends i
+    before-in zero g = refl
+    before-in (suc i) g = end-in i (omega arith)
+
+    net-in : (i : ℕ) → i < length (take n starts)
+        → at (take n nets) i ≡ regularNet (endBefore (take n ends) i) (at (take n starts) i) (at (take n ends) i)
+    net-in i g =
+        rw (before-in i g, start-in i g, end-in i g) (getD-take n nets i 0 (omega (arith, first-starts)) ∙ l .net i (omega (arith, first-starts)))
+
+    pub lies-first : (s : ℕ) → dayStart ends n ≤ s → Lies (restsOnly (take n starts) (take n ends) (take n nets) s)
     lies-first s g = record {
       ends-too = sym first-ends ∙ first-starts;
+      nets-too = sym first-nets ∙ first-starts;
+      net = net-in;
       proper = λ i k. omega (arith, start-in i k, end-in i k, l .proper i (omega (arith, first-starts)));
       ordered = λ i k. omega (arith, end-in i (omega arith), start-in (suc i) k, l .ordered i (omega (arith, first-starts)));
       judged = λ i k. omega (arith, end-in i k, over-by n h i (omega (arith, first-starts)));
     }
 
 -- the same rests, with a later judged end
-pub lies-later : {starts ends : List ℕ} {s t : ℕ} → Lies (restsOnly starts ends s) → s ≤ t → Lies (restsOnly starts ends t)
-lies-later l h = record { ends-too = l .ends-too; proper = l .proper; ordered = l .ordered; judged = λ i g. omega (arith, l .judged i g) }
+pub lies-later : {starts ends nets : List ℕ} {s t : ℕ} → Lies (restsOnly starts ends nets s) → s ≤ t → Lies (restsOnly starts ends nets t)
+lies-later l h = record { ends-too = l .ends-too; nets-too = l .nets-too; net = l .net; proper = l .proper; ordered = l .ordered; judged = λ i g. omega (arith, l .judged i g) }
 
 pub day-start-is : (ends : List ℕ) (n : ℕ) → (n ≡ 0 → ⊥) → at ends (n - 1) + 1 ≡ dayStart ends n
 day-start-is ends zero z = absurd (z refl)

@@ -18,12 +18,11 @@ use Rattle.recording.proofs.TestLaws.{less-or-not}
 use Rattle.reading.specs.Items.{spansFrom}
 use Rattle.completion.specs.States.{advance}
 use Rattle.completion.specs.Runs.{Runs}
-use Rattle.first_reading.specs.First.{restsOnly}
-use Rattle.verdict.specs.Verdicts.{HasKept, HasReading, Bound, broken, findingOf, firstRests, dayStart, DayReadable, LastDay}
+use Rattle.verdict.specs.Verdicts.{HasKept, HasReading, Bound, broken, findingOf, firstRests, dayStart, DayReadable, LastDay, restsAlone}
 use Rattle.verdict.proofs.Lawfulness.{fixed-first, from-has}
 
 -- no rests, at the beginning: the empty reading keeps the rules
-kept-nothing : HasKept (restsOnly [] [] 0)
+kept-nothing : HasKept (restsAlone [] [] 0)
 unfolding opened Runs advance spansFrom
 kept-nothing = ([], tt, record { six = refl; seven = refl; eight = refl; runs = (zero-le, tt) })
 

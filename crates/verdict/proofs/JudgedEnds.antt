@@ -24,8 +24,8 @@ use Rattle.completion.specs.declared.Brought.the-variants.{Broken}
 use Rattle.completion.specs.States.{pairKept, advance, After}
 use Rattle.completion.specs.Runs.{Ends, Takes, Runs}
 use Rattle.completion.specs.Completable.{at, spansOf, restWeek}
-use Rattle.first_reading.specs.First.{KeptBy, restsOnly}
-use Rattle.verdict.specs.Verdicts.{HasKept, AsksNoMore, NextDemand}
+use Rattle.first_reading.specs.First.{KeptBy}
+use Rattle.verdict.specs.Verdicts.{HasKept, AsksNoMore, NextDemand, restsAlone}
 
 -- ---- weeks
 module _ (restWeek : ℕ → Bool) where
@@ -110,10 +110,10 @@ module _ (starts : List ℕ) {ends : List ℕ} {s t : ℕ} (a : AsksNoMore ends 
   reaches i (inl l) = a .from-rest i l
   reaches i (inr l) = let e : at ends i ≡ 0 = List·getD-eq-default ends 0 {n = i} l in λ h. omega (arith, a .from-start (omega arith))
 
-  pub kept-too : (bytes : List ℕ) → KeptBy (restsOnly starts ends s) bytes → KeptBy (restsOnly starts ends t) bytes
+  pub kept-too : (bytes : List ℕ) → KeptBy (restsAlone starts ends s) bytes → KeptBy (restsAlone starts ends t) bytes
   unfolding entries
   kept-too bytes k =
-      let c = restsOnly starts ends s in
+      let c = restsAlone starts ends s in
       record {
         six = k .six;
         seven = k .seven;
@@ -122,7 +122,7 @@ module _ (starts : List ℕ) {ends : List ℕ} {s t : ℕ} (a : AsksNoMore ends 
             (each-reaches s t (a .week) starts ends (λ i. reaches i (less-or-not i (length ends))) _ _ _ _ _ _) _ (a .from-start) (k .runs);
       }
 
-  pub has-too : HasKept (restsOnly starts ends s) → HasKept (restsOnly starts ends t)
+  pub has-too : HasKept (restsAlone starts ends s) → HasKept (restsAlone starts ends t)
   has-too h = (h .0, h .1, kept-too (h .0) (h .2))
 
 -- a sooner one, and one before the next demand

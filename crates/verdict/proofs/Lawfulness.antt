@@ -5,7 +5,6 @@ use mathlib.Core.Bool.{Bool, true, false, not}
 use mathlib.Core.List.{List, [], map}
 use mathlib.Core.Option.{Option, some}
 use Prim.Native.Nat.{ℕ, zero, suc, _+_, _*_, _≤_, _<_, min, zero-le}
-use native.Mathlib.Nat.{le-refl}
 use native.Mathlib.Omega.{arith}
 use lib.ListN.{length, getD, take, replicate, length-map, length-replicate, getD-replicate, List·getD-eq-default, length-take}
 use lib.Seq.{length-take-le, getD-take, take-length}
@@ -25,7 +24,7 @@ use Rattle.rules.specs.Order.{Bytes}
 use Rattle.rules.specs.Verdict.{lawful, prefix, isNone, firstLawful}
 use Rattle.rules.proofs.RestWeekLaws.{reading-by-rests}
 use Rattle.rules.proofs.Breach.{HasLawful, first-sound, first-least, is-none, some-first}
-use Rattle.reading.specs.Items.{spansFrom, spansIn, restWeeks, Zeros}
+use Rattle.reading.specs.Items.{endBefore, spansFrom, spansIn, restWeeks, Zeros}
 use Rattle.reading.proofs.LaterLaws.{nowhere, map-at, spans-are, if-zero}
 use Rattle.completion.specs.States.{startState}
 use Rattle.completion.specs.Runs.{Kept}
@@ -33,10 +32,12 @@ use Rattle.completion.specs.Completable.{Course, at, count, restWeek, Completab
 use Rattle.completion.proofs.Carriers.{extend, extended}
 use Rattle.completion.proofs.RunLaws.{later-kept, kept-later}
 use Rattle.search.specs.Search.{Found, courseOf, Sound, Lent}
-use Rattle.hopeless.specs.Table.{levelWords}
+use Rattle.fixed.specs.Nets.{regularNet, netsFrom}
+use Rattle.fixed.proofs.NetLaws.{nets-length, nets-at}
 use Rattle.first_reading.specs.First.{KeptBy, Least, restsOnly}
 use Rattle.fixed.specs.Account.{accountFrom, opening}
-use Rattle.verdict.specs.Verdicts.{Cut, HasKept, Some, ByRule, HasReading, Readable, AllRests, Whole}
+use Rattle.verdict.specs.Verdicts.{Cut, HasKept, Some, ByRule, HasReading, Readable, AllRests, Whole, restsAlone}
+use Rattle.verdict.proofs.Days.{lies-later}
 use Rattle.verdict.specs.declared.Rests.{Rests}
 
 -- ---- the front of an array of zeros
@@ -54,49 +55,56 @@ module _ (n k : ℕ) (h : k ≤ n) where
       zero-front i (inl l) = getD-take k noughts i 0 l ∙ getD-replicate n i 0 0 (omega arith)
       zero-front i (inr l) = List·getD-eq-default (take k noughts) 0 {n = i} (rw front-size l)
 
--- room for the table of as many rests as there can be
-pub table-room : levelWords * longRestsAtMost ≤ length {A = ℕ} (replicate (levelWords * longRestsAtMost) 0)
-table-room = rw (length-replicate {A = ℕ} (levelWords * longRestsAtMost) 0) (le-refl _)
-
--- ---- the search's answer on long rests of which nothing is promised
-module _ (starts ends promised owed : List ℕ) (s : ℕ) (lies : Lies (restsOnly starts ends s)) (few : length starts ≤ longRestsAtMost) (bound : s ≤ totalAtMost)
-    (none-promised : Zeros promised) (size : length owed ≡ length starts) (none-owed : Zeros owed) where
+-- ---- the search's answer on long rests without loads
+module _ (starts ends nets loads owed : List ℕ) (s : ℕ) (lies : Lies (restsOnly starts ends nets s)) (few : length starts ≤ longRestsAtMost) (bound : s ≤ totalAtMost)
+    (no-load : Zeros loads) (size : length owed ≡ length starts) (none-owed : Zeros owed) where
   abbrev c : Course
-  c = courseOf starts ends promised s
+  c = courseOf starts ends nets loads s
 
-  lies-too : Lies (courseOf starts ends promised s)
-  lies-too = record { ends-too = lies .ends-too; proper = lies .proper; ordered = lies .ordered; judged = lies .judged }
+  lies-too : Lies (courseOf starts ends nets loads s)
+  lies-too = record {
+    ends-too = lies .ends-too;
+    nets-too = lies .nets-too;
+    net = lies .net;
+    proper = lies .proper;
+    ordered = lies .ordered;
+    judged = lies .judged;
+  }
 
   all : length starts + 0 ≡ length starts
   all = omega arith
 
-  pub lent : (table : List ℕ) → length promised ≡ length starts → levelWords * longRestsAtMost ≤ length table → Lent (courseOf starts ends promised s) owed table
-  lent table e room = record {
-    lies = lies-too;
-    promised-too = e;
-    owed-too = size;
-    few = few;
-    judged = bound;
-    promised-low = λ i. let z = none-promised i in omega arith;
-    room = omega (arith, few, room);
+  pub lent : length loads ≡ length starts → Lent (courseOf starts ends nets loads s) owed
+  lent e = record {
+    sized = record {
+      lies = lies-too;
+      loads-too = e;
+      owed-too = size;
+      few = few;
+      judged = bound;
+      loads-low = λ i. let z = no-load i in omega arith;
+    };
     below = zero-le;
     unused = λ x _. none-owed x;
   }
 
-  pub some-reading : {r : Bool} {owed′ table : List ℕ}
-      → Found (Completable (courseOf starts ends promised s) (count (courseOf starts ends promised s)) 0 (startState (restWeek (courseOf starts ends promised s) 0)) owed) r owed owed′
-      (Sound (courseOf starts ends promised s) table)
-      → Some (restsOnly starts ends s) r
+  pub some-reading : {r : Bool} {owed′ nogoods : List ℕ}
+      → Found (Completable (courseOf starts ends nets loads s) (length starts) 0 (startState (restWeek (courseOf starts ends nets loads s) 0)) owed) r owed owed′
+      (Sound (courseOf starts ends nets loads s) nogoods)
+      → Some (restsAlone starts ends s) r
   unfolding entries compensationOf
   some-reading a =
       record {
-        yes = λ t. extend (courseOf starts ends promised s) lies-too (omega arith) bound (length starts) 0 _ owed [] all size none-owed (λ i h. none-promised i) (a .yes t);
-        no = λ t bytes k. a .no t (extended (courseOf starts ends promised s) lies-too (omega arith) bound (length starts) 0 _ owed [] all size none-owed (λ i h. none-promised i) bytes k);
+        yes = λ t. extend (courseOf starts ends nets loads s) lies-too (omega arith) bound (length starts) 0 _ owed [] all size none-owed (λ i h. no-load i) (a .yes t);
+        no = λ t bytes k. a .no t (extended (courseOf starts ends nets loads s) lies-too (omega arith) bound (length starts) 0 _ owed [] all size none-owed (λ i h. no-load i) bytes k);
       }
 
--- ---- the long rests of a recording, in two lists
+-- ---- the long rests of a recording, in two lists, and with their numbers
 abbrev pub restsIn : List ℕ → Course
-restsIn ms = restsOnly (map (λ (r : Span). r .start) (longRests ms)) (map (λ (r : Span). r .end) (longRests ms)) (judgedEnd ms)
+restsIn ms = restsAlone (map (λ (r : Span). r .start) (longRests ms)) (map (λ (r : Span). r .end) (longRests ms)) (judgedEnd ms)
+
+abbrev pub numberedIn : List ℕ → Course
+numberedIn ms = restsOnly (map (λ (r : Span). r .start) (longRests ms)) (map (λ (r : Span). r .end) (longRests ms)) (netsFrom 0 (longRests ms)) (judgedEnd ms)
 
 module _ (rs : List Span) where
   abbrev starts : List ℕ
@@ -132,10 +140,12 @@ neighbours {to} {from} (next {r = r} {rs = rs} l n e o) (suc i) h =
     let q = neighbours o i (omega arith) in
     record { from-on = omega (arith, q .from-on); proper = q .proper; over = q .over; before-next = λ g. q .before-next (omega arith) }
 
-pub lies-in : (ms : List ℕ) → Lies (restsIn ms)
+pub lies-in : (ms : List ℕ) → Lies (numberedIn ms)
 lies-in ms =
     record {
       ends-too = length-map (longRests ms) (λ (r : Span). r .end) ∙ sym (size (longRests ms));
+      nets-too = nets-length 0 (longRests ms) ∙ sym (size (longRests ms));
+      net = λ i h. numbered i (there i h);
       proper = λ i h. rw (at-start i (there i h), at-end i (there i h)) (neighbours (rests-ordered ms) i (there i h) .proper);
       ordered = λ i h. rw (at-end i (before i h), at-start (suc i) (there (suc i) h)) (omega (arith, neighbours (rests-ordered ms) i (before i h) .before-next (there (suc i) h)));
       judged = λ i h. rw (at-end i (there i h)) (omega (arith, neighbours (rests-ordered ms) i (there i h) .over));
@@ -152,6 +162,11 @@ lies-in ms =
 
     at-end : (i : ℕ) → i < length (longRests ms) → getD (ends (longRests ms)) i 0 ≡ getD (longRests ms) i nowhere .end
     at-end i h = map-at (λ r. r .end) (longRests ms) i nowhere h
+
+    numbered : (i : ℕ) → i < length (longRests ms)
+        → getD (netsFrom 0 (longRests ms)) i 0 ≡ regularNet (endBefore (ends (longRests ms)) i) (getD (starts (longRests ms)) i 0) (getD (ends (longRests ms)) i 0)
+    numbered zero h = nets-at 0 (longRests ms) zero h
+    numbered (suc i) h = nets-at 0 (longRests ms) (suc i) h
 
 -- ---- lawful, and kept
 module _ (ms : List ℕ) where
@@ -193,7 +208,7 @@ module _ (ms : List ℕ) where
   unfolding readingSize
   as-few bytes b = subst (λ (n : ℕ). Bytes (entryBytes * n) bytes) (size (longRests ms)) b
 
-  pub least : {f : List ℕ} → firstLawful ms ≡ some f → Least (restsIn ms) f
+  pub least : {f : List ℕ} → firstLawful ms ≡ some f → Least (numberedIn ms) f
   least {f} e =
       let l = first-sound ms e in
       record {
@@ -235,21 +250,27 @@ by-fixed ms zero e a = has-it ms (readable ms (a .unfixed refl)) e
 by-fixed ms (suc n) e a = a .fixed (λ z. omega arith) ∙ has-none ms (λ z. omega arith)
 
 -- ---- the rests of a stretch, as one walk leaves them in two slices
-module _ (ws : List ℕ) (m : ℕ) (within : length (minutesOf ws) ≤ totalAtMost) {r : Rests} {starts ends : List ℕ} (q : Cut ws m r starts ends) where
+module _ (ws : List ℕ) (m : ℕ) (within : length (minutesOf ws) ≤ totalAtMost) {r : Rests} {starts ends nets : List ℕ} (q : Cut ws m r starts ends nets) where
   abbrev stretch : List ℕ
   stretch = prefix m (minutesOf ws)
 
   abbrev lentRests : Course
-  lentRests = restsOnly (take (r .count) starts) (take (r .count) ends) (r .judged)
+  lentRests = restsOnly (take (r .count) starts) (take (r .count) ends) (take (r .count) nets) (r .judged)
 
-  course-is : lentRests ≡ restsIn (prefix m (minutesOf ws))
-  course-is = λ i. restsOnly (q .begun i) (q .ended i) (q .judged i)
+  course-is : lentRests ≡ numberedIn (prefix m (minutesOf ws))
+  course-is = λ i. restsOnly (q .begun i) (q .ended i) (q .numbered i) (q .judged i)
+
+  alone-is : restsAlone (take (r .count) starts) (take (r .count) ends) (r .judged) ≡ restsIn (prefix m (minutesOf ws))
+  alone-is = λ i. restsAlone (q .begun i) (q .ended i) (q .judged i)
 
   pub starts-size : r .count ≡ length (take (r .count) starts)
   starts-size = q .count ∙ sym (length-map (longRests stretch) (λ (x : Span). x .start)) ∙ sym (ap length (q .begun))
 
   pub ends-size : r .count ≡ length (take (r .count) ends)
   ends-size = q .count ∙ sym (length-map (longRests stretch) (λ (x : Span). x .end)) ∙ sym (ap length (q .ended))
+
+  pub nets-size : r .count ≡ length (take (r .count) nets)
+  nets-size = q .count ∙ sym (nets-length 0 (longRests stretch)) ∙ sym (ap length (q .numbered))
 
   pub rests-lie : Lies lentRests
   rests-lie = subst Lies (sym course-is) (lies-in stretch)
@@ -262,8 +283,8 @@ module _ (ws : List ℕ) (m : ℕ) (within : length (minutesOf ws) ≤ totalAtMo
       let e : length (take m (minutesOf ws)) ≡ min m (length (minutesOf ws)) = length-take m (minutesOf ws) in
       omega (arith, q .judged, judged-within stretch, e, within)
 
-  pub lawful-there : {t : Bool} → ByRule lentRests (r .rule) t → t ≡ not (isNone (firstLawful stretch))
-  lawful-there {t} a = by-fixed stretch (r .rule) (sym (q .fixed)) (subst (λ (c : Course). ByRule c (r .rule) t) course-is a)
+  pub lawful-there : {t : Bool} → ByRule (restsAlone (take (r .count) starts) (take (r .count) ends) (r .judged)) (r .rule) t → t ≡ not (isNone (firstLawful stretch))
+  lawful-there {t} a = by-fixed stretch (r .rule) (sym (q .fixed)) (subst (λ (c : Course). ByRule c (r .rule) t) alone-is a)
 
   pub stretch-least : {f : List ℕ} → firstLawful stretch ≡ some f → Least lentRests f
   stretch-least {f} e = subst (λ (c : Course). Least c f) (sym course-is) (least stretch e)
@@ -273,13 +294,14 @@ module _ (ws : List ℕ) (m : ℕ) (within : length (minutesOf ws) ≤ totalAtMo
     whole : stretch ≡ minutesOf ws
     whole = ap (λ (n : ℕ). take n (minutesOf ws)) e ∙ take-length (minutesOf ws)
 
-    all-rests : AllRests (minutesOf ws) (take (r .count) starts) (take (r .count) ends)
+    all-rests : AllRests (minutesOf ws) (take (r .count) starts) (take (r .count) ends) (take (r .count) nets)
     all-rests = record {
       begun = q .begun ∙ ap (λ (l : List ℕ). map (λ (x : Span). x .start) (longRests l)) whole;
       ended = q .ended ∙ ap (λ (l : List ℕ). map (λ (x : Span). x .end) (longRests l)) whole;
+      numbered = q .numbered ∙ ap (λ (l : List ℕ). netsFrom 0 (longRests l)) whole;
     }
 
-    pub whole-there : Whole (minutesOf ws) (take (r .count) starts) (take (r .count) ends) r
+    pub whole-there : Whole (minutesOf ws) (take (r .count) starts) (take (r .count) ends) (take (r .count) nets) r
     whole-there = record {
       rests = all-rests;
       judged = q .judged ∙ ap judgedEnd whole;
@@ -295,23 +317,26 @@ module _ (ws : List ℕ) (m : ℕ) (within : length (minutesOf ws) ≤ totalAtMo
     pub first-least-there : {f : List ℕ} → firstLawful (minutesOf ws) ≡ some f → Least lentRests f
     first-least-there h = stretch-least (ap firstLawful whole ∙ h)
 
--- ---- the long rests of the whole, in two lists
-module _ {ms starts ends : List ℕ} (q : AllRests ms starts ends) (within : length ms ≤ totalAtMost) where
-  pub all-lie : Lies (restsOnly starts ends totalAtMost)
+-- ---- the long rests of the whole, in three lists
+module _ {ms starts ends nets : List ℕ} (q : AllRests ms starts ends nets) (within : length ms ≤ totalAtMost) where
+  course-there : (s : ℕ) → s ≡ judgedEnd ms → restsOnly starts ends nets s ≡ numberedIn ms
+  course-there s e = λ i. restsOnly (q .begun i) (q .ended i) (q .numbered i) (e i)
+
+  pub all-lie : Lies (restsOnly starts ends nets totalAtMost)
   all-lie =
-      let l : Lies (restsOnly starts ends (judgedEnd ms)) = subst Lies (λ i. restsOnly (sym (q .begun) i) (sym (q .ended) i) (judgedEnd ms)) (lies-in ms) in
-      record { ends-too = l .ends-too; proper = l .proper; ordered = l .ordered; judged = λ i h. omega (arith, l .judged i h, judged-within ms) }
+      let l : Lies (restsOnly starts ends nets (judgedEnd ms)) = subst Lies (sym (course-there (judgedEnd ms) refl)) (lies-in ms) in
+      lies-later l (omega (arith, judged-within ms))
 
   pub all-few : length starts ≤ longRestsAtMost
   all-few = omega (arith, ap length (q .begun), size (longRests ms), few-rests ms within)
 
 -- the answer of the whole, by the fixed rules first
-module _ {ms starts ends : List ℕ} {r : Rests} (q : Whole ms starts ends r) (within : length ms ≤ totalAtMost) where
-  whole-course : restsOnly starts ends (r .judged) ≡ restsIn ms
-  whole-course = λ i. restsOnly (q .rests .begun i) (q .rests .ended i) (q .judged i)
+module _ {ms starts ends nets : List ℕ} {r : Rests} (q : Whole ms starts ends nets r) (within : length ms ≤ totalAtMost) where
+  pub whole-rests : Lies (restsOnly starts ends nets (r .judged)) × (length starts ≤ longRestsAtMost) × (r .judged ≤ totalAtMost)
+  whole-rests =
+      (subst Lies (sym (course-there (q .rests) within (r .judged) (q .judged))) (lies-in ms), all-few (q .rests) within, omega (arith, q .judged, judged-within ms))
 
-  pub whole-rests : Lies (restsOnly starts ends (r .judged)) × (length starts ≤ longRestsAtMost) × (r .judged ≤ totalAtMost)
-  whole-rests = (subst Lies (sym whole-course) (lies-in ms), all-few (q .rests) within, omega (arith, q .judged, judged-within ms))
-
-  pub whole-lawful : {t : Bool} → ByRule (restsOnly starts ends (r .judged)) (r .rule) t → t ≡ not (isNone (firstLawful ms))
-  whole-lawful {t} a = by-fixed ms (r .rule) (sym (q .fixed)) (subst (λ (c : Course). ByRule c (r .rule) t) whole-course a)
+  pub whole-lawful : {t : Bool} → ByRule (restsAlone starts ends (r .judged)) (r .rule) t → t ≡ not (isNone (firstLawful ms))
+  whole-lawful {t} a =
+      by-fixed ms (r .rule) (sym (q .fixed))
+      (subst (λ (c : Course). ByRule c (r .rule) t) (λ i. restsAlone (q .rests .begun i) (q .rests .ended i) (q .judged i)) a)

@@ -17,8 +17,7 @@ use Rattle.rules.specs.Verdict.{prefix, breachMinute}
 use Rattle.rules.proofs.Breach.{shorter-lawful, only-breach}
 use Rattle.reading.proofs.LaterLaws.{nowhere, map-at}
 use Rattle.completion.specs.Completable.{Course, at}
-use Rattle.first_reading.specs.First.{restsOnly}
-use Rattle.verdict.specs.Verdicts.{HasKept, HasReading, Bound, AllRests, firstRests, dayStart, LastDay, DayTop, FirstWithout, NextActive}
+use Rattle.verdict.specs.Verdicts.{HasKept, HasReading, Bound, AllRests, firstRests, dayStart, LastDay, DayTop, FirstWithout, NextActive, restsAlone}
 use Rattle.verdict.proofs.JudgedEnds.{has-too, sooner}
 use Rattle.verdict.proofs.Lawfulness.{neighbours, has-kept, kept-has, to-has, from-has}
 use Rattle.verdict.proofs.Cuts.{judged-most, over-there, rests-there, judged-there, judged-rested, rests-rested}
@@ -35,9 +34,9 @@ in-at (r ∷ rs) (suc i) h = there (in-at rs i (omega arith))
 
 -- long rests as a course, where S is s
 abbrev spansCourse : List Span → ℕ → Course
-spansCourse rs s = restsOnly (map (λ (r : Span). r .start) rs) (map (λ (r : Span). r .end) rs) s
+spansCourse rs s = restsAlone (map (λ (r : Span). r .start) rs) (map (λ (r : Span). r .end) rs) s
 
-module _ {ms starts ends : List ℕ} (q : AllRests ms starts ends) where
+module _ {ms starts ends nets : List ℕ} (q : AllRests ms starts ends nets) where
   count-is : length starts ≡ length (longRests ms)
   count-is = ap length (q .begun) ∙ length-map (longRests ms) (λ (r : Span). r .start)
 
@@ -55,7 +54,7 @@ module _ {ms starts ends : List ℕ} (q : AllRests ms starts ends) where
     course-is : (s : ℕ) → spansCourse (longRests (prefix m ms)) s ≡ firstRests starts ends n s
     course-is s =
         ap (λ (l : List Span). spansCourse l s) e
-        ∙ (λ i. restsOnly ((map-take (λ r. r .start) n (longRests ms) ∙ ap (take n) (sym (q .begun))) i) ((map-take (λ r. r .end) n (longRests ms) ∙ ap (take n) (sym (q .ended))) i) s)
+        ∙ (λ i. restsAlone ((map-take (λ r. r .start) n (longRests ms) ∙ ap (take n) (sym (q .begun))) i) ((map-take (λ r. r .end) n (longRests ms) ∙ ap (take n) (sym (q .ended))) i) s)
 
     -- a reading that keeps the rules up to its end is one of it
     has-there : fixedTest (prefix m ms) ≡ 0 → HasKept (firstRests starts ends n m) → HasReading (prefix m ms)

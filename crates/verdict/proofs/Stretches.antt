@@ -1,4 +1,4 @@
--- The long rests that one walk over a stretch leaves in two slices. Assumes nothing.
+-- The long rests that one walk over a stretch leaves in three slices. Assumes nothing.
 use mathlib.Core.Path.{_≡_, sym, ap, _∙_}
 use mathlib.Core.List.{List, map}
 use Prim.Native.Nat.{ℕ, _≤_, min}
@@ -19,14 +19,15 @@ use Rattle.fixed.specs.Walk.{Surveyed}
 use Rattle.fixed.specs.declared.Account.{Account}
 use Rattle.fixed.specs.declared.Survey.{Survey}
 use Rattle.fixed.proofs.AccountRight.{account-right}
+use Rattle.fixed.proofs.NetLaws.{nets-found}
 use Rattle.verdict.specs.Verdicts.{Cut}
 
 -- what is written over the front of a slice
 front : (vs l : List ℕ) → length vs ≤ length l → take (length vs) (sets l 0 vs) ≡ vs
 front vs l h = ap (take (length vs)) (sets-eq vs l 0 (omega arith)) ∙ take-append-seam vs _
 
-module _ (ws : List ℕ) (m : ℕ) (within : length (minutesOf ws) ≤ totalAtMost) {starts ends starts′ ends′ : List ℕ} {r : Survey}
-    (v : Surveyed ws m starts ends r starts′ ends′) where
+module _ (ws : List ℕ) (m : ℕ) (within : length (minutesOf ws) ≤ totalAtMost) {starts ends nets starts′ ends′ nets′ : List ℕ} {r : Survey}
+    (v : Surveyed ws m starts ends nets r starts′ ends′ nets′) where
   abbrev ms : List ℕ
   ms = prefix m (minutesOf ws)
 
@@ -48,9 +49,9 @@ module _ (ws : List ℕ) (m : ℕ) (within : length (minutesOf ws) ≤ totalAtMo
       ∙ ap (take (length (map f (longRests ms)))) (e ∙ scan-written f (cutAt m ws) out ∙ ap (λ (l : List ℕ). sets out 0 (map f (longRests l))) (cut-at m ws))
       ∙ front (map f (longRests ms)) out (omega arith)
 
-  pub cut : {k : ℕ} → k ≡ r .place .count → longRestsAtMost ≤ length starts → longRestsAtMost ≤ length ends
-      → Cut ws m (record { count = k; judged = r .place .from; rule = r .account .rule; first = r .account .first }) starts′ ends′
-  cut {k} q a b =
+  pub cut : {k : ℕ} → k ≡ r .place .count → longRestsAtMost ≤ length starts → longRestsAtMost ≤ length ends → longRestsAtMost ≤ length nets
+      → Cut ws m (record { count = k; judged = r .place .from; rule = r .account .rule; first = r .account .first }) starts′ ends′ nets′
+  cut {k} q a b c =
       let few = count-few in
       record {
         count = q ∙ count-is;
@@ -58,6 +59,7 @@ module _ (ws : List ℕ) (m : ℕ) (within : length (minutesOf ws) ≤ totalAtMo
         few = omega arith;
         begun = ap (λ (n : ℕ). take n starts′) q ∙ written (λ s. s .start) starts starts′ a (v .begun);
         ended = ap (λ (n : ℕ). take n ends′) q ∙ written (λ s. s .end) ends ends′ b (v .ended);
+        numbered = ap (λ (n : ℕ). take n nets′) (q ∙ count-is) ∙ nets-found ws m v within c;
         fixed = ap (λ (t : Account). t .rule) (v .account) ∙ account-right ms .rule;
         first = ap (λ (t : Account). t .first) (v .account);
       }

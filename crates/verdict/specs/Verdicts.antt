@@ -3,7 +3,7 @@
 use mathlib.Core.Path.{_≡_}
 use mathlib.Core.Logic.{_⊎_}
 use mathlib.Core.Bool.{Bool, true, false}
-use mathlib.Core.List.{List, map}
+use mathlib.Core.List.{List, [], map}
 use Prim.Native.Nat.{ℕ, zero, suc, _+_, _-_, _*_, _≤_, _<_}
 use lib.ListN.{length, getD, take}
 use Rattle.recording.specs.Answers.{Answer, refused, answered, andThen}
@@ -20,7 +20,7 @@ use Rattle.rules.specs.Order.{Bytes}
 use Rattle.rules.specs.Reading.{entryBytes, readingSize}
 use Rattle.rules.specs.ReadingRules.{weeklyGap}
 use Rattle.completion.specs.Completable.{Course, at, count}
-use Rattle.hopeless.specs.Table.{levelWords}
+use Rattle.fixed.specs.Nets.{netsFrom}
 use Rattle.first_reading.specs.First.{KeptBy, restsOnly}
 use Rattle.verdict.specs.declared.Judgement.{Judgement}
 use Rattle.verdict.specs.declared.Judgement.the-variants as judgement
@@ -57,21 +57,21 @@ abbrev pub findingIn : Ruling → Finding
 findingIn ruling.Lawful = unbroken
 findingIn (ruling.Unlawful b) = broken (b .minute) (b .article)
 
--- ---- the long rests of the first m minutes, in two slices, with their count, S, the smallest broken fixed rule and the first breach
-pub record Cut (words : List ℕ) (m : ℕ) (r : Rests) (starts ends : List ℕ) : Type 0 where
+-- ---- the long rests of the first m minutes, in three slices, with their count, S, the smallest broken fixed rule and the first breach
+pub record Cut (words : List ℕ) (m : ℕ) (r : Rests) (starts ends nets : List ℕ) : Type 0 where
   pub count : r .count ≡ length (longRests (prefix m (minutesOf words)))
   pub judged : r .judged ≡ judgedEnd (prefix m (minutesOf words))
   pub few : r .count ≤ longRestsAtMost
   pub begun : take (r .count) starts ≡ map (λ (s : Span). s .start) (longRests (prefix m (minutesOf words)))
   pub ended : take (r .count) ends ≡ map (λ (s : Span). s .end) (longRests (prefix m (minutesOf words)))
+  pub numbered : take (r .count) nets ≡ netsFrom 0 (longRests (prefix m (minutesOf words)))
   pub fixed : r .rule ≡ fixedTest (prefix m (minutesOf words))
   pub first : r .first ≡ accountFrom opening (prefix m (minutesOf words)) .first
 
--- ---- room for the table of hopeless states of as many long rests as there can be
-abbrev pub Roomy : List ℕ → Type 0
-Roomy table = levelWords * longRestsAtMost ≤ length table
+-- ---- a reading of long rests that keeps rules 6 to 11, and whether there is one; the numbers of the rests have no part in it
+abbrev pub restsAlone : List ℕ → List ℕ → ℕ → Course
+restsAlone starts ends s = restsOnly starts ends [] s
 
--- ---- a reading of long rests that keeps rules 6 to 11, and whether there is one
 abbrev pub HasKept : Course → Type 0
 HasKept c = (bytes : List ℕ) × Bytes (entryBytes * count c) bytes × KeptBy c bytes
 
@@ -117,21 +117,22 @@ pub record NextDemand (ends : List ℕ) (s r : ℕ) : Type 0 where
   pub from-start : s ≤ weeklyGap → r ≤ weeklyGap + 1
   pub from-rest : (i : ℕ) → i < length ends → s ≤ at ends i + weeklyGap → r ≤ at ends i + weeklyGap + 1
 
--- ---- the search for the breach minute. The long rests of a recording, in two lists
-pub record AllRests (ms starts ends : List ℕ) : Type 0 where
+-- ---- the search for the breach minute. The long rests of a recording, in three lists
+pub record AllRests (ms starts ends nets : List ℕ) : Type 0 where
   pub begun : starts ≡ map (λ (r : Span). r .start) (longRests ms)
   pub ended : ends ≡ map (λ (r : Span). r .end) (longRests ms)
+  pub numbered : nets ≡ netsFrom 0 (longRests ms)
 
 -- with S, the smallest fixed rule that is broken, or 0, and the first such breach
-pub record Whole (ms starts ends : List ℕ) (r : Rests) : Type 0 where
-  pub rests : AllRests ms starts ends
+pub record Whole (ms starts ends nets : List ℕ) (r : Rests) : Type 0 where
+  pub rests : AllRests ms starts ends nets
   pub judged : r .judged ≡ judgedEnd ms
   pub fixed : r .rule ≡ fixedTest ms
   pub first : r .first ≡ accountFrom opening ms .first
 
 -- the first n of them, where S is s
 abbrev pub firstRests : List ℕ → List ℕ → ℕ → ℕ → Course
-firstRests starts ends n s = restsOnly (take n starts) (take n ends) s
+firstRests starts ends n s = restsAlone (take n starts) (take n ends) s
 
 -- the shortest stretch that has n of them
 abbrev pub dayStart : List ℕ → ℕ → ℕ
@@ -160,8 +161,8 @@ pub record DayTop (starts : List ℕ) (n bound r : ℕ) : Type 0 where
 pub record FirstWithout (starts ends : List ℕ) (from top r : ℕ) : Type 0 where
   pub past : from < r
   pub within : r ≤ top + 1
-  pub before : HasKept (restsOnly starts ends from) → (t : ℕ) → suc t ≡ r → HasKept (restsOnly starts ends t)
-  pub there : r ≤ top → HasKept (restsOnly starts ends r) → ⊥
+  pub before : HasKept (restsAlone starts ends from) → (t : ℕ) → suc t ≡ r → HasKept (restsAlone starts ends t)
+  pub there : r ≤ top → HasKept (restsAlone starts ends r) → ⊥
 
 -- the later of two minutes
 abbrev pub laterOf : ℕ → ℕ → ℕ

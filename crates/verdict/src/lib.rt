@@ -1,22 +1,23 @@
 // The verdict on a recording: a pass with its first lawful reading, or a breach with its minute and article.
 use fixed::Break;
+use recording::Measure;
 use recording::Weighing;
+use search::Swept;
 ghost use mathlib.Core.Path.{_≡_};
 ghost use mathlib.Core.Bool.{not};
-ghost use mathlib.Core.List.{List};
 ghost use mathlib.Core.Option.{some};
-ghost use Prim.Native.Nat.{ℕ, _≤_, _<_};
+ghost use Prim.Native.Nat.{ℕ, _+_, _≤_, _<_};
 ghost use lib.ListN.{length};
 ghost use Rattle.recording.specs.Words.{minutesOf};
-ghost use Rattle.recording.specs.Operations.{totalAtMost};
+ghost use Rattle.recording.specs.Answers.{answered};
+ghost use Rattle.recording.specs.Operations.{totalAtMost, measured};
 ghost use Rattle.recording.specs.Rests.{longRestsAtMost};
-ghost use Rattle.rules.specs.Reading.{readingSize};
-ghost use Rattle.rules.specs.Verdict.{prefix, isNone, firstLawful, breachMinute, verdict};
+ghost use Rattle.rules.specs.Verdict.{breachMinute, verdict};
 ghost use Rattle.fixed.specs.Account.{accountFrom, opening};
 ghost use Rattle.rules.specs.Operations.{judged, outcome, readingAfter};
 ghost use Rattle.completion.specs.Completable.{at, Lies};
 ghost use Rattle.first_reading.specs.First.{restsOnly};
-ghost use Rattle.verdict.specs.Verdicts.{outcomeBy, broken, findingOf, found, findingBy, findingIn, Cut, Some, ByRule, HasReading, Bound, AllRests, Whole, dayStart, DayReadable, LastDay, DayTop, Roomy, Sooner, NextDemand, FirstWithout, laterOf, NextActive};
+ghost use Rattle.verdict.specs.Verdicts.{outcomeBy, broken, findingOf, found, findingBy, findingIn, Cut, Some, ByRule, HasReading, Bound, AllRests, Whole, dayStart, DayReadable, LastDay, DayTop, restsAlone, Sooner, NextDemand, FirstWithout, laterOf, NextActive};
 
 // A breach: the length of the shortest stretch without a lawful reading, and its article, 1 to 6.
 pub struct Breach {
@@ -55,12 +56,20 @@ pub struct Rests {
 // The article of a breach where all fixed rules hold.
 const NO_FIXED_RULE: u32 = 6;
 
-// The long rests of the first m minutes into two slices.
-fn rests_of(words: &[u32], m: u32, starts: &mut [u32], ends: &mut [u32]) -> Rests
-    requires { ⌜ (length (minutesOf (now words)) ≤ totalAtMost) × (longRestsAtMost ≤ length (now starts)) × (longRestsAtMost ≤ length (now ends)) ⌝ }
-    ensures { λ r. ⌜ Cut (now (words .entry)) m r (now (starts .exit)) (now (ends .exit)) ⌝ }
+// How many long rests are few, some or many: so much room the search is lent, nogoods::LEVEL_WORDS for each.
+const FEW: u32 = 8;
+
+const SOME: u32 = 32;
+
+const MANY: u32 = 96;
+
+// The long rests of the first m minutes into three slices: where each starts and ends, and its number.
+fn rests_of(words: &[u32], m: u32, starts: &mut [u32], ends: &mut [u32], nets: &mut [u32]) -> Rests
+    requires { ⌜ (length (minutesOf (now words)) ≤ totalAtMost) × (longRestsAtMost ≤ length (now starts)) × (longRestsAtMost ≤ length (now ends))
+        × (longRestsAtMost ≤ length (now nets)) ⌝ }
+    ensures { λ r. ⌜ Cut (now (words .entry)) m r (now (starts .exit)) (now (ends .exit)) (now (nets .exit)) ⌝ }
 {
-    let found = fixed::survey_of(words, m, starts, ends);
+    let found = fixed::survey_of(words, m, starts, ends, nets);
     let place = found.place;
     let account = found.account;
     let first = account.first;
@@ -74,39 +83,55 @@ fn rests_of(words: &[u32], m: u32, starts: &mut [u32], ends: &mut [u32]) -> Rest
 }
 
 // Whether long rests have a reading that keeps rules 6 to 11.
-fn some_reading(starts: &[u32], ends: &[u32], s: u32, table: &mut [u32]) -> bool
-    requires { ⌜ (Lies (restsOnly (now starts) (now ends) s)) × (length (now starts) ≤ longRestsAtMost) × (s ≤ totalAtMost) × Roomy (now table) ⌝ }
-    ensures { λ r. ⌜ Some (restsOnly (now (starts .entry)) (now (ends .entry)) s) r ⌝ }
+fn some_reading(
+    starts: &[u32],
+    ends: &[u32],
+    nets: &[u32],
+    s: u32,
+    nogoods: &mut [u32],
+    front: &mut [u32],
+    other: &mut [u32],
+) -> Swept
+    requires { ⌜ (Lies (restsOnly (now starts) (now ends) (now nets) s)) × (length (now starts) ≤ longRestsAtMost) × (s ≤ totalAtMost) ⌝ }
+    ensures { λ r. ⌜ Some (restsAlone (now (starts .entry)) (now (ends .entry)) s) (r .yes) ⌝ }
 {
     let k = starts.len();
-    let promised = [0u32; recording::LONG_RESTS];
+    let loads = [0u32; recording::LONG_RESTS];
     let mut owed = [0u32; recording::LONG_RESTS];
-    search::possible(starts, ends, &promised[..k], s, &mut owed[..k], table)
+    search::possible(
+        starts,
+        ends,
+        nets,
+        &loads[..k],
+        s,
+        &mut owed[..k],
+        nogoods,
+        front,
+        other,
+    )
 }
 
 // Whether the long rests of a stretch have a lawful reading, by the smallest fixed rule that it breaks, or 0.
-fn lawful_by(starts: &[u32], ends: &[u32], s: u32, rule: u32, table: &mut [u32]) -> bool
-    requires { ⌜ (Lies (restsOnly (now starts) (now ends) s)) × (length (now starts) ≤ longRestsAtMost) × (s ≤ totalAtMost) × Roomy (now table) ⌝ }
-    ensures { λ r. ⌜ ByRule (restsOnly (now (starts .entry)) (now (ends .entry)) s) rule r ⌝ }
+fn lawful_by(
+    starts: &[u32],
+    ends: &[u32],
+    nets: &[u32],
+    s: u32,
+    rule: u32,
+    nogoods: &mut [u32],
+    front: &mut [u32],
+    other: &mut [u32],
+) -> Swept
+    requires { ⌜ (Lies (restsOnly (now starts) (now ends) (now nets) s)) × (length (now starts) ≤ longRestsAtMost) × (s ≤ totalAtMost) ⌝ }
+    ensures { λ r. ⌜ ByRule (restsAlone (now (starts .entry)) (now (ends .entry)) s) rule (r .yes) ⌝ }
 {
     if rule != 0 {
-        return false;
+        return Swept {
+            yes: false,
+            at: starts.len(),
+        };
     }
-    some_reading(starts, ends, s, table)
-}
-
-// Whether the first m minutes have a lawful reading.
-pub fn has_reading(words: &[u32], m: u32) -> bool
-    requires { ⌜ length (minutesOf (now words)) ≤ totalAtMost ⌝ }
-    ensures { λ r. ⌜ r ≡ not (isNone (firstLawful (prefix m (minutesOf (now (words .entry)))))) ⌝ }
-{
-    let mut starts = [0u32; recording::LONG_RESTS];
-    let mut ends = [0u32; recording::LONG_RESTS];
-    let rests = rests_of(words, m, &mut starts, &mut ends);
-    let k = rests.count;
-    let s = rests.judged;
-    let mut table = [0u32; hopeless::TABLE_WORDS];
-    lawful_by(&starts[..k], &ends[..k], s, rests.rule, &mut table)
+    some_reading(starts, ends, nets, s, nogoods, front, other)
 }
 
 // The shortest stretch that has the first n long rests.
@@ -120,31 +145,104 @@ fn day_start(ends: &[u32], n: usize) -> u32
     ends[n - 1] + 1
 }
 
+// The number before n, or 0.
+fn one_less(n: usize) -> usize
+    ensures { λ r. ⌜ r ≤ n ⌝ }
+{
+    if n == 0 {
+        return 0;
+    }
+    n - 1
+}
+
 // Whether the shortest stretch with the first n long rests lies below a bound and has a reading that keeps rules 6 to 11.
-fn day_readable(starts: &[u32], ends: &[u32], bound: u32, n: usize, table: &mut [u32]) -> bool
-    requires { ⌜ (Lies (restsOnly (now starts) (now ends) totalAtMost)) × (length (now starts) ≤ longRestsAtMost) × (bound ≤ totalAtMost) × (n ≤ length (now starts)) × Roomy (now table) ⌝ }
-    ensures { λ r. ⌜ DayReadable (now (starts .entry)) (now (ends .entry)) bound n r ⌝ }
+fn day_readable(
+    starts: &[u32],
+    ends: &[u32],
+    nets: &[u32],
+    bound: u32,
+    n: usize,
+    nogoods: &mut [u32],
+    front: &mut [u32],
+    other: &mut [u32],
+) -> Swept
+    requires { ⌜ (Lies (restsOnly (now starts) (now ends) (now nets) totalAtMost)) × (length (now starts) ≤ longRestsAtMost) × (bound ≤ totalAtMost)
+        × (n ≤ length (now starts)) ⌝ }
+    ensures { λ r. ⌜ DayReadable (now (starts .entry)) (now (ends .entry)) bound n (r .yes) ⌝ }
 {
     let from = day_start(ends, n);
     if bound <= from {
-        return false;
+        return Swept {
+            yes: false,
+            at: one_less(one_less(n)),
+        };
     }
-    some_reading(&starts[..n], &ends[..n], from, table)
+    some_reading(
+        &starts[..n],
+        &ends[..n],
+        &nets[..n],
+        from,
+        nogoods,
+        front,
+        other,
+    )
 }
 
-// After how many long rests the day begins in which the breach lies, by halving.
-fn last_day(starts: &[u32], ends: &[u32], bound: u32, table: &mut [u32]) -> usize
-    requires { ⌜ (Lies (restsOnly (now starts) (now ends) totalAtMost)) × (length (now starts) ≤ longRestsAtMost) × (bound ≤ totalAtMost) × (0 < bound) × Roomy (now table) ⌝ }
+// A number if it lies between two others, else their middle.
+fn near(low: usize, high: usize, n: usize, middle: usize) -> usize
+    requires { ⌜ (low < middle) × (middle < high) ⌝ }
+    ensures { λ r. ⌜ (low < r) × (r < high) ⌝ }
+{
+    if n <= low {
+        return middle;
+    }
+    if high <= n {
+        return middle;
+    }
+    n
+}
+
+// A number between two others: one of the two after a guess, if they lie there, else the middle.
+fn between(low: usize, high: usize, guess: usize) -> usize
+    requires { ⌜ (low + 1 < high) × (high ≤ 2000) ⌝ }
+    ensures { λ r. ⌜ (low < r) × (r < high) ⌝ }
+{
+    let middle = low + (high - low) / 2;
+    if high <= guess {
+        return middle;
+    }
+    let first = guess + 1;
+    if first <= low {
+        return near(low, high, first + 1, middle);
+    }
+    near(low, high, first, middle)
+}
+
+// After how many long rests the day begins in which the breach lies. Where the last sweep ran empty is asked first.
+fn last_day(
+    starts: &[u32],
+    ends: &[u32],
+    nets: &[u32],
+    bound: u32,
+    guess: usize,
+    nogoods: &mut [u32],
+    front: &mut [u32],
+    other: &mut [u32],
+) -> usize
+    requires { ⌜ (Lies (restsOnly (now starts) (now ends) (now nets) totalAtMost)) × (length (now starts) ≤ longRestsAtMost) × (bound ≤ totalAtMost) × (0 < bound) ⌝ }
     ensures { λ r. ⌜ LastDay (now (starts .entry)) (now (ends .entry)) bound r ⌝ }
 {
     let mut low = 0;
     let mut high = starts.len() + 1;
+    let mut hint = guess;
     while 1 < high - low {
-        let middle = low + (high - low) / 2;
-        if day_readable(starts, ends, bound, middle, table) {
+        let middle = between(low, high, hint);
+        let asked = day_readable(starts, ends, nets, bound, middle, nogoods, front, other);
+        if asked.yes {
             low = middle;
         } else {
             high = middle;
+            hint = asked.at;
         }
     }
     low
@@ -196,13 +294,23 @@ fn next_demand(ends: &[u32], s: u32) -> u32
 }
 
 // Of the judged ends past one and up to another, the first that leaves these long rests without a reading, or the one past them.
-fn first_without(starts: &[u32], ends: &[u32], from: u32, top: u32, table: &mut [u32]) -> u32
-    requires { ⌜ (Lies (restsOnly (now starts) (now ends) from)) × (length (now starts) ≤ longRestsAtMost) × (from ≤ top) × (top ≤ totalAtMost) × Roomy (now table) ⌝ }
+fn first_without(
+    starts: &[u32],
+    ends: &[u32],
+    nets: &[u32],
+    from: u32,
+    top: u32,
+    nogoods: &mut [u32],
+    front: &mut [u32],
+    other: &mut [u32],
+) -> u32
+    requires { ⌜ (Lies (restsOnly (now starts) (now ends) (now nets) from)) × (length (now starts) ≤ longRestsAtMost) × (from ≤ top) × (top ≤ totalAtMost) ⌝ }
     ensures { λ r. ⌜ FirstWithout (now (starts .entry)) (now (ends .entry)) from top r ⌝ }
 {
     let mut next = next_demand(ends, from);
     while next <= top {
-        if !some_reading(starts, ends, next, table) {
+        let asked = some_reading(starts, ends, nets, next, nogoods, front, other);
+        if !asked.yes {
             return next;
         }
         next = next_demand(ends, next);
@@ -249,14 +357,34 @@ fn next_active(words: &[u32], x: u32, bound: u32) -> u32
 }
 
 // The least stretch without a lawful reading, up to one that has none.
-fn least_without(words: &[u32], starts: &[u32], ends: &[u32], bound: u32, table: &mut [u32]) -> u32
-    requires { ⌜ (length (minutesOf (now words)) ≤ totalAtMost) × (AllRests (minutesOf (now words)) (now starts) (now ends)) × (Bound (minutesOf (now words)) bound) × Roomy (now table) ⌝ }
+fn least_without(
+    words: &[u32],
+    starts: &[u32],
+    ends: &[u32],
+    nets: &[u32],
+    bound: u32,
+    guess: usize,
+    nogoods: &mut [u32],
+    front: &mut [u32],
+    other: &mut [u32],
+) -> u32
+    requires { ⌜ (length (minutesOf (now words)) ≤ totalAtMost) × (AllRests (minutesOf (now words)) (now starts) (now ends) (now nets))
+        × (Bound (minutesOf (now words)) bound) ⌝ }
     ensures { λ r. ⌜ r ≡ breachMinute (minutesOf (now (words .entry))) ⌝ }
 {
-    let n = last_day(starts, ends, bound, table);
+    let n = last_day(starts, ends, nets, bound, guess, nogoods, front, other);
     let from = day_start(ends, n);
     let top = day_top(starts, n, bound);
-    let after = first_without(&starts[..n], &ends[..n], from, top, table);
+    let after = first_without(
+        &starts[..n],
+        &ends[..n],
+        &nets[..n],
+        from,
+        top,
+        nogoods,
+        front,
+        other,
+    );
     next_active(words, after, bound)
 }
 
@@ -265,21 +393,46 @@ fn breach_of(
     words: &[u32],
     starts: &[u32],
     ends: &[u32],
+    nets: &[u32],
     total: u32,
     first: Break,
-    table: &mut [u32],
+    guess: usize,
+    nogoods: &mut [u32],
+    front: &mut [u32],
+    other: &mut [u32],
 ) -> Breach
-    requires { ⌜ (length (minutesOf (now words)) ≤ totalAtMost) × (AllRests (minutesOf (now words)) (now starts) (now ends)) × (total ≡ length (minutesOf (now words))) × (first ≡ accountFrom opening (minutesOf (now words)) .first) × ((HasReading (minutesOf (now words)) → ⊥)) × Roomy (now table) ⌝ }
+    requires { ⌜ (length (minutesOf (now words)) ≤ totalAtMost) × (AllRests (minutesOf (now words)) (now starts) (now ends) (now nets))
+        × (total ≡ length (minutesOf (now words))) × (first ≡ accountFrom opening (minutesOf (now words)) .first) × ((HasReading (minutesOf (now words)) → ⊥)) ⌝ }
     ensures { λ r. ⌜ broken (r .minute) (r .article) ≡ findingOf (verdict (minutesOf (now (words .entry)))) ⌝ }
 {
     if first.rule == 0 {
-        let minute = least_without(words, starts, ends, total, table);
+        let minute = least_without(
+            words,
+            starts,
+            ends,
+            nets,
+            total,
+            guess,
+            nogoods,
+            front,
+            other,
+        );
         return Breach {
             minute: minute,
             article: NO_FIXED_RULE,
         };
     }
-    let minute = least_without(words, starts, ends, first.at, table);
+    let minute = least_without(
+        words,
+        starts,
+        ends,
+        nets,
+        first.at,
+        guess,
+        nogoods,
+        front,
+        other,
+    );
     if minute < first.at {
         return Breach {
             minute: minute,
@@ -293,16 +446,215 @@ fn breach_of(
 }
 
 // Whether a recording has a lawful reading, and its breach where it has none, from its long rests.
-fn ruling_of(words: &[u32], starts: &[u32], ends: &[u32], total: u32, rests: Rests) -> Ruling
-    requires { ⌜ (length (minutesOf (now words)) ≤ totalAtMost) × (total ≡ length (minutesOf (now words))) × (Whole (minutesOf (now words)) (now starts) (now ends) rests) ⌝ }
+fn ruling_of(
+    words: &[u32],
+    starts: &[u32],
+    ends: &[u32],
+    nets: &[u32],
+    total: u32,
+    rests: Rests,
+    nogoods: &mut [u32],
+    front: &mut [u32],
+    other: &mut [u32],
+) -> Ruling
+    requires { ⌜ (length (minutesOf (now words)) ≤ totalAtMost) × (total ≡ length (minutesOf (now words)))
+        × (Whole (minutesOf (now words)) (now starts) (now ends) (now nets) rests) ⌝ }
     ensures { λ r. ⌜ findingIn r ≡ findingOf (verdict (minutesOf (now (words .entry)))) ⌝ }
 {
-    let mut table = [0u32; hopeless::TABLE_WORDS];
-    if lawful_by(starts, ends, rests.judged, rests.rule, &mut table) {
+    let asked = lawful_by(
+        starts,
+        ends,
+        nets,
+        rests.judged,
+        rests.rule,
+        nogoods,
+        front,
+        other,
+    );
+    if asked.yes {
         return Ruling::Lawful;
     }
     let first = rests.first;
-    Ruling::Unlawful(breach_of(words, starts, ends, total, first, &mut table))
+    let breach = breach_of(
+        words,
+        starts,
+        ends,
+        nets,
+        total,
+        first,
+        asked.at,
+        nogoods,
+        front,
+        other,
+    );
+    Ruling::Unlawful(breach)
+}
+
+// The verdict on a recording with this measure: refusal 4; a pass writes the first lawful reading. The nogoods and the four fronts are room for the
+// search, of any length.
+pub fn verdict_within(
+    words: &[u32],
+    measure: Measure,
+    reading: &mut [u8],
+    nogoods: &mut [u32],
+    front: &mut [u32],
+    other: &mut [u32],
+    known: &mut [u32],
+    beside: &mut [u32],
+) -> Outcome
+    requires { ⌜ measured (now words) ≡ answered measure ⌝ }
+    ensures { λ r. ⌜ (outcomeBy r ≡ outcome (judged (now (words .entry)) (length (now (reading .entry)))))
+        × (now (reading .exit) ≡ readingAfter (judged (now (words .entry)) (length (now (reading .entry)))) (now (reading .entry))) ⌝ }
+{
+    let total = measure.total;
+    let count = measure.count;
+    let size = entries::ENTRY_BYTES * (count as usize);
+    if reading.len() < size {
+        return Outcome::Refused(4);
+    }
+    let mut starts = [0u32; recording::LONG_RESTS];
+    let mut ends = [0u32; recording::LONG_RESTS];
+    let mut nets = [0u32; recording::LONG_RESTS];
+    let whole = rests_of(words, total, &mut starts, &mut ends, &mut nets);
+    let k = whole.count;
+    let ruling = ruling_of(
+        words,
+        &starts[..k],
+        &ends[..k],
+        &nets[..k],
+        total,
+        whole,
+        nogoods,
+        front,
+        other,
+    );
+    let Ruling::Unlawful(breach) = ruling else {
+        first_reading::write_first(
+            &starts[..k],
+            &ends[..k],
+            &nets[..k],
+            whole.judged,
+            &mut reading[..size],
+            nogoods,
+            front,
+            other,
+            known,
+            beside,
+        );
+        return Outcome::Passed(size as u32);
+    };
+    Outcome::Breached(breach)
+}
+
+// The same with room for 8 long rests, and 32 states in a front.
+fn within_few(words: &[u32], measure: Measure, reading: &mut [u8]) -> Outcome
+    requires { ⌜ measured (now words) ≡ answered measure ⌝ }
+    ensures { λ r. ⌜ (outcomeBy r ≡ outcome (judged (now (words .entry)) (length (now (reading .entry)))))
+        × (now (reading .exit) ≡ readingAfter (judged (now (words .entry)) (length (now (reading .entry)))) (now (reading .entry))) ⌝ }
+{
+    let mut nogoods = [0u32; 1928];
+    let mut front = [0u32; 480];
+    let mut other = [0u32; 480];
+    let mut known = [0u32; 480];
+    let mut beside = [0u32; 480];
+    verdict_within(
+        words,
+        measure,
+        reading,
+        &mut nogoods,
+        &mut front,
+        &mut other,
+        &mut known,
+        &mut beside,
+    )
+}
+
+// The same with room for 32 long rests, and 64 states in a front.
+fn within_some(words: &[u32], measure: Measure, reading: &mut [u8]) -> Outcome
+    requires { ⌜ measured (now words) ≡ answered measure ⌝ }
+    ensures { λ r. ⌜ (outcomeBy r ≡ outcome (judged (now (words .entry)) (length (now (reading .entry)))))
+        × (now (reading .exit) ≡ readingAfter (judged (now (words .entry)) (length (now (reading .entry)))) (now (reading .entry))) ⌝ }
+{
+    let mut nogoods = [0u32; 7712];
+    let mut front = [0u32; 960];
+    let mut other = [0u32; 960];
+    let mut known = [0u32; 960];
+    let mut beside = [0u32; 960];
+    verdict_within(
+        words,
+        measure,
+        reading,
+        &mut nogoods,
+        &mut front,
+        &mut other,
+        &mut known,
+        &mut beside,
+    )
+}
+
+// The same with room for 96 long rests, and 256 states in a front.
+fn within_many(words: &[u32], measure: Measure, reading: &mut [u8]) -> Outcome
+    requires { ⌜ measured (now words) ≡ answered measure ⌝ }
+    ensures { λ r. ⌜ (outcomeBy r ≡ outcome (judged (now (words .entry)) (length (now (reading .entry)))))
+        × (now (reading .exit) ≡ readingAfter (judged (now (words .entry)) (length (now (reading .entry)))) (now (reading .entry))) ⌝ }
+{
+    let mut nogoods = [0u32; 23136];
+    let mut front = [0u32; 3840];
+    let mut other = [0u32; 3840];
+    let mut known = [0u32; 3840];
+    let mut beside = [0u32; 3840];
+    verdict_within(
+        words,
+        measure,
+        reading,
+        &mut nogoods,
+        &mut front,
+        &mut other,
+        &mut known,
+        &mut beside,
+    )
+}
+
+// The same with room for 223 long rests, and 1024 states in a front.
+fn within_most(words: &[u32], measure: Measure, reading: &mut [u8]) -> Outcome
+    requires { ⌜ measured (now words) ≡ answered measure ⌝ }
+    ensures { λ r. ⌜ (outcomeBy r ≡ outcome (judged (now (words .entry)) (length (now (reading .entry)))))
+        × (now (reading .exit) ≡ readingAfter (judged (now (words .entry)) (length (now (reading .entry)))) (now (reading .entry))) ⌝ }
+{
+    let mut nogoods = [0u32; 53743];
+    let mut front = [0u32; 15360];
+    let mut other = [0u32; 15360];
+    let mut known = [0u32; 15360];
+    let mut beside = [0u32; 15360];
+    verdict_within(
+        words,
+        measure,
+        reading,
+        &mut nogoods,
+        &mut front,
+        &mut other,
+        &mut known,
+        &mut beside,
+    )
+}
+
+// The same with room by the number of long rests, so that a short recording does not pay for what a long one needs.
+fn in_room(words: &[u32], measure: Measure, reading: &mut [u8]) -> Outcome
+    requires { ⌜ measured (now words) ≡ answered measure ⌝ }
+    ensures { λ r. ⌜ (outcomeBy r ≡ outcome (judged (now (words .entry)) (length (now (reading .entry)))))
+        × (now (reading .exit) ≡ readingAfter (judged (now (words .entry)) (length (now (reading .entry)))) (now (reading .entry))) ⌝ }
+{
+    let count = measure.count;
+    if count <= FEW {
+        return within_few(words, measure, reading);
+    }
+    if count <= SOME {
+        return within_some(words, measure, reading);
+    }
+    if count <= MANY {
+        return within_many(words, measure, reading);
+    }
+    within_most(words, measure, reading)
 }
 
 // The verdict with minute and article and no reading: refusals 1 and 2.
@@ -316,25 +668,27 @@ pub fn judge(words: &[u32]) -> Judgement
     let total = measure.total;
     let mut starts = [0u32; recording::LONG_RESTS];
     let mut ends = [0u32; recording::LONG_RESTS];
-    let rests = rests_of(words, total, &mut starts, &mut ends);
+    let mut nets = [0u32; recording::LONG_RESTS];
+    let rests = rests_of(words, total, &mut starts, &mut ends, &mut nets);
     let k = rests.count;
-    let ruling = ruling_of(words, &starts[..k], &ends[..k], total, rests);
+    let mut nogoods = [0u32; 53743];
+    let mut front = [0u32; 15360];
+    let mut other = [0u32; 15360];
+    let ruling = ruling_of(
+        words,
+        &starts[..k],
+        &ends[..k],
+        &nets[..k],
+        total,
+        rests,
+        &mut nogoods,
+        &mut front,
+        &mut other,
+    );
     let Ruling::Unlawful(breach) = ruling else {
         return Judgement::Pass;
     };
     Judgement::Breached(breach)
-}
-
-// The first lawful reading of a recording that has one.
-pub fn first_reading(words: &[u32], total: u32, reading: &mut [u8])
-    requires { ⌜ (length (minutesOf (now words)) ≤ totalAtMost) × (total ≡ length (minutesOf (now words))) × (length (now reading) ≡ readingSize (minutesOf (now words))) ⌝ }
-    ensures { λ r. ⌜ ((f : List ℕ) → firstLawful (minutesOf (now (words .entry))) ≡ some f → now (reading .exit) ≡ f) ⌝ }
-{
-    let mut starts = [0u32; recording::LONG_RESTS];
-    let mut ends = [0u32; recording::LONG_RESTS];
-    let rests = rests_of(words, total, &mut starts, &mut ends);
-    let k = rests.count;
-    first_reading::write_first(&starts[..k], &ends[..k], rests.judged, reading)
 }
 
 // The verdict: refusals 1 and 2, then 4; a pass writes the first lawful reading.
@@ -345,20 +699,5 @@ pub fn verdict(words: &[u32], reading: &mut [u8]) -> Outcome
     let Weighing::Weighed(measure) = weighing else {
         return Outcome::Refused(recording::refusal_of(weighing));
     };
-    let total = measure.total;
-    let count = measure.count;
-    let size = entries::ENTRY_BYTES * (count as usize);
-    if reading.len() < size {
-        return Outcome::Refused(4);
-    }
-    let mut starts = [0u32; recording::LONG_RESTS];
-    let mut ends = [0u32; recording::LONG_RESTS];
-    let whole = rests_of(words, total, &mut starts, &mut ends);
-    let k = whole.count;
-    let ruling = ruling_of(words, &starts[..k], &ends[..k], total, whole);
-    let Ruling::Unlawful(breach) = ruling else {
-        first_reading::write_first(&starts[..k], &ends[..k], whole.judged, &mut reading[..size]);
-        return Outcome::Passed(size as u32);
-    };
-    Outcome::Breached(breach)
+    in_room(words, measure, reading)
 }

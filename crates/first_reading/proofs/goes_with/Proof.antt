@@ -1,54 +1,73 @@
 -- `first_reading::goes_with` meets its contract. Assumes nothing.
+use borrow.Author.Needs.{needs}
 use mathlib.Core.Path.{refl, sym, subst}
+use mathlib.Core.Bool.{false≢true}
 use Prim.Native.Nat.{ℕ}
 use native.Mathlib.Omega.{arith}
 use borrow.Author.Tests.{not-true, not-false}
 use denote.Ref.{now}
 use Rattle.reading.specs.Items.{paid}
-use Rattle.search.specs.Search.{courseOf, Later, Lent}
-use Rattle.search.proofs.Answers.{refuse, carry}
-use Rattle.first_reading.proofs.Placing.{sized-of, sized-with, lent-of, before-with, room-with}
-use borrow.Author.Needs.{needs}
+use Rattle.search.specs.Search.{courseOf, Lent}
+use Rattle.first_reading.proofs.Choosing.{with-loads}
+use Rattle.first_reading.proofs.Placing.{if-no, if-carry, limited, limited-with, lent-of, before-with, room-with, with-carrier}
 use Rattle.first_reading.proofs.goes_with.Statement.{statement}
 use Rattle.first_reading.proofs.goes_with.Tie as tie
 
 carries-requires : tie.Need-carries-requires
-carries-requires c κs = let s = (c .before .before .before .before .before .before) in (sized-of (s .pre .0), s .pre .2, s .pre .3, s .pre .4, s .pre .5)
+carries-requires c κs = let s = (c .before .before .before .before .before .before .before .before .before .before .before) in (limited (s .pre .0), s .pre .1 .within, s .pre .3, s .pre .4, s .pre .5)
 
 returns : tie.Need-returns
 returns c =
-    let s = (c .before .before .before .before .before .before .before .before) in let k = courseOf (now (s .args .starts)) (now (s .args .ends)) (now (s .args .promised)) (s .args .s) in (
-      refuse (λ g. c .before .carries .ensures .no (not-true _ (c .if1 .taken)) (record { carried = g .carried; fits = room-with k (s .args .j) (s .args .w) (s .args .next) (now (s .args .owed)) (s .args .x) (s .pre .0 .promised-too) g })) refl (s .pre .6),
+    let s = (c .before .before .before .before .before .before .before .before .before .before .before .before .before) in
+    let k = courseOf (now (s .args .starts)) (now (s .args .ends)) (now (s .args .nets)) (now (s .args .loads)) (s .args .s) in (
+      if-no
+          (λ g. c .before .carries .ensures .no (not-true _ (c .if1 .taken))
+          (record { carried = g .carried; fits = room-with k (s .args .j) (s .args .w) (s .args .next) (now (s .args .owed)) (s .args .x) (s .pre .0 .sized .loads-too) g }))
+          refl (s .pre .6),
+      λ h. absurd (false≢true h),
       refl,
     )
 
 sub-reduction : tie.Need-sub-reduction
-sub-reduction c = let s = (c .before .before .before .before .before .before .before .before .before .before) in omega (arith, s .pre .0 .lies .proper (s .args .j) (s .pre .2))
+sub-reduction c =
+    let s = c .before .before .before .before .before .before .before .before .before .before .before .before .before .before .before in
+    omega (arith, s .pre .0 .sized .lies .proper (s .args .j) (s .pre .1 .within))
 
 reduction-requires : tie.Need-reduction-requires
-reduction-requires c κs = let s = (c .before .before .before .before .before .before .before .before .before .before .before) in omega (arith, s .pre .0 .promised-low (s .args .j))
+reduction-requires c κs =
+    let s = c .before .before .before .before .before .before .before .before .before .before .before .before .before .before .before .before in
+    omega (arith, s .pre .0 .sized .loads-low (s .args .j))
 
-asks-with-requires : tie.Need-asks-with-requires
-asks-with-requires c κs =
-    let s = (c .before .before .before .before .before .before .before .before .before .before .before .before .before .before .before) in let k = courseOf (now (s .args .starts)) (now (s .args .ends)) (now (s .args .promised)) (s .args .s) in
-    let y = c .before .before .before .before .before .before .before .before .carries .ensures .yes (not-false _ (c .before .before .before .before .before .before .before .if1 .left)) in (
-      subst (λ (d : ℕ). Lent (courseOf (now (s .args .starts)) (now (s .args .ends)) (paid (now (s .args .promised)) (s .args .x) d) (s .args .s)) (now (s .args .owed)) (now (s .args .table))) (sym (c .before .before .before .reduction .ensures))
-          (lent-of (sized-with k (s .args .j) (sized-of (s .pre .0)) (s .args .x) (s .pre .4) (y .fits)) refl (s .pre .0) refl refl),
-      before-with k (paid (now (s .args .promised)) (s .args .x) (c .before .before .before .reduction .result)) (s .pre .1),
-      s .pre .2,
-      omega (arith, s .pre .4, s .pre .0 .promised-too),
+completes-beside-requires : tie.Need-completes-beside-requires
+completes-beside-requires c κs =
+    let at-reduction = c .before .before .before .before .before .before .before in
+    let at-if1 = at-reduction .before .before .before .before in
+    let at-carries = at-if1 .before in
+    let s = at-carries .before .before .before .before .before .before .before .before .before .before .before .before in
+    let k = courseOf (now (s .args .starts)) (now (s .args .ends)) (now (s .args .nets)) (now (s .args .loads)) (s .args .s) in
+    let y = at-carries .carries .ensures .yes (not-false _ (at-if1 .if1 .left)) in (
+      s .pre .0,
+      subst (λ (d : ℕ). Lent (with-loads k (paid (now (s .args .loads)) (s .args .x) d)) (now (s .args .owed))) (sym (at-reduction .reduction .ensures))
+          (lent-of (limited-with k (s .args .j) (limited (s .pre .0)) (s .args .x) (s .pre .4) (y .fits)) refl (s .pre .0) refl),
+      s .pre .1,
+      before-with k (paid (now (s .args .loads)) (s .args .x) (at-reduction .reduction .result)) (s .pre .2),
+      s .pre .4,
+      s .pre .5,
       s .pre .6,
     )
 
 returns-2 : tie.Need-returns-2
 returns-2 c =
-    let s = (c .before .before .before .before .before .before .before .before .before .before .before .before .before .before .before .before .before .before .before .before .before .before) in let k = courseOf (now (s .args .starts)) (now (s .args .ends)) (now (s .args .promised)) (s .args .s) in
-    let y = c .before .before .before .before .before .before .before .before .before .before .before .before .before .before .before .carries .ensures .yes (not-false _ (c .before .before .before .before .before .before .before .before .before .before .before .before .before .before .if1 .left)) in (
-      carry
-          (λ p. record { carried = y .carried; then = subst (λ (d : ℕ). Later (courseOf (now (s .args .starts)) (now (s .args .ends)) (paid (now (s .args .promised)) (s .args .x) d) (s .args .s)) (s .args .j) (s .args .next) (now (s .args .owed))) (c .before .before .before .before .before .before .before .before .before .before .reduction .ensures) p })
-          (λ g. subst (λ (d : ℕ). Later (courseOf (now (s .args .starts)) (now (s .args .ends)) (paid (now (s .args .promised)) (s .args .x) d) (s .args .s)) (s .args .j) (s .args .next) (now (s .args .owed))) (sym (c .before .before .before .before .before .before .before .before .before .before .reduction .ensures)) (g .then))
-          (c .before .before .before .before .before .before .asks-with .ensures .0),
-      c .before .before .before .before .before .before .asks-with .ensures .1,
+    let at-completes-beside = c .before .before .before .before .before .before .before .before .before .before .before .before .before .before in
+    let at-reduction = at-completes-beside .before .before .before .before .before .before .before .before in
+    let at-if1 = at-reduction .before .before .before .before in
+    let at-carries = at-if1 .before in
+    let s = at-carries .before .before .before .before .before .before .before .before .before .before .before .before in
+    let k = courseOf (now (s .args .starts)) (now (s .args .ends)) (now (s .args .nets)) (now (s .args .loads)) (s .args .s) in
+    let y = at-carries .carries .ensures .yes (not-false _ (at-if1 .if1 .left)) in (
+      if-carry (with-carrier k (s .args .j) (s .args .w) (s .args .next) (now (s .args .owed)) (s .args .x) (at-reduction .reduction .ensures) (y .carried)) (at-completes-beside .completes-beside .ensures .0),
+      λ _. y .fits,
+      at-completes-beside .completes-beside .ensures .1,
     )
 
 pub goes-with-spec : {M : Type 1} → statement M
@@ -66,7 +85,11 @@ goes-with-spec =
     (λ c. search needs)
     (λ c. search needs)
     reduction-requires
-    asks-with-requires
+    completes-beside-requires
+    (λ c. search needs)
+    (λ c. search needs)
+    (λ c. search needs)
+    (λ c. search needs)
     (λ c. search needs)
     (λ c. search needs)
     (λ c. search needs)

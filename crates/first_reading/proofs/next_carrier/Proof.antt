@@ -1,8 +1,8 @@
 -- `first_reading::next_carrier` meets its contract. Assumes nothing.
+use borrow.Author.Needs.{needs}
 use mathlib.Core.Path.{refl}
 use mathlib.Core.Logic.{inl, inr}
 use native.Mathlib.Omega.{arith}
-use borrow.Author.Needs.{needs}
 use Rattle.first_reading.proofs.next_carrier.Statement.{statement}
 use Rattle.first_reading.proofs.next_carrier.Tie as tie
 

@@ -1,7 +1,7 @@
 -- `first_reading::put_entry` meets its contract. Assumes nothing.
+use borrow.Author.Needs.{needs}
 use native.Mathlib.Omega.{arith}
 use lib.ListN.{length-set}
-use borrow.Author.Needs.{needs}
 use Rattle.first_reading.proofs.put_entry.Statement.{statement}
 use Rattle.first_reading.proofs.put_entry.Tie as tie
 

@@ -1,6 +1,6 @@
 -- `first_reading::renew` meets its contract. Assumes nothing.
-use mathlib.Core.Path.{refl}
 use borrow.Author.Needs.{needs}
+use mathlib.Core.Path.{refl}
 use Rattle.first_reading.proofs.renew.Statement.{statement}
 use Rattle.first_reading.proofs.renew.Tie as tie
 
@@ -11,4 +11,10 @@ returns-2 : tie.Need-returns-2
 returns-2 c = record { kept = λ z. absurd (c .before .before .before .before .if1 .left z); empty = λ _. c .before .before .clear .ensures }
 
 pub renew-spec : {M : Type 1} → statement M
-renew-spec = tie.close (tie.spec returns (λ c κs. search needs) (λ c. search needs) returns-2)
+renew-spec =
+    tie.close
+    (tie.spec
+    returns
+    (λ c. search needs)
+    (λ c. search needs)
+    returns-2)

@@ -42,7 +42,10 @@ unfolding formed formedDaily formedWeekly touches _and_ _or_
 returns-8 c = simp (c .before .before .before .before .before .before .before .before .before .before .before .before .if3 .left, le-leb _ _ (c .before .before .before .before .before .before .before .before .before .before .if4 .left), lt-ltb _ _ (c .before .before .before .before .before .before .before .if5 .left), lt-ltb _ _ (c .before .before .before .before .if6 .left), ne-eqb _ _ (c .before .before .if7 .left), le-ltb _ _ (c .if8 .taken))
 
 returns-9 : tie.Need-returns-9
-returns-9 c = formed-carried _ _ (c .before .before .before .before .before .before .before .before .before .before .before .before .before .if3 .left) (omega arith) (omega arith) (omega arith) (c .before .before .before .if7 .left) (omega arith)
+returns-9 c =
+    let a = (c .before .before .before .before .before .before .before .before .before .before .before .before .before .before .before .before .before) .args in
+    let w = c .before .before .before .before .before .before .before .before .before .before .before .before .before .if3 .left in
+    formed-carried _ (a .x) w (omega arith) (omega arith) (omega arith) (c .before .before .before .if7 .left) (omega arith)
 
 pub formed-item-spec : {M : Type 1} → statement M
 formed-item-spec =

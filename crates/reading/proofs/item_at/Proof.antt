@@ -4,7 +4,10 @@ use Rattle.reading.proofs.item_at.Statement.{statement}
 use Rattle.reading.proofs.item_at.Tie as tie
 
 returns : tie.Need-returns
-returns c = simp (c .before .before .before .before .before .before .before .before .before .end-before .ensures, c .before .before .before .before .before .wide .ensures, c .before .before .before .wide2 .ensures, c .before .wide3 .ensures)
+returns c =
+    let e = c .before .before .before .before .before .before .before .before .before .before .end-before .ensures in
+    let k = c .before .before .before .before .before .wide .ensures in
+    simp (e, k, c .before .before .before .wide2 .ensures, c .before .wide3 .ensures)
 
 pub item-at-spec : {M : Type 1} → statement M
 item-at-spec =
@@ -16,6 +19,8 @@ item-at-spec =
     (λ c. search needs)
     (λ c. search needs)
     (λ c κs. search needs)
+    (λ c. search needs)
+    (λ c. search needs)
     (λ c. search needs)
     (λ c. search needs)
     (λ c. search needs)

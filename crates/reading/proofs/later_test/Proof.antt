@@ -8,31 +8,62 @@ use Rattle.reading.proofs.later_test.Statement.{statement}
 use Rattle.reading.proofs.later_test.Tie as tie
 
 form-test-requires : tie.Need-form-test-requires
-form-test-requires c κs = ((c .before .before .before .before) .pre .0, zeros-at longRestsAtMost)
+form-test-requires c κs = ((c .before .before .before .before .before) .pre .0, zeros-at longRestsAtMost)
 
 returns : tie.Need-returns
 returns c = later-six _ _ _ _ _ (sym (not-true _ (c .if1 .taken)) ∙ c .before .form-test .ensures)
 
 rest-walk-requires : tie.Need-rest-walk-requires
-rest-walk-requires c κs = ((c .before .before .before .before .before .before .before .before .before) .pre .0, zeros-at longRestsAtMost, zeros-at 256, zeros-at 256, refl, refl)
+rest-walk-requires c κs = ((c .before .before .before .before .before .before .before .before .before .before) .pre .0, zeros-at longRestsAtMost, zeros-at 256, zeros-at 256, refl, refl)
 
 returns-2 : tie.Need-returns-2
-returns-2 c = later-seven _ _ _ _ _ (sym (not-false _ (c .before .before .before .before .before .before .before .before .before .if1 .left)) ∙ c .before .before .before .before .before .before .before .before .before .before .form-test .ensures) (rw (c .enum-told .given .1) at (c .before .before .before .before .before .rest-walk .ensures))
+returns-2 c =
+    let n = not-false _ (c .before .before .before .before .before .before .before .before .before .if1 .left) in
+    let f = c .before .before .before .before .before .before .before .before .before .before .form-test .ensures in
+    let w = c .before .before .before .before .before .rest-walk .ensures in
+    later-seven _ _ _ _ _ (sym n ∙ f) (rw (c .enum-told .given .1) at w)
 
 gap-rule-requires : tie.Need-gap-rule-requires
 gap-rule-requires c κs = (rw (c .before .t .given .1) at (c .before .before .before .before .before .before .rest-walk .ensures)) .last
 
 returns-3 : tie.Need-returns-3
-returns-3 c = later-broken _ _ _ _ _ (sym (not-false _ (c .before .before .before .before .before .before .before .before .before .before .before .before .before .if1 .left)) ∙ c .before .before .before .before .before .before .before .before .before .before .before .before .before .before .form-test .ensures) (rw (c .before .before .before .before .t .given .1) at (c .before .before .before .before .before .before .before .before .before .rest-walk .ensures)) (c .before .before .gap-rule .ensures) (c .before .smaller-of .ensures) (c .if2 .taken)
+returns-3 c =
+    let n = not-false _ (c .before .before .before .before .before .before .before .before .before .before .before .before .before .if1 .left) in
+    let f = c .before .before .before .before .before .before .before .before .before .before .before .before .before .before .form-test .ensures in
+    let w = c .before .before .before .before .before .before .before .before .before .rest-walk .ensures in
+    let h = rw (c .before .before .before .before .t .given .1) at w in
+    later-broken _ _ _ _ _ (sym n ∙ f) h (c .before .before .gap-rule .ensures) (c .before .smaller-of .ensures) (c .if2 .taken)
 
 pairs-test-requires : tie.Need-pairs-test-requires
-pairs-test-requires c κs = let h = (rw (c .before .before .before .before .before .before .t .given .1) at (c .before .before .before .before .before .before .before .before .before .before .before .rest-walk .ensures)) in ((c .before .before .before .before .before .before .before .before .before .before .before .before .before .before .before .before .before .before .before .before .before) .pre .0 .starts-in, (c .before .before .before .before .before .before .before .before .before .before .before .before .before .before .before .before .before .before .before .before .before) .pre .0 .ends-in, (c .before .before .before .before .before .before .before .before .before .before .before .before .before .before .before .before .before .before .before .before .before) .pre .1, h .weekly-size, h .regular-size, h .few-weeklies, h .few-regulars)
+pairs-test-requires c κs =
+    let p = (c .before .before .before .before .before .before .before .before .before .before .before .before .before .before .before .before .before .before .before .before .before .before) .pre in
+    let w = c .before .before .before .before .before .before .before .before .before .before .before .rest-walk .ensures in
+    let h = rw (c .before .before .before .before .before .before .t .given .1) at w in
+    (p .0 .starts-in, p .0 .ends-in, p .1, h .weekly-size, h .regular-size, h .few-weeklies, h .few-regulars)
 
 returns-4 : tie.Need-returns-4
-returns-4 c = rw (c .if3 .taken) at (later-last _ _ _ _ _ (sym (not-false _ (c .before .before .before .before .before .before .before .before .before .before .before .before .before .before .before .before .before .if1 .left)) ∙ c .before .before .before .before .before .before .before .before .before .before .before .before .before .before .before .before .before .before .form-test .ensures) (rw (c .before .before .before .before .before .before .before .before .t .given .1) at (c .before .before .before .before .before .before .before .before .before .before .before .before .before .rest-walk .ensures)) (c .before .before .before .before .before .before .gap-rule .ensures) (c .before .before .before .before .before .smaller-of .ensures) (c .before .before .before .before .if2 .left) ((c .before .before .before .before .before .before .before .before .before .before .before .before .before .before .before .before .before .before .before .before .before .before .before) .pre .1) (c .before .pairs-test .ensures))
+returns-4 c =
+    let z = c .before .before .before .before .before .before .before .before .before .before .before .before in
+    let p = (z .before .before .before .before .before .before .before .before .before .before .before .before) .pre in
+    let n = not-false _ (c .before .before .before .before .before .before .before .before .before .before .before .before .before .before .before .before .before .if1 .left) in
+    let f = c .before .before .before .before .before .before .before .before .before .before .before .before .before .before .before .before .before .before .form-test .ensures in
+    let w = c .before .before .before .before .before .before .before .before .before .before .before .before .before .rest-walk .ensures in
+    let h = rw (c .before .before .before .before .before .before .before .before .t .given .1) at w in
+    let g = c .before .before .before .before .before .before .gap-rule .ensures in
+    let m = c .before .before .before .before .before .smaller-of .ensures in
+    rw (c .if3 .taken) at (later-last _ _ _ _ _ (sym n ∙ f) h g m (c .before .before .before .before .if2 .left) (p .1) (c .before .pairs-test .ensures))
 
 returns-5 : tie.Need-returns-5
-returns-5 c = rw (c .if3 .left) at (later-last _ _ _ _ _ (sym (not-false _ (c .before .before .before .before .before .before .before .before .before .before .before .before .before .before .before .before .before .if1 .left)) ∙ c .before .before .before .before .before .before .before .before .before .before .before .before .before .before .before .before .before .before .form-test .ensures) (rw (c .before .before .before .before .before .before .before .before .t .given .1) at (c .before .before .before .before .before .before .before .before .before .before .before .before .before .rest-walk .ensures)) (c .before .before .before .before .before .before .gap-rule .ensures) (c .before .before .before .before .before .smaller-of .ensures) (c .before .before .before .before .if2 .left) ((c .before .before .before .before .before .before .before .before .before .before .before .before .before .before .before .before .before .before .before .before .before .before .before) .pre .1) (c .before .pairs-test .ensures))
+returns-5 c =
+    let z = c .before .before .before .before .before .before .before .before .before .before .before .before in
+    let p = (z .before .before .before .before .before .before .before .before .before .before .before .before) .pre in
+    let n = not-false _ (c .before .before .before .before .before .before .before .before .before .before .before .before .before .before .before .before .before .if1 .left) in
+    let f = c .before .before .before .before .before .before .before .before .before .before .before .before .before .before .before .before .before .before .form-test .ensures in
+    let w = c .before .before .before .before .before .before .before .before .before .before .before .before .before .rest-walk .ensures in
+    let h = rw (c .before .before .before .before .before .before .before .before .t .given .1) at w in
+    let g = c .before .before .before .before .before .before .gap-rule .ensures in
+    let m = c .before .before .before .before .before .smaller-of .ensures in
+    rw (c .if3 .left) at (later-last _ _ _ _ _ (sym n ∙ f) h g m (c .before .before .before .before .if2 .left) (p .1) (c .before .pairs-test .ensures))
 
 pub later-test-spec : {M : Type 1} → statement M
 later-test-spec =

@@ -1,18 +1,33 @@
 -- `search::closes` meets its contract. Assumes nothing.
 use borrow.Author.Needs.{needs}
 use mathlib.Core.Path.{sym, subst, _∙_}
-use mathlib.Core.Bool.{Bool, true, false, false≢true, true≢false}
+use mathlib.Core.Bool.{true, false, false≢true, true≢false}
 use native.Mathlib.Omega.{arith}
 use Rattle.completion.specs.declared.Brought.{Brought}
 use Rattle.completion.specs.States.{After}
+use denote.Ref.{now}
+use native.Mathlib.Nat.{le-refl}
+use Rattle.search.specs.Search.{courseOf}
+use Rattle.steps.proofs.NearRests.{in-order}
 use Rattle.search.proofs.closes.Statement.{statement}
 use Rattle.search.proofs.closes.Tie as tie
 
 returns : tie.Need-returns
 returns c = record { yes = λ h. absurd (false≢true h); no = λ _ p. omega (arith, p .0 .0, c .if1 .taken) }
 
+overdue-requires : tie.Need-overdue-requires
+overdue-requires c κs =
+    let s = (c .before .before .before .before .before .before .before) in
+    (omega (arith, s .pre .0 .below, s .pre .0 .sized .owed-too), s .pre .0 .unused)
+
 returns-2 : tie.Need-returns-2
 returns-2 c = record { yes = λ h. absurd (false≢true h); no = λ _ p. p .1 (c .before .overdue .ensures .yes (c .if2 .taken)) }
+
+advance-requires : tie.Need-advance-requires
+advance-requires c κs =
+    let s = (c .before .before .before .before .before .before .before .before .before) in
+    let k = courseOf (now (s .args .starts)) (now (s .args .ends)) (now (s .args .nets)) (now (s .args .loads)) (s .args .s) in
+    (in-order k (s .pre .0 .sized .lies), le-refl _, omega (arith, s .pre .0 .sized .judged), s .pre .1 .small, s .pre .1 .reached, λ l. absurd (omega arith))
 
 returns-3 : tie.Need-returns-3
 returns-3 c = record {
@@ -39,9 +54,9 @@ closes-spec =
     (λ c. search needs)
     returns
     (λ c. search needs)
-    (λ c κs. search needs)
+    overdue-requires
     returns-2
-    (λ c κs. search needs)
+    advance-requires
     (λ c. search needs)
     (λ c. search needs)
     returns-3

@@ -1,26 +1,28 @@
 -- `steps::debt_of` meets its contract. Assumes nothing.
 use borrow.Author.Needs.{needs}
-use borrow.Author.Tests.{le-leb, lt-leb}
-use Rattle.completion.specs.Completable.{debtOf}
+use mathlib.Core.Path.{ap}
+use native.Mathlib.Omega.{arith}
+use Rattle.rules.specs.Reading.{reductionOf}
+use Rattle.rules.specs.declared.Kind.the-variants.{Weekly}
 use Rattle.steps.proofs.debt_of.Statement.{statement}
 use Rattle.steps.proofs.debt_of.Tie as tie
 
-returns : tie.Need-returns
-unfolding debtOf
-returns c = simp (le-leb _ _ (c .if1 .taken))
+add-result-2 : tie.Need-add-result-2
+add-result-2 c =
+    let e = ap (λ x. reductionOf (Weekly x)) (c .before .standing .given .1) in
+    omega (arith, e, (c .before .before .before) .pre .0, (c .before .before .before) .pre .1)
 
 returns-2 : tie.Need-returns-2
-unfolding debtOf
-returns-2 c = simp (lt-leb _ _ (c .if1 .left))
+returns-2 c = simp (c .before .standing .given .1)
 
 pub debt-of-spec : {M : Type 1} → statement M
 debt-of-spec =
     tie.close
     (tie.spec
     (λ c. search needs)
-    returns
     (λ c. search needs)
     (λ c. search needs)
     (λ c. search needs)
+    add-result-2
     (λ c. search needs)
     returns-2)

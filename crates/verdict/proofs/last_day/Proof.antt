@@ -1,45 +1,62 @@
 -- `verdict::last_day` meets its contract. Assumes nothing.
+use borrow.Author.Needs.{needs}
 use mathlib.Core.Path.{_≡_, refl, _∙_}
 use Prim.Native.Nat.{_-_}
 use lib.ListN.{length}
 use native.Mathlib.Omega.{arith}
-use borrow.Author.Needs.{needs}
 use Rattle.verdict.proofs.Halving.{Halving, start-halving, halve-up, halve-down, halved}
 use Rattle.verdict.proofs.last_day.Statement.{statement}
 use Rattle.verdict.proofs.last_day.Tie as tie
 
 abbrev Inv-loop : tie.InvT-loop
-Inv-loop starts ends bound table₀ low₀ high₀ table low high = Halving starts ends bound low high × (length table ≡ length table₀)
+Inv-loop starts ends nets bound guess nogoods₀ front₀ other₀ low₀ high₀ hint₀ nogoods front other low high hint =
+    Halving starts ends bound low high × (length nogoods ≡ length nogoods₀) × (length front ≡ length front₀) × (length other ≡ length other₀)
 
 abbrev μ-loop : tie.MeasureT-loop
-μ-loop starts ends bound table₀ low₀ high₀ table low high = high - low
+μ-loop starts ends nets bound guess nogoods₀ front₀ other₀ low₀ high₀ hint₀ nogoods front other low high hint = high - low
 
 loop-holds : tie.Need-loop-holds Inv-loop μ-loop
-loop-holds c = (start-halving _ _ ((c .before .before .before) .pre .3) (omega arith), refl)
+loop-holds c = (start-halving _ _ ((c .before .before .before .before .before .before) .pre .3) (omega arith), refl, refl, refl)
 
 sub-loop : tie.Need-sub-loop Inv-loop μ-loop
 sub-loop c = omega (arith, c .loop .inv .0 .order)
 
-sub-middle : tie.Need-sub-middle Inv-loop μ-loop
-sub-middle c = omega (arith, c .before .loop .inv .0 .order)
-
-add-middle : tie.Need-add-middle Inv-loop μ-loop
-add-middle c = omega (arith, c .before .loop .inv .0 .order, c .before .loop .inv .0 .within, (c .before .before .before .before .before) .pre .1)
+between-requires : tie.Need-between-requires Inv-loop μ-loop
+between-requires c κs = (omega (arith, c .before .loop .inv .0 .order, c .loop-test .taken), omega (arith, c .before .loop .inv .0 .within, (c .before .before .before .before .before .before .before .before) .pre .1))
 
 day-readable-requires : tie.Need-day-readable-requires Inv-loop μ-loop
-day-readable-requires c κs = ((c .before .before .before .before .before .before) .pre .0, (c .before .before .before .before .before .before) .pre .1, (c .before .before .before .before .before .before) .pre .2, omega (arith, c .before .before .loop .inv .0 .order, c .before .before .loop .inv .0 .within, c .before .loop-test .taken), omega (arith, c .before .before .loop .inv .1, (c .before .before .before .before .before .before) .pre .4))
+day-readable-requires c κs = ((c .before .before .before .before .before .before .before .before .before .before .before .before) .pre .0, (c .before .before .before .before .before .before .before .before .before .before .before .before) .pre .1, (c .before .before .before .before .before .before .before .before .before .before .before .before) .pre .2, omega (arith, c .before .before .before .between .ensures .1, c .before .before .before .before .before .loop .inv .0 .within))
 
 loop-less : tie.Need-loop-less Inv-loop μ-loop
-loop-less c = omega (arith, c .before .before .before .before .before .before .loop .inv .0 .order, c .before .before .before .before .before .loop-test .taken)
+loop-less c = omega (arith, c .before .before .before .before .before .before .before .before .before .before .before .between .ensures .0, c .before .before .before .before .before .before .before .before .before .before .before .between .ensures .1)
 
 loop-again : tie.Need-loop-again Inv-loop μ-loop
-loop-again c = (halve-up (c .before .before .before .before .before .before .loop .inv .0) (c .before .before .before .day-readable .ensures) (omega (arith, c .before .before .before .before .before .before .loop .inv .0 .order, c .before .before .before .before .before .loop-test .taken)) (omega (arith, c .before .before .before .before .before .before .loop .inv .0 .order, c .before .before .before .before .before .loop-test .taken)) (c .if1 .taken), c .before .before .before .day-readable .kept .1 .1 .1 .1 .0 ∙ c .before .before .before .before .before .before .loop .inv .1)
+loop-again c = (
+  halve-up (c .before .before .before .before .before .before .before .before .before .before .before .before .before .loop .inv .0) (c .before .before .before .before .before .before .before .day-readable .ensures) (c .before .before .before .before .before .before .before .before .before .before .before .between .ensures .0) (c .before .before .before .before .before .before .before .before .before .before .before .between .ensures .1) (c .if1 .taken),
+  c .before .before .before .before .before .before .before .day-readable .kept .1 .1 .1 .1 .1 .0 ∙ c .before .before .before .before .before .before .before .before .before .before .before .before .before .loop .inv .1,
+  c .before .before .before .before .before .before .before .day-readable .kept .1 .1 .1 .1 .1 .1 .0 ∙ c .before .before .before .before .before .before .before .before .before .before .before .before .before .loop .inv .2,
+  c .before .before .before .before .before .before .before .day-readable .kept .1 .1 .1 .1 .1 .1 .1 .0 ∙ c .before .before .before .before .before .before .before .before .before .before .before .before .before .loop .inv .3,
+)
 
 loop-less-2 : tie.Need-loop-less-2 Inv-loop μ-loop
-loop-less-2 c = omega (arith, c .before .before .before .before .before .before .loop .inv .0 .order, c .before .before .before .before .before .loop-test .taken)
+loop-less-2 c = omega (arith, c .before .before .before .before .before .before .before .before .before .before .before .between .ensures .0, c .before .before .before .before .before .before .before .before .before .before .before .between .ensures .1)
 
 loop-again-2 : tie.Need-loop-again-2 Inv-loop μ-loop
-loop-again-2 c = (halve-down (c .before .before .before .before .before .before .loop .inv .0) (c .before .before .before .day-readable .ensures) (omega (arith, c .before .before .before .before .before .before .loop .inv .0 .order, c .before .before .before .before .before .loop-test .taken)) (omega (arith, c .before .before .before .before .before .before .loop .inv .0 .order, c .before .before .before .before .before .loop-test .taken)) (c .if1 .left), c .before .before .before .day-readable .kept .1 .1 .1 .1 .0 ∙ c .before .before .before .before .before .before .loop .inv .1)
+loop-again-2 c = (
+  halve-down (c .before .before .before .before .before .before .before .before .before .before .before .before .before .loop .inv .0) (c .before .before .before .before .before .before .before .day-readable .ensures) (c .before .before .before .before .before .before .before .before .before .before .before .between .ensures .0) (c .before .before .before .before .before .before .before .before .before .before .before .between .ensures .1) (c .if1 .left),
+  c .before .before .before .before .before .before .before .day-readable .kept .1 .1 .1 .1 .1 .0 ∙ c .before .before .before .before .before .before .before .before .before .before .before .before .before .loop .inv .1,
+  c .before .before .before .before .before .before .before .day-readable .kept .1 .1 .1 .1 .1 .1 .0 ∙ c .before .before .before .before .before .before .before .before .before .before .before .before .before .loop .inv .2,
+  c .before .before .before .before .before .before .before .day-readable .kept .1 .1 .1 .1 .1 .1 .1 .0 ∙ c .before .before .before .before .before .before .before .before .before .before .before .before .before .loop .inv .3,
+)
+
+same-length : tie.Need-same-length Inv-loop μ-loop
+same-length c = c .before .loop .inv .1
+
+same-length-2 : tie.Need-same-length-2 Inv-loop μ-loop
+same-length-2 c = c .before .loop .inv .2
+
+same-length-3 : tie.Need-same-length-3 Inv-loop μ-loop
+same-length-3 c = c .before .loop .inv .3
 
 returns : tie.Need-returns Inv-loop μ-loop
 returns c = halved (c .before .loop .inv .0) (omega (arith, c .loop-test .left))
@@ -53,12 +70,13 @@ last-day-spec =
     (λ c. search needs)
     loop-holds
     sub-loop
-    sub-middle
-    add-middle
+    between-requires
     day-readable-requires
     loop-less
     loop-again
     loop-less-2
     loop-again-2
-    (λ c. search needs)
+    same-length
+    same-length-2
+    same-length-3
     returns)

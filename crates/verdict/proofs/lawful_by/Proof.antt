@@ -1,6 +1,6 @@
 -- `verdict::lawful_by` meets its contract. Assumes nothing.
-use mathlib.Core.Path.{refl}
 use borrow.Author.Needs.{needs}
+use mathlib.Core.Path.{refl}
 use Rattle.verdict.proofs.lawful_by.Statement.{statement}
 use Rattle.verdict.proofs.lawful_by.Tie as tie
 
@@ -8,7 +8,15 @@ returns : tie.Need-returns
 returns c = record { unfixed = λ e. absurd (c .if1 .taken e); fixed = λ f. refl }
 
 returns-2 : tie.Need-returns-2
-returns-2 c = record { unfixed = λ e. c .before .before .some-reading .ensures; fixed = λ f. absurd (f (c .before .before .before .before .if1 .left)) }
+returns-2 c = record { unfixed = λ e. c .before .before .before .before .before .before .some-reading .ensures; fixed = λ f. absurd (f (c .before .before .before .before .before .before .before .before .before .before .if1 .left)) }
 
 pub lawful-by-spec : {M : Type 1} → statement M
-lawful-by-spec = tie.close (tie.spec returns (λ c κs. search needs) (λ c. search needs) returns-2)
+lawful-by-spec =
+    tie.close
+    (tie.spec
+    returns
+    (λ c. search needs)
+    (λ c. search needs)
+    (λ c. search needs)
+    (λ c. search needs)
+    returns-2)

@@ -1,33 +1,36 @@
 -- `verdict::ruling_of` meets its contract. Assumes nothing.
-use denote.Ref.{now}
 use borrow.Author.Needs.{needs}
-use native.Mathlib.Omega.{arith}
+use denote.Ref.{now}
 use mathlib.Core.Path.{sym, _∙_}
 use Rattle.recording.specs.Words.{minutesOf}
-use Rattle.verdict.proofs.Lawfulness.{table-room, whole-rests, whole-lawful}
+use Rattle.verdict.proofs.Lawfulness.{whole-rests, whole-lawful}
 use Rattle.verdict.proofs.Answers.{none-is, lawful-found}
 use Rattle.verdict.proofs.ruling_of.Statement.{statement}
 use Rattle.verdict.proofs.ruling_of.Tie as tie
 
 lawful-by-requires : tie.Need-lawful-by-requires
-lawful-by-requires c κs = let r = whole-rests ((c .before .before .before .before) .pre .2) ((c .before .before .before .before) .pre .0) in (r .0, r .1, r .2, table-room)
+lawful-by-requires c κs = let r = whole-rests ((c .before .before .before .before .before .before .before .before .before .before) .pre .2) ((c .before .before .before .before .before .before .before .before .before .before) .pre .0) in (r .0, r .1, r .2)
 
 returns : tie.Need-returns
-returns c = lawful-found _ (sym (c .if1 .taken) ∙ whole-lawful ((c .before .before .before .before .before .before .before) .pre .2) ((c .before .before .before .before .before .before .before) .pre .0) (c .before .before .lawful-by .ensures))
+returns c = lawful-found _ (sym (c .if1 .taken) ∙ whole-lawful ((c .before .before .before .before .before .before .before .before .before .before .before .before .before .before .before .before .before .before) .pre .2) ((c .before .before .before .before .before .before .before .before .before .before .before .before .before .before .before .before .before .before) .pre .0) (c .before .before .before .before .before .before .before .lawful-by .ensures))
 
 breach-of-requires : tie.Need-breach-of-requires
-breach-of-requires c κs = ((c .before .before .before .before .before .before .before .before .before) .pre .0, (c .before .before .before .before .before .before .before .before .before) .pre .2 .rests, (c .before .before .before .before .before .before .before .before .before) .pre .1, (c .before .before .before .before .before .before .before .before .before) .pre .2 .first, none-is (minutesOf (now ((c .before .before .before .before .before .before .before .before .before) .args .words))) (sym (c .before .before .if1 .left) ∙ whole-lawful ((c .before .before .before .before .before .before .before .before .before) .pre .2) ((c .before .before .before .before .before .before .before .before .before) .pre .0) (c .before .before .before .before .lawful-by .ensures)), omega (arith, c .before .before .before .before .lawful-by .kept .1 .1 .1 .1 .0, table-room))
+breach-of-requires c κs = ((c .before .before .before .before .before .before .before .before .before .before .before .before .before .before .before .before .before .before .before .before .before .before) .pre .0, (c .before .before .before .before .before .before .before .before .before .before .before .before .before .before .before .before .before .before .before .before .before .before) .pre .2 .rests, (c .before .before .before .before .before .before .before .before .before .before .before .before .before .before .before .before .before .before .before .before .before .before) .pre .1, (c .before .before .before .before .before .before .before .before .before .before .before .before .before .before .before .before .before .before .before .before .before .before) .pre .2 .first, none-is (minutesOf (now ((c .before .before .before .before .before .before .before .before .before .before .before .before .before .before .before .before .before .before .before .before .before .before) .args .words))) (sym (c .before .before .before .before .if1 .left) ∙ whole-lawful ((c .before .before .before .before .before .before .before .before .before .before .before .before .before .before .before .before .before .before .before .before .before .before) .pre .2) ((c .before .before .before .before .before .before .before .before .before .before .before .before .before .before .before .before .before .before .before .before .before .before) .pre .0) (c .before .before .before .before .before .before .before .before .before .before .before .lawful-by .ensures)))
 
 returns-2 : tie.Need-returns-2
-returns-2 c = c .before .breach-of .ensures
+returns-2 c = c .before .before .before .before .before .before .breach-of .ensures
 
 pub ruling-of-spec : {M : Type 1} → statement M
 ruling-of-spec =
     tie.close
     (tie.spec
-    (λ c. search needs)
     lawful-by-requires
-    returns
     (λ c. search needs)
+    (λ c. search needs)
+    (λ c. search needs)
+    returns
     breach-of-requires
+    (λ c. search needs)
+    (λ c. search needs)
+    (λ c. search needs)
     returns-2)

@@ -1,7 +1,7 @@
 -- `verdict::some_reading` meets its contract. Assumes nothing.
+use borrow.Author.Needs.{needs}
 use denote.Ref.{now}
 use mathlib.Core.Path.{sym}
-use borrow.Author.Needs.{needs}
 use Rattle.verdict.proofs.Lawfulness.{front-size, front-zeros, lent, some-reading}
 use Rattle.recording.specs.Rests.{longRestsAtMost}
 use lib.ListN.{length}
@@ -9,16 +9,28 @@ use Rattle.verdict.proofs.some_reading.Statement.{statement}
 use Rattle.verdict.proofs.some_reading.Tie as tie
 
 slice-aggregate-possible : tie.Need-slice-aggregate-possible
-slice-aggregate-possible c = sym (front-size longRestsAtMost (length (now ((c .before .before .before .before) .args .starts))) ((c .before .before .before .before) .pre .1))
+slice-aggregate-possible c =
+    let s = (c .before .before .before .before .before .before .before) in
+    sym (front-size longRestsAtMost (length (now (s .args .starts))) (s .pre .1))
 
 slice-aggregate-possible-2 : tie.Need-slice-aggregate-possible-2
-slice-aggregate-possible-2 c = sym (front-size longRestsAtMost (length (now ((c .before .before .before .before .before) .args .starts))) ((c .before .before .before .before .before) .pre .1))
+slice-aggregate-possible-2 c =
+    let s = (c .before .before .before .before .before .before .before .before) in
+    sym (front-size longRestsAtMost (length (now (s .args .starts))) (s .pre .1))
 
 possible-requires : tie.Need-possible-requires
-possible-requires c κs = (lent (now ((c .before .before .before .before .before .before) .args .starts)) (now ((c .before .before .before .before .before .before) .args .ends)) _ _ ((c .before .before .before .before .before .before) .args .s) ((c .before .before .before .before .before .before) .pre .0) ((c .before .before .before .before .before .before) .pre .1) ((c .before .before .before .before .before .before) .pre .2) (front-zeros longRestsAtMost (length (now ((c .before .before .before .before .before .before) .args .starts))) ((c .before .before .before .before .before .before) .pre .1)) (front-size longRestsAtMost (length (now ((c .before .before .before .before .before .before) .args .starts))) ((c .before .before .before .before .before .before) .pre .1)) (front-zeros longRestsAtMost (length (now ((c .before .before .before .before .before .before) .args .starts))) ((c .before .before .before .before .before .before) .pre .1)) _ (front-size longRestsAtMost (length (now ((c .before .before .before .before .before .before) .args .starts))) ((c .before .before .before .before .before .before) .pre .1)) ((c .before .before .before .before .before .before) .pre .3), front-zeros longRestsAtMost (length (now ((c .before .before .before .before .before .before) .args .starts))) ((c .before .before .before .before .before .before) .pre .1))
+possible-requires c κs =
+    let s = (c .before .before .before .before .before .before .before .before .before .before .before) in
+    let none = front-zeros longRestsAtMost (length (now (s .args .starts))) (s .pre .1) in
+    let size = front-size longRestsAtMost (length (now (s .args .starts))) (s .pre .1) in
+    lent (now (s .args .starts)) (now (s .args .ends)) (now (s .args .nets)) _ _ (s .args .s) (s .pre .0) (s .pre .1) (s .pre .2) none size none size
 
 returns : tie.Need-returns
-returns c = some-reading (now ((c .before .before .before .before .before .before .before .before .before .before) .args .starts)) (now ((c .before .before .before .before .before .before .before .before .before .before) .args .ends)) _ _ ((c .before .before .before .before .before .before .before .before .before .before) .args .s) ((c .before .before .before .before .before .before .before .before .before .before) .pre .0) ((c .before .before .before .before .before .before .before .before .before .before) .pre .1) ((c .before .before .before .before .before .before .before .before .before .before) .pre .2) (front-zeros longRestsAtMost (length (now ((c .before .before .before .before .before .before .before .before .before .before) .args .starts))) ((c .before .before .before .before .before .before .before .before .before .before) .pre .1)) (front-size longRestsAtMost (length (now ((c .before .before .before .before .before .before .before .before .before .before) .args .starts))) ((c .before .before .before .before .before .before .before .before .before .before) .pre .1)) (front-zeros longRestsAtMost (length (now ((c .before .before .before .before .before .before .before .before .before .before) .args .starts))) ((c .before .before .before .before .before .before .before .before .before .before) .pre .1)) (c .before .before .before .possible .ensures)
+returns c =
+    let s = (c .before .before .before .before .before .before .before .before .before .before .before .before .before .before .before .before .before .before .before) in
+    let none = front-zeros longRestsAtMost (length (now (s .args .starts))) (s .pre .1) in
+    let size = front-size longRestsAtMost (length (now (s .args .starts))) (s .pre .1) in
+    some-reading (now (s .args .starts)) (now (s .args .ends)) (now (s .args .nets)) _ _ (s .args .s) (s .pre .0) (s .pre .1) (s .pre .2) none size none (c .before .before .before .before .before .before .before .possible .ensures)
 
 pub some-reading-spec : {M : Type 1} → statement M
 some-reading-spec =
@@ -29,5 +41,7 @@ some-reading-spec =
     (λ c. search needs)
     slice-aggregate-possible-2
     possible-requires
+    (λ c. search needs)
+    (λ c. search needs)
     (λ c. search needs)
     returns)

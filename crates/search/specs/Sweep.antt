@@ -1,0 +1,140 @@
+-- What the sweep from front to front answers. Nobody has to believe it: proofs/ shows that its answers are those of the question.
+-- Assumes nothing.
+use mathlib.Core.Path.{_≡_}
+use mathlib.Core.Logic.{_⊎_}
+use mathlib.Core.Bool.{Bool, true, false}
+use mathlib.Core.List.{List}
+use Prim.Native.Nat.{ℕ, _+_, _≤_, _<_}
+use lib.ListN.{length}
+use Rattle.recording.specs.Weeks.{weekOf}
+use Rattle.rules.specs.ReadingRules.{leastNet}
+use Rattle.rules.specs.declared.Kind.{Kind}
+use Rattle.rules.specs.declared.Kind.the-variants.{Daily, Weekly}
+use Rattle.rules.specs.declared.Standing.the-variants.{Regular}
+use Rattle.completion.specs.declared.State.{State}
+use Rattle.completion.specs.Completable.{Course, at, count, lengthAt, Counted, ReadDaily, ReadWeekly, Tries}
+use Rattle.completion.specs.Better.{AtRest}
+use Rattle.steps.specs.Steps.{standingFor}
+use Rattle.nogoods.specs.Table.{debtsAtMost, debtsOf}
+use Rattle.fronts.specs.Front.{entryAt, stateIn, owedIn}
+use Rattle.search.specs.Search.{Later, Sound, Slots}
+use Rattle.search.specs.declared.Went.{Went}
+use Rattle.search.specs.declared.Both.{Both}
+
+module _ (c : Course) (j : ℕ) where
+  -- the rests from that of index j on can be read from the entry at p, a state in the week in which that rest starts
+  abbrev pub Can : List ℕ → ℕ → Type 0
+  Can t p = Tries c (Later c j) j (stateIn t p (weekOf (at (c .starts) j))) (owedIn t p (count c))
+
+  -- from one of the first n entries
+  pub record Any (t : List ℕ) (n : ℕ) : Type 0 where
+    pub entry : ℕ
+    pub below : entry < n
+    pub can : Can t (entryAt entry)
+
+  -- the entry at p is a state at that rest, with few debts
+  pub record Well (t : List ℕ) (p : ℕ) : Type 0 where
+    pub few : debtsOf t p ≤ debtsAtMost
+    pub below : debtsOf t p ≤ j
+    pub rest : AtRest c j (stateIn t p (weekOf (at (c .starts) j)))
+
+  -- the first n entries are
+  pub record Front (t : List ℕ) (n : ℕ) : Type 0 where
+    pub room : entryAt n ≤ length t
+    pub each : (e : ℕ) → e < n → Well t (entryAt e)
+
+-- what a step is lent: the debts in the first m slots, before the rest of index j; the nogoods; and the front before the rest of index i, with n states
+pub record Given (c : Course) (j m : ℕ) (owed nogoods : List ℕ) (i : ℕ) (front : List ℕ) (n : ℕ) : Type 0 where
+  pub slots : Slots c j m owed
+  pub sound : Sound c nogoods
+  pub well : Front c i front n
+
+-- a question P was put to the next front, of which A held before and A′ after: r is yes where P was found to hold; otherwise A′ holds exactly where A
+-- or P does. What is owed is as it was; S holds of the nogoods, and W of the next front
+pub record Led (P A A′ : Type 0) (r : Bool) (owed owed′ : List ℕ) (S W : Type 0) : Type 0 where
+  pub yes : r ≡ true → P
+  pub keeps : r ≡ false → A → A′
+  pub leads : r ≡ false → P → A′
+  pub from : r ≡ false → A′ → A ⊎ P
+  pub same : owed′ ≡ owed
+  pub sound : S
+  pub well : W
+
+-- the same of the front before the rest of index i, with n states before
+abbrev pub Leads : Course → (List ℕ → Type 0) → ℕ → ℕ → List ℕ → List ℕ → List ℕ → List ℕ → List ℕ → Went → Type 0
+Leads c P i n front front′ owed owed′ nogoods′ r =
+    Led (P owed) (Any c i front n) (Any c i front′ (r .n)) (r .yes) owed owed′ (Sound c nogoods′) (Front c i front′ (r .n))
+
+-- a rest of index j is read as of a kind
+abbrev pub ReadAs : (c : Course) → (State → List ℕ → Type 0) → ℕ → State → ℕ → Kind → List ℕ → Type 0
+ReadAs c K j here load Daily owed = ReadDaily c K j here load owed
+ReadAs c K j here load (Weekly standing) owed = ReadWeekly c K j here load owed
+
+-- it is long enough for the kind, net of the load, and a weekly one has the standing that goes with it
+pub data TakenAs (c : Course) (j load : ℕ) (kind : Kind) : Type 0 where
+  daily : kind ≡ Daily → leastNet Daily + load ≤ lengthAt c j → TakenAs c j load kind
+  weekly : kind ≡ Weekly (standingFor (lengthAt c j) load) → leastNet (Weekly Regular) + load ≤ lengthAt c j → TakenAs c j load kind
+
+-- counted in one of the weeks from v on, below w
+pub record CountedIn (c : Course) (K : State → List ℕ → Type 0) (j : ℕ) (here : State) (load : ℕ) (owed : List ℕ) (v w : ℕ) : Type 0 where
+  pub week : ℕ
+  pub low : v ≤ week
+  pub high : week < w
+  pub counted : Counted c K j here week load owed
+
+-- the question P was put to a front that was empty: r is yes where P was found to hold; otherwise A holds exactly where P does
+pub record Passed (P A : Type 0) (r : Bool) (S W : Type 0) : Type 0 where
+  pub yes : r ≡ true → P
+  pub leads : r ≡ false → P → A
+  pub from : r ≡ false → A → P
+  pub sound : S
+  pub well : W
+
+-- the same of two fronts, before the rests of index j and i, with f states before
+abbrev pub Passes : Course → ℕ → List ℕ → ℕ → ℕ → List ℕ → List ℕ → Went → Type 0
+Passes c j front f i next′ nogoods′ r = Passed (Any c j front f) (Any c i next′ (r .n)) (r .yes) (Sound c nogoods′) (Front c i next′ (r .n))
+
+-- the same, where only yes or no is told
+pub record Told (P : Type 0) (r : Bool) (S : Type 0) : Type 0 where
+  pub yes : r ≡ true → P
+  pub no : r ≡ false → P → ⊥
+  pub sound : S
+
+-- the same, where a yes may rest on H
+pub record ToldIf (H P : Type 0) (r : Bool) (S : Type 0) : Type 0 where
+  pub yes : r ≡ true → H → P
+  pub no : r ≡ false → P → ⊥
+  pub sound : S
+
+-- ---- a question beside what is known
+-- one of the first g entries is known to be good; where there is none, nothing is known
+abbrev pub Trusted : Course → ℕ → List ℕ → ℕ → Type 0
+Trusted c i known g = 0 < g → Any c i known g
+
+-- the question P was put beside H, which is known: r is yes where P was found to hold, or to follow from H; otherwise A holds exactly where P does, and
+-- H′ is known
+pub record Beside (P H A H′ : Type 0) (r : Bool) (S W Y : Type 0) : Type 0 where
+  pub yes : r ≡ true → H → P
+  pub leads : r ≡ false → P → A
+  pub from : r ≡ false → A → P
+  pub trusts : r ≡ false → H → H′
+  pub sound : S
+  pub well : W
+  pub beside : Y
+
+-- the same of two fronts before the rest of index j, and two before that of index i
+abbrev pub Besides : Course → ℕ → List ℕ → ℕ → List ℕ → ℕ → ℕ → List ℕ → List ℕ → List ℕ → Both → Type 0
+Besides c j front f known g i front′ known′ nogoods′ r =
+    Beside (Any c j front f) (Trusted c j known g) (Any c i front′ (r .n)) (Trusted c i known′ (r .g)) (r .yes) (Sound c nogoods′) (Front c i front′ (r .n)) (Front c i known′ (r .g))
+
+-- H is known where R holds; what is owed is as it was
+pub record Knows (R H : Type 0) (owed owed′ : List ℕ) (S W : Type 0) : Type 0 where
+  pub trusts : R → H
+  pub same : owed′ ≡ owed
+  pub sound : S
+  pub well : W
+
+-- a question was led to a front, and what is owed is as it was
+pub record Reached (P A : Type 0) (r : Bool) (owed owed′ : List ℕ) (S W : Type 0) : Type 0 where
+  pub passed : Passed P A r S W
+  pub same : owed′ ≡ owed
