@@ -19,7 +19,7 @@
 //! and leaves what lies beyond.
 //!
 //! Nothing is kept between calls, so threads may call at the same time.
-//! Have 1 MiB of stack for [`verdict`]; the most that was measured is 480 KiB.
+//! Have 1 MiB of stack for [`verdict`]; the most that was measured is 608 KiB.
 //! The main thread and the threads of `std` have more, unless told otherwise.
 
 mod calls;
