@@ -22,7 +22,27 @@ use Rattle.completion.specs.declared.State.{State}
 use Rattle.completion.specs.declared.Brought.{Brought}
 use Rattle.completion.specs.declared.Brought.the-variants.{Broken, To}
 use Rattle.completion.specs.States.{advance, After, afterDaily, afterWeekly}
-use Rattle.completion.specs.Completable.{Course, at, count, restWeek, lengthAt, amountOf, dueOf, debtOf, Overdue, Pays, shortens, Closes, ReadDaily, ReadWeekly, Counted, Reads, Tries, Completable, Lies}
+use Rattle.completion.specs.Completable.{
+  Course,
+  at,
+  count,
+  restWeek,
+  lengthAt,
+  amountOf,
+  dueOf,
+  debtOf,
+  Overdue,
+  Pays,
+  shortens,
+  Closes,
+  ReadDaily,
+  ReadWeekly,
+  Counted,
+  Reads,
+  Tries,
+  Completable,
+  Lies,
+}
 use Rattle.completion.specs.Better.{Within, Matched, AtRest}
 use Rattle.completion.proofs.Matching.{within-self, put-at}
 use Rattle.completion.proofs.Monotone.{better-self, matched-last, completable-by, regular-by, forget, recall}
@@ -284,7 +304,8 @@ module _ (c : Course) (lies : Lies c) where
 
     pub not-counted : (w : ℕ) {b : Brought} → b ≡ advance (restWeek c) (w - here .week) here → b ≡ Broken → Counted c (Later c j) j here w load o → ⊥
     not-counted w e g h =
-        subst (λ (x : Brought). After x (λ y. Later c j (afterWeekly (restWeek c w) (leb (regularMinutes + load) (lengthAt c j)) (at (c .ends) j) y) (set o j (debtOf (lengthAt c j) load w)))) (sym e ∙ g) h
+        subst (λ (x : Brought). After x (λ y. Later c j (afterWeekly (restWeek c w) (leb (regularMinutes + load) (lengthAt c j)) (at (c .ends) j) y) (set o j (debtOf (lengthAt c j) load w))))
+        (sym e ∙ g) h
 
 -- ---- the weeks of a rest
 module _ (c : Course) (K : State → List ℕ → Type 0) (j : ℕ) (here : State) (load : ℕ) (o : List ℕ) where

@@ -178,7 +178,18 @@ abbrev daily-calls : ℕ → daily-lts.Claims
 daily-calls t = (is-short-reads.Asked, is-short-reads.Learnt, after-daily-reads.Asked, after-daily-reads.Learnt, step-below t, step.Post)
 
 abbrev in-week-calls : ℕ → in-week-lts.Claims
-in-week-calls t = (advance-reads.Asked, advance-reads.Learnt, holds-week-reads.Asked, holds-week-reads.Learnt, is-regular-reads.Asked, is-regular-reads.Learnt, after-weekly-reads.Asked, after-weekly-reads.Learnt, count-in-below t, count-in.Post)
+in-week-calls t = (
+  advance-reads.Asked,
+  advance-reads.Learnt,
+  holds-week-reads.Asked,
+  holds-week-reads.Learnt,
+  is-regular-reads.Asked,
+  is-regular-reads.Learnt,
+  after-weekly-reads.Asked,
+  after-weekly-reads.Learnt,
+  count-in-below t,
+  count-in.Post,
+)
 
 abbrev pay-calls : ℕ → pay-lts.Claims
 pay-calls t = (debtor-reads.Asked, debtor-reads.Learnt, choose-below t, choose.Post, pay-below t, pay.Post)
@@ -242,8 +253,10 @@ choose-returns-2 t c =
     let g = s .pre .1 .0 in
     let lies = g .slots .sized .lies in
     led.carry
-    (led.equal-then (chain.read-weekly k (Later k (s .args .j)) (s .args .j) (s .args .here) (s .args .load) (now (s .args .owed)) (c .before .before .before .before .before .before .before .before .before .before .before .as-weekly .ensures))
-    (chain.as-regular k lies (s .args .j) (s .args .here) (now (s .args .owed)) (s .args .load) (s .pre .1 .1) (c .before .before .before .before .before .before .before .before .before .before .if2 .taken)))
+    (led.equal-then (chain.read-weekly k (Later k (s .args .j)) (s .args .j) (s .args .here) (s .args .load) (now (s .args .owed))
+    (c .before .before .before .before .before .before .before .before .before .before .before .as-weekly .ensures))
+    (chain.as-regular k lies (s .args .j) (s .args .here) (now (s .args .owed)) (s .args .load) (s .pre .1 .1)
+    (c .before .before .before .before .before .before .before .before .before .before .if2 .taken)))
     (c .before .before .before .before .before .before .read-as .ensures)
 
 choose-read-as-requires-2 : (t : ℕ) → choose-lts.Need-read-as-requires-2 (choose-calls t) (choose-at t) choose.Post
@@ -256,16 +269,19 @@ choose-read-as-requires-2 t c κs =
 
 choose-returns-3 : (t : ℕ) → choose-lts.Need-returns-3 (choose-calls t) (choose-at t) choose.Post
 choose-returns-3 t c =
-    let s = (c .before .before .before .before .before .before .before .before .before .before .before .before .before .before .before .before .before .before .before .before .before .before .before .before) in
+    let s = (c .before .before .before .before .before .before .before .before .before .before .before .before .before .before .before .before .before .before .before .before .before .before
+    .before .before) in
     let k = courseOf (now (s .args .starts)) (now (s .args .ends)) (now (s .args .nets)) (now (s .args .loads)) (s .args .s) in
     let g = s .pre .1 .0 in
     let lies = g .slots .sized .lies in
-    let e = chain.read-daily k (Later k (s .args .j)) (s .args .j) (s .args .here) (s .args .load) (now (s .args .owed)) (c .before .before .before .before .before .before .before .before .before .before .before .as-daily .ensures) in
+    let e = chain.read-daily k (Later k (s .args .j)) (s .args .j) (s .args .here) (s .args .load) (now (s .args .owed))
+    (c .before .before .before .before .before .before .before .before .before .before .before .as-daily .ensures) in
     led.first (c .if3 .taken) (led.carry e (c .before .before .before .before .before .before .before .read-as2 .ensures))
 
 choose-sub-if4 : (t : ℕ) → choose-lts.Need-sub-if4 (choose-calls t) (choose-at t) choose.Post
 choose-sub-if4 t c =
-    let s = (c .before .before .before .before .before .before .before .before .before .before .before .before .before .before .before .before .before .before .before .before .before .before .before .before) in
+    let s = (c .before .before .before .before .before .before .before .before .before .before .before .before .before .before .before .before .before .before .before .before .before .before
+    .before .before) in
     let k = courseOf (now (s .args .starts)) (now (s .args .ends)) (now (s .args .nets)) (now (s .args .loads)) (s .args .s) in
     let g = s .pre .1 .0 in
     let lies = g .slots .sized .lies in
@@ -273,7 +289,8 @@ choose-sub-if4 t c =
 
 choose-add-if4 : (t : ℕ) → choose-lts.Need-add-if4 (choose-calls t) (choose-at t) choose.Post
 choose-add-if4 t c =
-    let s = (c .before .before .before .before .before .before .before .before .before .before .before .before .before .before .before .before .before .before .before .before .before .before .before .before) in
+    let s = (c .before .before .before .before .before .before .before .before .before .before .before .before .before .before .before .before .before .before .before .before .before .before
+    .before .before) in
     let k = courseOf (now (s .args .starts)) (now (s .args .ends)) (now (s .args .nets)) (now (s .args .loads)) (s .args .s) in
     let g = s .pre .1 .0 in
     let lies = g .slots .sized .lies in
@@ -281,36 +298,53 @@ choose-add-if4 t c =
 
 choose-returns-4 : (t : ℕ) → choose-lts.Need-returns-4 (choose-calls t) (choose-at t) choose.Post
 choose-returns-4 t c =
-    let s = (c .before .before .before .before .before .before .before .before .before .before .before .before .before .before .before .before .before .before .before .before .before .before .before .before .before) in
+    let s = (c .before .before .before .before .before .before .before .before .before .before .before .before .before .before .before .before .before .before .before .before .before .before
+    .before .before .before) in
     let k = courseOf (now (s .args .starts)) (now (s .args .ends)) (now (s .args .nets)) (now (s .args .loads)) (s .args .s) in
     let g = s .pre .1 .0 in
     let lies = g .slots .sized .lies in
     led.carry
-    (led.equal-then (chain.read-daily k (Later k (s .args .j)) (s .args .j) (s .args .here) (s .args .load) (now (s .args .owed)) (c .before .before .before .before .before .before .before .before .before .before .before .before .as-daily .ensures))
+    (led.equal-then (chain.read-daily k (Later k (s .args .j)) (s .args .j) (s .args .here) (s .args .load) (now (s .args .owed))
+    (c .before .before .before .before .before .before .before .before .before .before .before .before .as-daily .ensures))
     (chain.as-short k lies (s .args .j) (s .args .here) (now (s .args .owed)) (s .args .load) (c .if4 .taken)))
     (c .before .before .before .before .before .before .before .before .read-as2 .ensures)
 
 choose-read-as-requires-3 : (t : ℕ) → choose-lts.Need-read-as-requires-3 (choose-calls t) (choose-at t) choose.Post
 choose-read-as-requires-3 t c κs =
-    let s = (c .before .before .before .before .before .before .before .before .before .before .before .before .before .before .before .before .before .before .before .before .before .before .before .before .before .before .before .before) in
+    let s = (c .before .before .before .before .before .before .before .before .before .before .before .before .before .before .before .before .before .before .before .before .before .before
+    .before .before .before .before .before .before) in
     let k = courseOf (now (s .args .starts)) (now (s .args .ends)) (now (s .args .nets)) (now (s .args .loads)) (s .args .s) in
     let g = s .pre .1 .0 in
     let lies = g .slots .sized .lies in
     let d = c .before .before .before .before .before .before .before .before .before .before .before .read-as2 .ensures in
-    let given = law.given (law.relent k lies (g .slots) (d .same)) (d .sound) (d .well) in
-    (omega (arith, s .pre .0, s .pre .1 .1 .within), (given, s .pre .1 .1, TakenAs.weekly (c .before .before .before .before .before .before .before .before .before .before .before .before .before .before .before .before .before .as-weekly .ensures) (c .before .before .before .if4 .left)))
+    let given = law.given (law.relent k lies (g .slots) (d .same)) (d .sound) (d .well) in (
+      omega (arith, s .pre .0, s .pre .1 .1 .within),
+      (
+        given,
+        s .pre .1 .1,
+        TakenAs.weekly (c .before .before .before .before .before .before .before .before .before .before .before .before .before
+            .before .before .before .before .as-weekly .ensures) (c .before .before .before .if4 .left),
+      ),
+    )
 
 choose-returns-5 : (t : ℕ) → choose-lts.Need-returns-5 (choose-calls t) (choose-at t) choose.Post
 choose-returns-5 t c =
-    let s = (c .before .before .before .before .before .before .before .before .before .before .before .before .before .before .before .before .before .before .before .before .before .before .before .before .before .before .before .before .before .before .before .before .before .before .before) in
+    let s = (c .before .before .before .before .before .before .before .before .before .before .before .before .before .before .before .before .before .before .before .before .before .before
+    .before .before .before .before .before .before .before .before .before .before .before .before .before) in
     let k = courseOf (now (s .args .starts)) (now (s .args .ends)) (now (s .args .nets)) (now (s .args .loads)) (s .args .s) in
     let g = s .pre .1 .0 in
     let lies = g .slots .sized .lies in
     let d = c .before .before .before .before .before .before .before .before .before .before .before .before .before .before .before .before .before .before .read-as2 .ensures in
-    let e = chain.read-daily k (Later k (s .args .j)) (s .args .j) (s .args .here) (s .args .load) (now (s .args .owed)) (c .before .before .before .before .before .before .before .before .before .before .before .before .before .before .before .before .before .before .before .before .before .before .as-daily .ensures) in
-    let f = chain.read-weekly k (Later k (s .args .j)) (s .args .j) (s .args .here) (s .args .load) (c .before .before .before .before .before .before .before .before .before .before .before .before .before .before .before .before .before .before .read-as2 .last .1 .1 .1 .1 .1 .0) (c .before .before .before .before .before .before .before .before .before .before .before .before .before .before .before .before .before .before .before .before .before .before .before .before .as-weekly .ensures) in
+    let e = chain.read-daily k (Later k (s .args .j)) (s .args .j) (s .args .here) (s .args .load) (now (s .args .owed))
+    (c .before .before .before .before .before .before .before .before .before .before .before .before .before .before .before .before .before .before .before .before .before .before .as-daily
+    .ensures) in
+    let f = chain.read-weekly k (Later k (s .args .j)) (s .args .j) (s .args .here) (s .args .load)
+    (c .before .before .before .before .before .before .before .before .before .before .before .before .before .before .before .before .before .before .read-as2 .last .1 .1 .1 .1 .1 .0)
+    (c .before .before .before .before .before .before .before .before .before .before .before .before .before .before .before .before .before .before .before .before .before .before .before
+    .before .as-weekly .ensures) in
     led.both (led.known (c .before .before .before .before .before .before .before .before .before .before .before .if3 .left) (led.carry e d))
-    (led.again (λ (o : List ℕ). ReadWeekly k (Later k (s .args .j)) (s .args .j) (s .args .here) (s .args .load) o) (d .same) (led.carry f (c .before .before .before .before .before .before .read-as3 .ensures)))
+    (led.again (λ (o : List ℕ). ReadWeekly k (Later k (s .args .j)) (s .args .j) (s .args .here) (s .args .load) o) (d .same)
+    (led.carry f (c .before .before .before .before .before .before .read-as3 .ensures)))
 
 count-in-mul-debt : (t : ℕ) → count-in-lts.Need-mul-debt (count-in-calls t) (count-in-at t) count-in.Post
 count-in-mul-debt t c =
@@ -383,12 +417,21 @@ count-in-slice-write-owed-2 t c =
     let k = courseOf (now (s .args .starts)) (now (s .args .ends)) (now (s .args .nets)) (now (s .args .loads)) (s .args .s) in
     let g = s .pre .1 .0 in
     let lies = g .slots .sized .lies in
-    omega (arith, s .pre .1 .1, g .slots .below, g .slots .sized .owed-too, c .before .before .before .before .before .before .step .kept .1 .1 .1 .1 .1 .0, length-set (now (s .args .owed)) (s .args .m) (c .before .before .before .before .before .before .before .before .before .before .outstanding .result))
+    omega (
+      arith,
+      s .pre .1 .1,
+      g .slots .below,
+      g .slots .sized .owed-too,
+      c .before .before .before .before .before .before .step .kept .1 .1 .1 .1 .1 .0,
+      length-set (now (s .args .owed))
+          (s .args .m) (c .before .before .before .before .before .before .before .before .before .before .outstanding .result),
+    )
 
 count-in-same-length : (t : ℕ) → count-in-lts.Need-same-length (count-in-calls t) (count-in-at t) count-in.Post
 count-in-same-length t c =
     let s = (c .before .before .before .before .before .before .before .before .before .before .before .before .before .before .before .before .before .before .before .before) in
-    simp length-set (c .before .before .before .before .before .before .step .kept .1 .1 .1 .1 .1 .0 ∙ length-set (now (s .args .owed)) (s .args .m) (c .before .before .before .before .before .before .before .before .before .before .outstanding .result))
+    simp length-set (c .before .before .before .before .before .before .step .kept .1 .1 .1 .1 .1 .0 ∙ length-set (now (s .args .owed)) (s .args .m)
+    (c .before .before .before .before .before .before .before .before .before .before .outstanding .result))
 
 count-in-returns : (t : ℕ) → count-in-lts.Need-returns (count-in-calls t) (count-in-at t) count-in.Post
 count-in-returns t c =
@@ -399,9 +442,11 @@ count-in-returns t c =
     let debt = c .before .before .before .before .before .before .before .before .before .before .outstanding .result in
     led.carry
     (chain.left-out k lies (s .args .j) (s .args .after) (now (s .args .owed)) debt (debtBy (s .args .standing) (s .args .w)) (s .pre .1 .1)
-    (c .before .before .before .before .before .before .before .before .before .before .outstanding .ensures ∙ ap (λ (x : ℕ). pick (ltb (s .args .s) (dueOf x)) 0 x) (c .before .before .before .before .before .before .before .before .before .before .before .debt-of .ensures)))
+    (c .before .before .before .before .before .before .before .before .before .before .outstanding .ensures ∙ ap (λ (x : ℕ). pick (ltb (s .args .s) (dueOf x)) 0 x)
+    (c .before .before .before .before .before .before .before .before .before .before .before .debt-of .ensures)))
     (led.carry (chain.in-next-slot k lies (g .slots) (s .pre .1 .1) debt (s .args .after))
-    (led.back (now (s .args .owed)) (c .before .before .before .before .before .before .step .last .1 .1 .1 .1 .1 .0) (s .args .m) debt (c .before .before .before .before .before .before .step .ensures)))
+    (led.back (now (s .args .owed)) (c .before .before .before .before .before .before .step .last .1 .1 .1 .1 .1 .0) (s .args .m) debt
+    (c .before .before .before .before .before .before .step .ensures)))
 
 daily-sub-is-short : (t : ℕ) → daily-lts.Need-sub-is-short (daily-calls t) (daily-at t) daily.Post
 daily-sub-is-short t c =
@@ -429,7 +474,8 @@ daily-returns t c =
     let k = courseOf (now (s .args .starts)) (now (s .args .ends)) (now (s .args .nets)) (now (s .args .loads)) (s .args .s) in
     let g = s .pre .1 .0 in
     let lies = g .slots .sized .lies in
-    led.refuse (chain.too-many k lies (s .args .j) (s .args .here) (now (s .args .owed)) (s .args .load) (c .before .before .before .is-short .ensures) (c .before .before .after-daily .ensures) (c .if1 .taken))
+    led.refuse (chain.too-many k lies (s .args .j) (s .args .here) (now (s .args .owed)) (s .args .load) (c .before .before .before .is-short .ensures) (c .before .before .after-daily .ensures)
+    (c .if1 .taken))
     refl (g .sound) (g .well)
 
 daily-add-step : (t : ℕ) → daily-lts.Need-add-step (daily-calls t) (daily-at t) daily.Post
@@ -447,17 +493,22 @@ daily-step-requires t c κs =
     let g = s .pre .1 .0 in
     let lies = g .slots .sized .lies in
     let given = law.given (law.slots-on k lies (g .slots)) (g .sound) (g .well) in
-    let before = law.before-daily k lies (s .args .j) (s .args .here) (c .before .before .before .before .before .before .is-short .result) (c .before .before .before .before .before .after-daily .ensures) (s .pre .1 .1) (c .before .before .before .if1 .left) in
+    let before = law.before-daily k lies (s .args .j) (s .args .here) (c .before .before .before .before .before .before .is-short .result)
+    (c .before .before .before .before .before .after-daily .ensures) (s .pre .1 .1) (c .before .before .before .if1 .left) in
     (omega (arith, s .pre .0, s .pre .1 .1 .within), (given, before))
 
 daily-returns-2 : (t : ℕ) → daily-lts.Need-returns-2 (daily-calls t) (daily-at t) daily.Post
 daily-returns-2 t c =
-    let s = (c .before .before .before .before .before .before .before .before .before .before .before .before .before .before .before .before .before .before .before .before .before .before .before .before) in
+    let s = (c .before .before .before .before .before .before .before .before .before .before .before .before .before .before .before .before .before .before .before .before .before .before
+    .before .before) in
     let k = courseOf (now (s .args .starts)) (now (s .args .ends)) (now (s .args .nets)) (now (s .args .loads)) (s .args .s) in
     let g = s .pre .1 .0 in
     let lies = g .slots .sized .lies in
     led.carry
-    (chain.as-daily k lies (s .args .j) (s .args .here) (now (s .args .owed)) (s .args .load) (c .before .before .before .before .before .before .before .before .before .before .before .before .before .is-short .ensures) (c .before .before .before .before .before .before .before .before .before .before .before .before .after-daily .ensures) (s .pre .1 .2) (c .before .before .before .before .before .before .before .before .before .before .if1 .left))
+    (chain.as-daily k lies (s .args .j) (s .args .here) (now (s .args .owed)) (s .args .load)
+    (c .before .before .before .before .before .before .before .before .before .before .before .before .before .is-short .ensures)
+    (c .before .before .before .before .before .before .before .before .before .before .before .before .after-daily .ensures) (s .pre .1 .2)
+    (c .before .before .before .before .before .before .before .before .before .before .if1 .left))
     (c .before .before .before .before .before .before .step .ensures)
 
 in-week-add-advance : (t : ℕ) → in-week-lts.Need-add-advance (in-week-calls t) (in-week-at t) in-week.Post
@@ -524,7 +575,8 @@ in-week-after-weekly-requires t c κs =
     let k = courseOf (now (s .args .starts)) (now (s .args .ends)) (now (s .args .nets)) (now (s .args .loads)) (s .args .s) in
     let g = s .pre .1 .0 in
     let lies = g .slots .sized .lies in
-    law.brought (restWeek k) (s .args .w - s .args .here .week) (s .pre .1 .1 .small) (c .before .before .before .before .before .before .before .before .advance .ensures) (c .before .before .before .before .before .before .there .given .1) .small
+    law.brought (restWeek k) (s .args .w - s .args .here .week) (s .pre .1 .1 .small) (c .before .before .before .before .before .before .before .before .advance .ensures)
+    (c .before .before .before .before .before .before .there .given .1) .small
 
 in-week-count-in-requires : (t : ℕ) → in-week-lts.Need-count-in-requires (in-week-calls t) (in-week-at t) in-week.Post
 in-week-count-in-requires t c κs =
@@ -533,7 +585,9 @@ in-week-count-in-requires t c κs =
     let g = s .pre .1 .0 in
     let lies = g .slots .sized .lies in
     let in-time = lies .judged (s .args .j) (s .pre .1 .1 .within) in
-    let before = law.before-weekly k lies (s .args .j) (s .args .w) (s .args .here) (c .before .before .before .before .before .before .holds-week .result) (c .before .before .before .before .before .is-regular .result) (c .before .before .before .before .before .before .before .before .before .before .before .before .advance .ensures) (c .before .before .before .before .before .before .before .before .before .before .there .given .1)
+    let before = law.before-weekly k lies (s .args .j) (s .args .w) (s .args .here) (c .before .before .before .before .before .before .holds-week .result)
+    (c .before .before .before .before .before .is-regular .result) (c .before .before .before .before .before .before .before .before .before .before .before .before .advance .ensures)
+    (c .before .before .before .before .before .before .before .before .before .before .there .given .1)
     (c .before .before .before .after-weekly .ensures) (s .pre .1 .1) (s .pre .1 .4) (s .pre .1 .5) in
     let low = standing-low (lengthAt k (s .args .j)) (s .args .load) in (
       omega (arith, s .pre .0, s .pre .1 .1 .within),
@@ -548,17 +602,24 @@ in-week-count-in-requires t c κs =
 
 in-week-returns-2 : (t : ℕ) → in-week-lts.Need-returns-2 (in-week-calls t) (in-week-at t) in-week.Post
 in-week-returns-2 t c =
-    let s = (c .before .before .before .before .before .before .before .before .before .before .before .before .before .before .before .before .before .before .before .before .before .before .before .before .before .before .before) in
+    let s = (c .before .before .before .before .before .before .before .before .before .before .before .before .before .before .before .before .before .before .before .before .before .before
+    .before .before .before .before .before) in
     let k = courseOf (now (s .args .starts)) (now (s .args .ends)) (now (s .args .nets)) (now (s .args .loads)) (s .args .s) in
     let g = s .pre .1 .0 in
     let lies = g .slots .sized .lies in
-    let regular = c .before .before .before .before .before .before .before .before .before .before .before .before .is-regular .ensures ∙ ap (λ x. isRegular (Weekly x)) (s .pre .1 .2) ∙ standing-regular (lengthAt k (s .args .j)) (s .args .load) in
+    let regular = c .before .before .before .before .before .before .before .before .before .before .before .before .is-regular .ensures ∙ ap (λ x. isRegular (Weekly x)) (s .pre .1 .2) ∙
+    standing-regular (lengthAt k (s .args .j)) (s .args .load) in
     let inside = c .before .before .before .before .before .before .before .before .before .before .before .before .before .holds-week .ensures
     ∙ sym (week-of-rest (now (s .args .starts)) (now (s .args .ends)) (s .args .w) (in-order k lies) (s .args .j) (s .pre .1 .1 .within) (s .pre .1 .4) (s .pre .1 .5)) in
     led.carry
-    (led.equal-then (chain.owes-as k (s .args .j) (c .before .before .before .before .before .before .before .before .before .before .after-weekly .result) (now (s .args .owed)) (s .args .load) (s .args .w) (s .pre .1 .2))
-    (chain.as-counted k lies (s .args .j) (s .args .here) (now (s .args .owed)) (s .args .load) (s .args .w) (c .before .before .before .before .before .before .before .before .before .before .before .before .before .holds-week .result) (c .before .before .before .before .before .before .before .before .before .before .before .before .is-regular .result)
-    (c .before .before .before .before .before .before .before .before .before .before .before .before .before .before .before .before .before .before .before .advance .ensures) (c .before .before .before .before .before .before .before .before .before .before .before .before .before .before .before .before .before .there .given .1) (c .before .before .before .before .before .before .before .before .before .before .after-weekly .ensures) inside regular))
+    (led.equal-then (chain.owes-as k (s .args .j) (c .before .before .before .before .before .before .before .before .before .before .after-weekly .result) (now (s .args .owed)) (s .args .load)
+    (s .args .w) (s .pre .1 .2))
+    (chain.as-counted k lies (s .args .j) (s .args .here) (now (s .args .owed)) (s .args .load) (s .args .w)
+    (c .before .before .before .before .before .before .before .before .before .before .before .before .before .holds-week .result)
+    (c .before .before .before .before .before .before .before .before .before .before .before .before .is-regular .result)
+    (c .before .before .before .before .before .before .before .before .before .before .before .before .before .before .before .before .before .before .before .advance .ensures)
+    (c .before .before .before .before .before .before .before .before .before .before .before .before .before .before .before .before .before .there .given .1)
+    (c .before .before .before .before .before .before .before .before .before .before .after-weekly .ensures) inside regular))
     (c .before .before .before .before .before .before .count-in .ensures)
 
 pay-shared-slice-read-debtor : (t : ℕ) → pay-lts.Need-shared-slice-read-debtor (pay-calls t) (pay-at t) pay.Post
@@ -609,7 +670,8 @@ pay-returns t c =
     let lies = g .slots .sized .lies in
     led.carry
     (chain.none-fits (Reads k (Later k (s .args .j)) (s .args .j) (s .args .here)) (lengthAt k (s .args .j)) (s .args .load) (now (s .args .owed))
-    (chain.no-debtor (g .slots .below) (g .slots .unused) (c .before .before .before .before .before .before .before .before .before .before .before .debtor .ensures) (c .before .before .before .before .before .before .before .before .before .before .if1 .taken)) refl)
+    (chain.no-debtor (g .slots .below) (g .slots .unused) (c .before .before .before .before .before .before .before .before .before .before .before .debtor .ensures)
+    (c .before .before .before .before .before .before .before .before .before .before .if1 .taken)) refl)
     (c .before .before .before .before .before .before .choose .ensures)
 
 pay-mul-debt : (t : ℕ) → pay-lts.Need-mul-debt (pay-calls t) (pay-at t) pay.Post
@@ -658,7 +720,8 @@ pay-add-pay-2 t c =
     let k = courseOf (now (s .args .starts)) (now (s .args .ends)) (now (s .args .nets)) (now (s .args .loads)) (s .args .s) in
     let g = s .pre .1 .0 in
     let lies = g .slots .sized .lies in
-    let lt : c .before .before .before .before .before .debtor .result < s .args .m = omega (arith, c .before .before .before .before .before .debtor .ensures .high, c .before .before .before .before .if1 .left) in
+    let lt : c .before .before .before .before .before .debtor .result < s .args .m = omega
+    (arith, c .before .before .before .before .before .debtor .ensures .high, c .before .before .before .before .if1 .left) in
     omega (arith, c .before .before .before .before .before .debtor .ensures .found lt .fits, lies .judged (s .args .j) (s .pre .1 .1 .within), g .slots .sized .judged)
 
 pay-pay-requires : (t : ℕ) → pay-lts.Need-pay-requires (pay-calls t) (pay-at t) pay.Post
@@ -667,7 +730,8 @@ pay-pay-requires t c κs =
     let k = courseOf (now (s .args .starts)) (now (s .args .ends)) (now (s .args .nets)) (now (s .args .loads)) (s .args .s) in
     let g = s .pre .1 .0 in
     let lies = g .slots .sized .lies in
-    let lt : c .before .before .before .before .before .debtor .result < s .args .m = omega (arith, c .before .before .before .before .before .debtor .ensures .high, c .before .before .before .before .if1 .left) in
+    let lt : c .before .before .before .before .before .debtor .result < s .args .m = omega
+    (arith, c .before .before .before .before .before .debtor .ensures .high, c .before .before .before .before .if1 .left) in
     let given = law.given (law.slot-paid k lies (c .before .before .before .before .before .debtor .result) lt (g .slots)) (g .sound) (g .well) in (
       omega (arith, s .pre .0, c .before .before .before .before .before .debtor .ensures .low, lt, s .pre .1 .1 .within),
       (
@@ -680,7 +744,8 @@ pay-pay-requires t c κs =
 
 pay-mul-owed-2 : (t : ℕ) → pay-lts.Need-mul-owed-2 (pay-calls t) (pay-at t) pay.Post
 pay-mul-owed-2 t c =
-    let s = (c .before .before .before .before .before .before .before .before .before .before .before .before .before .before .before .before .before .before .before .before .before .before .before) in
+    let s = (c .before .before .before .before .before .before .before .before .before .before .before .before .before .before .before .before .before .before .before .before .before .before
+    .before) in
     let k = courseOf (now (s .args .starts)) (now (s .args .ends)) (now (s .args .nets)) (now (s .args .loads)) (s .args .s) in
     let g = s .pre .1 .0 in
     let lies = g .slots .sized .lies in
@@ -688,7 +753,8 @@ pay-mul-owed-2 t c =
 
 pay-slice-write-owed-2 : (t : ℕ) → pay-lts.Need-slice-write-owed-2 (pay-calls t) (pay-at t) pay.Post
 pay-slice-write-owed-2 t c =
-    let s = (c .before .before .before .before .before .before .before .before .before .before .before .before .before .before .before .before .before .before .before .before .before .before .before) in
+    let s = (c .before .before .before .before .before .before .before .before .before .before .before .before .before .before .before .before .before .before .before .before .before .before
+    .before) in
     let k = courseOf (now (s .args .starts)) (now (s .args .ends)) (now (s .args .nets)) (now (s .args .loads)) (s .args .s) in
     let g = s .pre .1 .0 in
     let lies = g .slots .sized .lies in
@@ -705,8 +771,10 @@ pay-slice-write-owed-2 t c =
 
 pay-same-length-4 : (t : ℕ) → pay-lts.Need-same-length-4 (pay-calls t) (pay-at t) pay.Post
 pay-same-length-4 t c =
-    let s = (c .before .before .before .before .before .before .before .before .before .before .before .before .before .before .before .before .before .before .before .before .before .before .before .before) in
-    simp length-set (c .before .before .before .before .before .before .before .pay .kept .1 .1 .1 .1 .1 .0 ∙ length-set (now (s .args .owed)) (c .before .before .before .before .before .before .before .before .before .before .before .before .before .debtor .result) 0)
+    let s = (c .before .before .before .before .before .before .before .before .before .before .before .before .before .before .before .before .before .before .before .before .before .before
+    .before .before) in
+    simp length-set (c .before .before .before .before .before .before .before .pay .kept .1 .1 .1 .1 .1 .0 ∙ length-set (now (s .args .owed))
+    (c .before .before .before .before .before .before .before .before .before .before .before .before .before .debtor .result) 0)
 
 pay-same-length-5 : (t : ℕ) → pay-lts.Need-same-length-5 (pay-calls t) (pay-at t) pay.Post
 pay-same-length-5 t c = c .before .before .before .before .before .before .before .pay .kept .1 .1 .1 .1 .1 .1 .0
@@ -716,59 +784,111 @@ pay-same-length-6 t c = c .before .before .before .before .before .before .befor
 
 pay-returns-2 : (t : ℕ) → pay-lts.Need-returns-2 (pay-calls t) (pay-at t) pay.Post
 pay-returns-2 t c =
-    let s = (c .before .before .before .before .before .before .before .before .before .before .before .before .before .before .before .before .before .before .before .before .before .before .before .before) in
+    let s = (c .before .before .before .before .before .before .before .before .before .before .before .before .before .before .before .before .before .before .before .before .before .before
+    .before .before) in
     let k = courseOf (now (s .args .starts)) (now (s .args .ends)) (now (s .args .nets)) (now (s .args .loads)) (s .args .s) in
     let g = s .pre .1 .0 in
     let lies = g .slots .sized .lies in
-    let lt : c .before .before .before .before .before .before .before .before .before .before .before .before .before .debtor .result < s .args .m = omega (arith, c .before .before .before .before .before .before .before .before .before .before .before .before .before .debtor .ensures .high, c .before .before .before .before .before .before .before .before .before .before .before .before .if1 .left) in
+    let lt : c .before .before .before .before .before .before .before .before .before .before .before .before .before .debtor .result < s .args .m = omega (
+      arith,
+      c .before .before .before .before .before .before .before .before .before .before .before .before .before .debtor .ensures .high,
+      c .before .before .before .before .before .before .before .before .before .before .before .before .if1 .left,
+    ) in
     led.carry
     (chain.one-fits (Reads k (Later k (s .args .j)) (s .args .j) (s .args .here)) (lengthAt k (s .args .j)) (s .args .load) (now (s .args .owed))
-    (chain.some-debtor (g .slots .below) (c .before .before .before .before .before .before .before .before .before .before .before .before .before .debtor .ensures) lt) (omega (arith, lt, g .slots .below)))
-    (led.first (c .if2 .taken) (led.back (now (s .args .owed)) (c .before .before .before .before .before .before .before .pay .last .1 .1 .1 .1 .1 .0) (c .before .before .before .before .before .before .before .before .before .before .before .before .before .debtor .result) 0 (c .before .before .before .before .before .before .before .pay .ensures)))
+    (chain.some-debtor (g .slots .below) (c .before .before .before .before .before .before .before .before .before .before .before .before .before .debtor .ensures) lt)
+    (omega (arith, lt, g .slots .below)))
+    (led.first (c .if2 .taken) (led.back (now (s .args .owed)) (c .before .before .before .before .before .before .before .pay .last .1 .1 .1 .1 .1 .0)
+    (c .before .before .before .before .before .before .before .before .before .before .before .before .before .debtor .result) 0
+    (c .before .before .before .before .before .before .before .pay .ensures)))
 
 pay-add-pay-3 : (t : ℕ) → pay-lts.Need-add-pay-3 (pay-calls t) (pay-at t) pay.Post
 pay-add-pay-3 t c =
-    let s = (c .before .before .before .before .before .before .before .before .before .before .before .before .before .before .before .before .before .before .before .before .before .before .before .before .before .before .before) in
+    let s = (c .before .before .before .before .before .before .before .before .before .before .before .before .before .before .before .before .before .before .before .before .before .before
+    .before .before .before .before .before) in
     let k = courseOf (now (s .args .starts)) (now (s .args .ends)) (now (s .args .nets)) (now (s .args .loads)) (s .args .s) in
     let g = s .pre .1 .0 in
     let lies = g .slots .sized .lies in
-    omega (arith, c .before .before .before .before .before .before .before .before .before .before .before .before .before .before .before .before .debtor .ensures .high, g .slots .below, s .pre .1 .1 .within, g .slots .sized .few)
+    omega (
+      arith,
+      c .before .before .before .before .before .before .before .before .before .before .before .before .before .before .before .before .debtor .ensures .high,
+      g .slots .below,
+      s .pre .1 .1 .within,
+      g .slots .sized .few,
+    )
 
 pay-pay-requires-2 : (t : ℕ) → pay-lts.Need-pay-requires-2 (pay-calls t) (pay-at t) pay.Post
 pay-pay-requires-2 t c κs =
-    let s = (c .before .before .before .before .before .before .before .before .before .before .before .before .before .before .before .before .before .before .before .before .before .before .before .before .before .before .before) in
+    let s = (c .before .before .before .before .before .before .before .before .before .before .before .before .before .before .before .before .before .before .before .before .before .before
+    .before .before .before .before .before) in
     let k = courseOf (now (s .args .starts)) (now (s .args .ends)) (now (s .args .nets)) (now (s .args .loads)) (s .args .s) in
     let g = s .pre .1 .0 in
     let lies = g .slots .sized .lies in
-    let lt : c .before .before .before .before .before .before .before .before .before .before .before .before .before .before .before .before .debtor .result < s .args .m = omega (arith, c .before .before .before .before .before .before .before .before .before .before .before .before .before .before .before .before .debtor .ensures .high, c .before .before .before .before .before .before .before .before .before .before .before .before .before .before .before .if1 .left) in
-    let paid = led.back (now (s .args .owed)) (c .before .before .before .before .before .before .before .before .before .before .pay .last .1 .1 .1 .1 .1 .0) (c .before .before .before .before .before .before .before .before .before .before .before .before .before .before .before .before .debtor .result) 0 (c .before .before .before .before .before .before .before .before .before .before .pay .ensures) in
-    let given = law.given (law.relent k lies (g .slots) (paid .same)) (paid .sound) (paid .well) in
-    (omega (arith, s .pre .0, c .before .before .before .before .before .before .before .before .before .before .before .before .before .before .before .before .debtor .ensures .low, lt, s .pre .1 .1 .within), (given, s .pre .1 .1, omega (arith, lt), s .pre .1 .3))
+    let lt : c .before .before .before .before .before .before .before .before .before .before .before .before .before .before .before .before .debtor .result < s .args .m = omega (
+      arith,
+      c .before .before .before .before .before .before .before .before .before .before .before .before .before .before .before .before .debtor .ensures .high,
+      c .before .before .before .before .before .before .before .before .before .before .before .before .before .before .before .if1 .left,
+    ) in
+    let paid = led.back (now (s .args .owed)) (c .before .before .before .before .before .before .before .before .before .before .pay .last .1 .1 .1 .1 .1 .0)
+    (c .before .before .before .before .before .before .before .before .before .before .before .before .before .before .before .before .debtor .result) 0
+    (c .before .before .before .before .before .before .before .before .before .before .pay .ensures) in
+    let given = law.given (law.relent k lies (g .slots) (paid .same)) (paid .sound) (paid .well) in (
+      omega (
+        arith,
+        s .pre .0,
+        c .before .before .before .before .before .before .before .before .before .before .before .before .before .before .before .before .debtor .ensures .low,
+        lt,
+        s .pre .1 .1 .within,
+      ),
+      (given, s .pre .1 .1, omega (arith, lt), s .pre .1 .3),
+    )
 
 pay-same-length-7 : (t : ℕ) → pay-lts.Need-same-length-7 (pay-calls t) (pay-at t) pay.Post
 pay-same-length-7 t c =
-    let s = (c .before .before .before .before .before .before .before .before .before .before .before .before .before .before .before .before .before .before .before .before .before .before .before .before .before .before .before .before .before .before .before .before .before .before) in
-    c .before .before .before .before .before .before .pay2 .kept .1 .1 .1 .1 .1 .0 ∙ simp length-set (c .before .before .before .before .before .before .before .before .before .before .before .before .before .before .before .before .before .pay .kept .1 .1 .1 .1 .1 .0 ∙ length-set (now (s .args .owed)) (c .before .before .before .before .before .before .before .before .before .before .before .before .before .before .before .before .before .before .before .before .before .before .before .debtor .result) 0)
+    let s = (c .before .before .before .before .before .before .before .before .before .before .before .before .before .before .before .before .before .before .before .before .before .before
+    .before .before .before .before .before .before .before .before .before .before .before .before) in
+    c .before .before .before .before .before .before .pay2 .kept .1 .1 .1 .1 .1 .0 ∙ simp length-set
+    (c .before .before .before .before .before .before .before .before .before .before .before .before .before .before .before .before .before .pay .kept .1 .1 .1 .1 .1 .0 ∙ length-set
+    (now (s .args .owed)) (c .before .before .before .before .before .before .before .before .before .before .before .before .before .before .before .before .before .before .before .before
+    .before .before .before .debtor .result) 0)
 
 pay-same-length-8 : (t : ℕ) → pay-lts.Need-same-length-8 (pay-calls t) (pay-at t) pay.Post
-pay-same-length-8 t c = c .before .before .before .before .before .before .pay2 .kept .1 .1 .1 .1 .1 .1 .0 ∙ c .before .before .before .before .before .before .before .before .before .before .before .before .before .before .before .before .before .pay .kept .1 .1 .1 .1 .1 .1 .0
+pay-same-length-8 t c = c .before .before .before .before .before .before .pay2 .kept .1 .1 .1 .1 .1 .1 .0 ∙
+    c .before .before .before .before .before .before .before .before .before .before .before .before .before .before .before .before .before .pay .kept .1 .1 .1 .1 .1 .1 .0
 
 pay-same-length-9 : (t : ℕ) → pay-lts.Need-same-length-9 (pay-calls t) (pay-at t) pay.Post
-pay-same-length-9 t c = c .before .before .before .before .before .before .pay2 .kept .1 .1 .1 .1 .1 .1 .1 .0 ∙ c .before .before .before .before .before .before .before .before .before .before .before .before .before .before .before .before .before .pay .kept .1 .1 .1 .1 .1 .1 .1 .0
+pay-same-length-9 t c = c .before .before .before .before .before .before .pay2 .kept .1 .1 .1 .1 .1 .1 .1 .0 ∙
+    c .before .before .before .before .before .before .before .before .before .before .before .before .before .before .before .before .before .pay .kept .1 .1 .1 .1 .1 .1 .1 .0
 
 pay-returns-3 : (t : ℕ) → pay-lts.Need-returns-3 (pay-calls t) (pay-at t) pay.Post
 pay-returns-3 t c =
-    let s = (c .before .before .before .before .before .before .before .before .before .before .before .before .before .before .before .before .before .before .before .before .before .before .before .before .before .before .before .before .before .before .before .before .before .before) in
+    let s = (c .before .before .before .before .before .before .before .before .before .before .before .before .before .before .before .before .before .before .before .before .before .before
+    .before .before .before .before .before .before .before .before .before .before .before .before) in
     let k = courseOf (now (s .args .starts)) (now (s .args .ends)) (now (s .args .nets)) (now (s .args .loads)) (s .args .s) in
     let g = s .pre .1 .0 in
     let lies = g .slots .sized .lies in
-    let lt : c .before .before .before .before .before .before .before .before .before .before .before .before .before .before .before .before .before .before .before .before .before .before .before .debtor .result < s .args .m = omega (arith, c .before .before .before .before .before .before .before .before .before .before .before .before .before .before .before .before .before .before .before .before .before .before .before .debtor .ensures .high, c .before .before .before .before .before .before .before .before .before .before .before .before .before .before .before .before .before .before .before .before .before .before .if1 .left) in
-    let paid = led.back (now (s .args .owed)) (c .before .before .before .before .before .before .before .before .before .before .before .before .before .before .before .before .before .pay .last .1 .1 .1 .1 .1 .0) (c .before .before .before .before .before .before .before .before .before .before .before .before .before .before .before .before .before .before .before .before .before .before .before .debtor .result) 0 (c .before .before .before .before .before .before .before .before .before .before .before .before .before .before .before .before .before .pay .ensures) in
-    let left : List ℕ → Type 0 = λ o. Pays (Reads k (Later k (s .args .j)) (s .args .j) (s .args .here)) (lengthAt k (s .args .j)) (s .args .j - (c .before .before .before .before .before .before .before .before .before .before .before .before .before .before .before .before .before .before .before .before .before .before .before .debtor .result + 1)) (c .before .before .before .before .before .before .before .before .before .before .before .before .before .before .before .before .before .before .before .before .before .before .before .debtor .result + 1) (s .args .load) o in
+    let lt : c .before .before .before .before .before .before .before .before .before .before .before .before .before .before .before .before .before .before .before .before .before .before
+    .before .debtor .result < s .args .m = omega (
+      arith,
+      c .before .before .before .before .before .before .before .before .before .before .before .before .before .before .before .before
+          .before .before .before .before .before .before .before .debtor .ensures .high,
+      c .before .before .before .before .before .before .before .before .before .before .before .before .before .before .before .before .before .before .before .before .before .before .if1
+          .left,
+    ) in
+    let paid = led.back (now (s .args .owed)) (c .before .before .before .before .before .before .before .before .before .before .before .before .before .before .before .before .before .pay .last
+    .1 .1 .1 .1 .1 .0) (c .before .before .before .before .before .before .before .before .before .before .before .before .before .before .before .before .before .before .before .before
+    .before .before .before .debtor .result) 0 (c .before .before .before .before .before .before .before .before .before .before .before .before .before .before .before .before .before .pay
+    .ensures) in
+    let left : List ℕ → Type 0 = λ o. Pays (Reads k (Later k (s .args .j)) (s .args .j) (s .args .here)) (lengthAt k (s .args .j))
+    (s .args .j - (c .before .before .before .before .before .before .before .before .before .before .before .before .before .before .before .before .before .before .before .before .before
+    .before .before .debtor .result + 1)) (c .before .before .before .before .before .before .before .before .before .before .before .before .before .before .before .before .before .before
+    .before .before .before .before .before .debtor .result + 1) (s .args .load) o in
     led.carry
     (chain.one-fits (Reads k (Later k (s .args .j)) (s .args .j) (s .args .here)) (lengthAt k (s .args .j)) (s .args .load) (now (s .args .owed))
-    (chain.some-debtor (g .slots .below) (c .before .before .before .before .before .before .before .before .before .before .before .before .before .before .before .before .before .before .before .before .before .before .before .debtor .ensures) lt) (omega (arith, lt, g .slots .below)))
-    (led.both (led.known (c .before .before .before .before .before .before .before .before .before .before .if2 .left) paid) (led.again left (paid .same) (c .before .before .before .before .before .before .pay2 .ensures)))
+    (chain.some-debtor (g .slots .below) (c .before .before .before .before .before .before .before .before .before .before .before .before .before .before .before .before .before .before .before
+    .before .before .before .before .debtor .ensures) lt) (omega (arith, lt, g .slots .below)))
+    (led.both (led.known (c .before .before .before .before .before .before .before .before .before .before .if2 .left) paid)
+    (led.again left (paid .same) (c .before .before .before .before .before .before .pay2 .ensures)))
 
 place-returns : (t : ℕ) → place-lts.Need-returns (place-calls t) (place-at t) place.Post
 place-returns t c =
@@ -817,17 +937,21 @@ place-pay-requires t c κs =
 
 place-returns-3 : (t : ℕ) → place-lts.Need-returns-3 (place-calls t) (place-at t) place.Post
 place-returns-3 t c =
-    let s = (c .before .before .before .before .before .before .before .before .before .before .before .before .before .before .before .before .before .before .before .before .before .before .before .before .before .before .before .before) in
+    let s = (c .before .before .before .before .before .before .before .before .before .before .before .before .before .before .before .before .before .before .before .before .before .before
+    .before .before .before .before .before .before) in
     let k = courseOf (now (s .args .starts)) (now (s .args .ends)) (now (s .args .nets)) (now (s .args .loads)) (s .args .s) in
     let g = s .pre .1 .0 in
     let lies = g .slots .sized .lies in
     let found = chain.all-debts (Reads k (Later k (s .args .j)) (s .args .j) (s .args .here)) (lengthAt k (s .args .j)) (at (now (s .args .loads)) (s .args .j)) (now (s .args .owed)) (s .args .j) in
-    led.accept (found .to (c .before .before .before .before .before .before .pay .ensures .yes (c .if3 .taken))) (c .before .before .before .before .before .before .pay .ensures .same) (c .before .before .before .before .before .before .pay .ensures .sound)
-    (fronts.placed-front k lies (s .args .j) (s .args .m) (g .slots) (s .pre .1 .1) (g .well) (c .before .before .before .before .before .before .before .before .before .before .before .before .before .before .before .before .before .before .put .ensures))
+    led.accept (found .to (c .before .before .before .before .before .before .pay .ensures .yes (c .if3 .taken))) (c .before .before .before .before .before .before .pay .ensures .same)
+    (c .before .before .before .before .before .before .pay .ensures .sound)
+    (fronts.placed-front k lies (s .args .j) (s .args .m) (g .slots) (s .pre .1 .1) (g .well)
+    (c .before .before .before .before .before .before .before .before .before .before .before .before .before .before .before .before .before .before .put .ensures))
 
 place-remember-requires : (t : ℕ) → place-lts.Need-remember-requires (place-calls t) (place-at t) place.Post
 place-remember-requires t c κs =
-    let s = (c .before .before .before .before .before .before .before .before .before .before .before .before .before .before .before .before .before .before .before .before .before .before .before .before .before .before .before .before .before .before) in
+    let s = (c .before .before .before .before .before .before .before .before .before .before .before .before .before .before .before .before .before .before .before .before .before .before
+    .before .before .before .before .before .before .before .before) in
     let k = courseOf (now (s .args .starts)) (now (s .args .ends)) (now (s .args .nets)) (now (s .args .loads)) (s .args .s) in
     let g = s .pre .1 .0 in
     let lies = g .slots .sized .lies in
@@ -839,18 +963,28 @@ place-remember-requires t c κs =
 
 place-returns-4 : (t : ℕ) → place-lts.Need-returns-4 (place-calls t) (place-at t) place.Post
 place-returns-4 t c =
-    let s = (c .before .before .before .before .before .before .before .before .before .before .before .before .before .before .before .before .before .before .before .before .before .before .before .before .before .before .before .before .before .before .before .before .before) in
+    let s = (c .before .before .before .before .before .before .before .before .before .before .before .before .before .before .before .before .before .before .before .before .before .before
+    .before .before .before .before .before .before .before .before .before .before .before) in
     let k = courseOf (now (s .args .starts)) (now (s .args .ends)) (now (s .args .nets)) (now (s .args .loads)) (s .args .s) in
     let g = s .pre .1 .0 in
     let lies = g .slots .sized .lies in
-    let put = c .before .before .before .before .before .before .before .before .before .before .before .before .before .before .before .before .before .before .before .before .before .before .before .put .ensures in
+    let put = c .before .before .before .before .before .before .before .before .before .before .before .before .before .before .before .before .before .before .before .before .before .before
+    .before .put .ensures in
     let found = chain.all-debts (Reads k (Later k (s .args .j)) (s .args .j) (s .args .here)) (lengthAt k (s .args .j)) (at (now (s .args .loads)) (s .args .j)) (now (s .args .owed)) (s .args .j) in
     let nay : Tries k (Later k (s .args .j)) (s .args .j) (s .args .here) (now (s .args .owed)) → ⊥ =
-    λ h. fronts.no-room k (s .args .j + 1) (c .before .before .before .before .before .before .before .before .before .before .before .pay .kept .1 .1 .1 .1 .1 .1 .1 .0) (c .before .before .before .before .before .before .before .before .before .before .before .pay .ensures .well) (c .before .before .before .before .before .before .before .before .before .before .before .pay .ensures .leads (c .before .before .before .before .before .if3 .left) (found .from h)) in
-    let remembered = subst (λ (o : List ℕ). Remembered (c .before .before .before .before .before .before .before .before .before .before .before .pay .last .1 .1 .1 .1 .1 .1 .0) (c .before .before .remember .last .0) (s .args .j) (s .args .here) o) (c .before .before .before .before .before .before .before .before .before .before .before .pay .ensures .same) (c .before .before .remember .ensures) in
-    let sound = memory.sound-on k lies (c .before .before .before .before .before .before .before .before .before .before .before .pay .last .1 .1 .1 .1 .1 .1 .0) (c .before .before .remember .last .0) (s .args .j) (s .args .here) (now (s .args .owed)) (s .pre .1 .1 .within) (s .pre .1 .1 .week)
-    (g .slots .sized .owed-too) (λ x l. g .slots .unused x (omega (arith, l, g .slots .below))) (c .before .before .before .before .before .before .before .before .before .before .before .pay .ensures .sound) remembered nay in
-    led.asked (fronts.not-placed k lies (s .args .j) (s .args .m) (g .slots) (s .pre .1 .1) (g .well) put (c .before .before .before .before .before .before .before .before .before .before .before .before .before .before .before .before .before .before .before .before .if1 .left)) (led.found-no nay (c .before .before .before .before .before .before .before .before .before .before .before .pay .ensures .same) sound)
+    λ h. fronts.no-room k (s .args .j + 1) (c .before .before .before .before .before .before .before .before .before .before .before .pay .kept .1 .1 .1 .1 .1 .1 .1 .0)
+    (c .before .before .before .before .before .before .before .before .before .before .before .pay .ensures .well)
+    (c .before .before .before .before .before .before .before .before .before .before .before .pay .ensures .leads (c .before .before .before .before .before .if3 .left) (found .from h)) in
+    let remembered = subst (λ (o : List ℕ). Remembered (c .before .before .before .before .before .before .before .before .before .before .before .pay .last .1 .1 .1 .1 .1 .1 .0)
+    (c .before .before .remember .last .0) (s .args .j) (s .args .here) o) (c .before .before .before .before .before .before .before .before .before .before .before .pay .ensures .same)
+    (c .before .before .remember .ensures) in
+    let sound = memory.sound-on k lies (c .before .before .before .before .before .before .before .before .before .before .before .pay .last .1 .1 .1 .1 .1 .1 .0)
+    (c .before .before .remember .last .0) (s .args .j) (s .args .here) (now (s .args .owed)) (s .pre .1 .1 .within) (s .pre .1 .1 .week)
+    (g .slots .sized .owed-too) (λ x l. g .slots .unused x (omega (arith, l, g .slots .below)))
+    (c .before .before .before .before .before .before .before .before .before .before .before .pay .ensures .sound) remembered nay in
+    led.asked (fronts.not-placed k lies (s .args .j) (s .args .m) (g .slots) (s .pre .1 .1) (g .well) put
+    (c .before .before .before .before .before .before .before .before .before .before .before .before .before .before .before .before .before .before .before .before .if1 .left))
+    (led.found-no nay (c .before .before .before .before .before .before .before .before .before .before .before .pay .ensures .same) sound)
     (fronts.placed-front k lies (s .args .j) (s .args .m) (g .slots) (s .pre .1 .1) (g .well) put)
 
 read-as-daily-requires : (t : ℕ) → read-as-lts.Need-daily-requires (read-as-calls t) (read-as-at t) read-as.Post
@@ -883,7 +1017,8 @@ read-as-returns t c =
     let k = courseOf (now (s .args .starts)) (now (s .args .ends)) (now (s .args .nets)) (now (s .args .loads)) (s .args .s) in
     let g = s .pre .1 .0 in
     let lies = g .slots .sized .lies in
-    led.carry (led.equal-back (chain.read-daily k (Later k (s .args .j)) (s .args .j) (s .args .here) (s .args .load) (now (s .args .owed)) (c .before .before .before .before .before .before .before .before .before .before .enum-told .given .1)))
+    led.carry (led.equal-back (chain.read-daily k (Later k (s .args .j)) (s .args .j) (s .args .here) (s .args .load) (now (s .args .owed))
+    (c .before .before .before .before .before .before .before .before .before .before .enum-told .given .1)))
     (c .before .before .before .before .before .before .daily .ensures)
 
 read-as-returns-2 : (t : ℕ) → read-as-lts.Need-returns-2 (read-as-calls t) (read-as-at t) read-as.Post
@@ -892,7 +1027,8 @@ read-as-returns-2 t c =
     let k = courseOf (now (s .args .starts)) (now (s .args .ends)) (now (s .args .nets)) (now (s .args .loads)) (s .args .s) in
     let g = s .pre .1 .0 in
     let lies = g .slots .sized .lies in
-    led.carry (led.equal-back (chain.read-weekly k (Later k (s .args .j)) (s .args .j) (s .args .here) (s .args .load) (now (s .args .owed)) (c .before .before .before .before .before .before .before .before .before .before .before .kind .given .1)))
+    led.carry (led.equal-back (chain.read-weekly k (Later k (s .args .j)) (s .args .j) (s .args .here) (s .args .load) (now (s .args .owed))
+    (c .before .before .before .before .before .before .before .before .before .before .before .kind .given .1)))
     (c .before .before .before .before .before .before .weekly .ensures)
 
 step-closes-requires : (t : ℕ) → step-lts.Need-closes-requires (step-calls t) (step-at t) step.Post
@@ -990,23 +1126,36 @@ step-returns-4 t c =
 
 step-place-requires : (t : ℕ) → step-lts.Need-place-requires (step-calls t) (step-at t) step.Post
 step-place-requires t c κs =
-    let s = (c .before .before .before .before .before .before .before .before .before .before .before .before .before .before .before .before .before .before .before .before .before .before .before) in
+    let s = (c .before .before .before .before .before .before .before .before .before .before .before .before .before .before .before .before .before .before .before .before .before .before
+    .before) in
     let k = courseOf (now (s .args .starts)) (now (s .args .ends)) (now (s .args .nets)) (now (s .args .loads)) (s .args .s) in
     let g = s .pre .1 .0 in
     let lies = g .slots .sized .lies in
-    let lt : s .args .j < length (now (s .args .starts)) = omega (arith, s .pre .1 .1 .within, c .before .before .before .before .before .before .before .before .before .before .before .before .before .before .before .if1 .left) in
-    let brought = law.brought (restWeek k) (weekOf (at (now (s .args .starts)) (s .args .j)) - s .args .st .week) (s .pre .1 .1 .small) (c .before .before .before .before .before .before .advance .ensures) (c .before .before .before .before .here .given .1) in
+    let lt : s .args .j < length (now (s .args .starts)) = omega
+    (arith, s .pre .1 .1 .within, c .before .before .before .before .before .before .before .before .before .before .before .before .before .before .before .if1 .left) in
+    let brought = law.brought (restWeek k) (weekOf (at (now (s .args .starts)) (s .args .j)) - s .args .st .week) (s .pre .1 .1 .small)
+    (c .before .before .before .before .before .before .advance .ensures) (c .before .before .before .before .here .given .1) in
     (omega (arith, s .pre .0), (g, arrives k lies lt (s .pre .1 .1 .stands) brought))
 
 step-returns-5 : (t : ℕ) → step-lts.Need-returns-5 (step-calls t) (step-at t) step.Post
 step-returns-5 t c =
-    let s = (c .before .before .before .before .before .before .before .before .before .before .before .before .before .before .before .before .before .before .before .before .before .before .before .before .before .before .before .before .before .before) in
+    let s = (c .before .before .before .before .before .before .before .before .before .before .before .before .before .before .before .before .before .before .before .before .before .before
+    .before .before .before .before .before .before .before .before) in
     let k = courseOf (now (s .args .starts)) (now (s .args .ends)) (now (s .args .nets)) (now (s .args .loads)) (s .args .s) in
     let g = s .pre .1 .0 in
     let lies = g .slots .sized .lies in
-    let lt : s .args .j < length (now (s .args .starts)) = omega (arith, s .pre .1 .1 .within, c .before .before .before .before .before .before .before .before .before .before .before .before .before .before .before .before .before .before .before .before .before .before .if1 .left) in
+    let lt : s .args .j < length (now (s .args .starts)) = omega (
+      arith,
+      s .pre .1 .1 .within,
+      c .before .before .before .before .before .before .before .before .before .before .before .before .before .before .before .before .before .before .before
+          .before .before .before .if1 .left,
+    ) in
     led.carry
-    (chain.goes-on k lies (s .args .j) (s .args .st) (now (s .args .owed)) (c .before .before .before .before .before .before .before .before .before .before .before .here .given .0 .0) lt (c .before .before .before .before .before .before .before .before .before .before .before .before .before .before .before .before .before .before .before .if2 .left) (c .before .before .before .before .before .before .before .before .before .before .before .before .before .before .before .before .overdue .ensures .no (c .before .before .before .before .before .before .before .before .before .before .before .before .before .before .before .if3 .left)) (c .before .before .before .before .before .before .before .before .before .before .before .before .before .advance .ensures)
+    (chain.goes-on k lies (s .args .j) (s .args .st) (now (s .args .owed)) (c .before .before .before .before .before .before .before .before .before .before .before .here .given .0 .0) lt
+    (c .before .before .before .before .before .before .before .before .before .before .before .before .before .before .before .before .before .before .before .if2 .left)
+    (c .before .before .before .before .before .before .before .before .before .before .before .before .before .before .before .before .overdue .ensures .no
+    (c .before .before .before .before .before .before .before .before .before .before .before .before .before .before .before .if3 .left))
+    (c .before .before .before .before .before .before .before .before .before .before .before .before .before .advance .ensures)
     (c .before .before .before .before .before .before .before .before .before .before .before .here .given .1))
     (c .before .before .before .before .before .before .place .ensures)
 
@@ -1069,13 +1218,16 @@ weekly-in-week-requires t c κs =
     (omega (arith, s .pre .0, s .pre .1 .1 .within), (given, s .pre .1 .1, s .pre .1 .2, s .pre .1 .3, omega (arith, i .0), c .before .before .before .loop-test .taken))
 
 weekly-same-length : (t : ℕ) → weekly-lts.Need-same-length (weekly-calls t) (weekly-at t) weekly.Post weekly-Inv-loop weekly-μ-loop
-weekly-same-length t c = c .before .before .before .before .before .before .before .in-week .kept .1 .1 .1 .1 .1 .0 ∙ ap length (c .before .before .before .before .before .before .before .before .before .before .before .before .loop .inv .5 .same)
+weekly-same-length t c = c .before .before .before .before .before .before .before .in-week .kept .1 .1 .1 .1 .1 .0 ∙ ap length
+    (c .before .before .before .before .before .before .before .before .before .before .before .before .loop .inv .5 .same)
 
 weekly-same-length-2 : (t : ℕ) → weekly-lts.Need-same-length-2 (weekly-calls t) (weekly-at t) weekly.Post weekly-Inv-loop weekly-μ-loop
-weekly-same-length-2 t c = c .before .before .before .before .before .before .before .in-week .kept .1 .1 .1 .1 .1 .1 .0 ∙ c .before .before .before .before .before .before .before .before .before .before .before .before .loop .inv .3
+weekly-same-length-2 t c = c .before .before .before .before .before .before .before .in-week .kept .1 .1 .1 .1 .1 .1 .0 ∙
+    c .before .before .before .before .before .before .before .before .before .before .before .before .loop .inv .3
 
 weekly-same-length-3 : (t : ℕ) → weekly-lts.Need-same-length-3 (weekly-calls t) (weekly-at t) weekly.Post weekly-Inv-loop weekly-μ-loop
-weekly-same-length-3 t c = c .before .before .before .before .before .before .before .in-week .kept .1 .1 .1 .1 .1 .1 .1 .0 ∙ c .before .before .before .before .before .before .before .before .before .before .before .before .loop .inv .4
+weekly-same-length-3 t c = c .before .before .before .before .before .before .before .in-week .kept .1 .1 .1 .1 .1 .1 .1 .0 ∙
+    c .before .before .before .before .before .before .before .before .before .before .before .before .loop .inv .4
 
 weekly-returns : (t : ℕ) → weekly-lts.Need-returns (weekly-calls t) (weekly-at t) weekly.Post weekly-Inv-loop weekly-μ-loop
 weekly-returns t c =
@@ -1084,7 +1236,8 @@ weekly-returns t c =
     let g = s .pre .1 .0 in
     let lies = g .slots .sized .lies in
     let i = c .before .before .before .before .before .before .before .before .before .before .before .before .loop .inv in
-    let at-once : List ℕ → Type 0 = λ o. Counted k (Later k (s .args .j)) (s .args .j) (s .args .here) (c .before .before .before .before .before .before .before .before .before .before .before .before .loop .w) (s .args .load) o in
+    let at-once : List ℕ → Type 0 = λ o. Counted k (Later k (s .args .j)) (s .args .j) (s .args .here)
+    (c .before .before .before .before .before .before .before .before .before .before .before .before .loop .w) (s .args .load) o in
     let found : ReadWeekly k (Later k (s .args .j)) (s .args .j) (s .args .here) (s .args .load) (now (s .args .owed)) = record {
       net = s .pre .1 .3;
       week = c .before .before .before .before .before .before .before .before .before .before .before .before .loop .w;
@@ -1092,7 +1245,8 @@ weekly-returns t c =
       upto = c .before .before .before .before .before .before .before .before .before .before .before .loop-test .taken;
       then = subst at-once (i .5 .same) (c .before .before .before .before .before .before .before .in-week .ensures .yes (c .if1 .taken));
     } in
-    led.accepted (c .if1 .taken) found (c .before .before .before .before .before .before .before .in-week .ensures .same ∙ i .5 .same) (c .before .before .before .before .before .before .before .in-week .ensures .sound) (c .before .before .before .before .before .before .before .in-week .ensures .well)
+    led.accepted (c .if1 .taken) found (c .before .before .before .before .before .before .before .in-week .ensures .same ∙ i .5 .same)
+    (c .before .before .before .before .before .before .before .in-week .ensures .sound) (c .before .before .before .before .before .before .before .in-week .ensures .well)
 
 weekly-add-w : (t : ℕ) → weekly-lts.Need-add-w (weekly-calls t) (weekly-at t) weekly.Post weekly-Inv-loop weekly-μ-loop
 weekly-add-w t c =
@@ -1100,7 +1254,12 @@ weekly-add-w t c =
     let k = courseOf (now (s .args .starts)) (now (s .args .ends)) (now (s .args .nets)) (now (s .args .loads)) (s .args .s) in
     let g = s .pre .1 .0 in
     let lies = g .slots .sized .lies in
-    omega (arith, c .before .before .before .before .before .before .before .before .before .before .before .before .loop .inv .1, lies .judged (s .args .j) (s .pre .1 .1 .within), g .slots .sized .judged)
+    omega (
+      arith,
+      c .before .before .before .before .before .before .before .before .before .before .before .before .loop .inv .1,
+      lies .judged (s .args .j) (s .pre .1 .1 .within),
+      g .slots .sized .judged,
+    )
 
 weekly-loop-again : (t : ℕ) → weekly-lts.Need-loop-again (weekly-calls t) (weekly-at t) weekly.Post weekly-Inv-loop weekly-μ-loop
 weekly-loop-again t c =
@@ -1109,13 +1268,15 @@ weekly-loop-again t c =
     let g = s .pre .1 .0 in
     let lies = g .slots .sized .lies in
     let i = c .before .before .before .before .before .before .before .before .before .before .before .before .loop .inv in
-    let at-once : List ℕ → Type 0 = λ o. Counted k (Later k (s .args .j)) (s .args .j) (s .args .here) (c .before .before .before .before .before .before .before .before .before .before .before .before .loop .w) (s .args .load) o in (
+    let at-once : List ℕ → Type 0 = λ o. Counted k (Later k (s .args .j)) (s .args .j) (s .args .here)
+    (c .before .before .before .before .before .before .before .before .before .before .before .before .loop .w) (s .args .load) o in (
       omega (arith, i .0),
       omega (arith, c .before .before .before .before .before .before .before .before .before .before .before .loop-test .taken),
       inl (omega (arith, c .before .before .before .before .before .before .before .before .before .before .before .loop-test .taken)),
       c .before .before .before .before .before .before .before .in-week .kept .1 .1 .1 .1 .1 .1 .0 ∙ i .3,
       c .before .before .before .before .before .before .before .in-week .kept .1 .1 .1 .1 .1 .1 .1 .0 ∙ i .4,
-      led.carry (chain.one-week k (Later k (s .args .j)) (s .args .j) (s .args .here) (s .args .load) (now (s .args .owed)) _ (c .before .before .before .before .before .before .before .before .before .before .before .before .loop .w) (i .0))
+      led.carry (chain.one-week k (Later k (s .args .j)) (s .args .j) (s .args .here) (s .args .load) (now (s .args .owed)) _
+          (c .before .before .before .before .before .before .before .before .before .before .before .before .loop .w) (i .0))
           (led.both (i .5) (led.again at-once (i .5 .same) (led.known (c .if1 .left) (c .before .before .before .before .before .before .before .in-week .ensures)))),
     )
 

@@ -21,18 +21,28 @@ returns : tie.Need-returns
 returns c =
     let s = (c .before .before .before .before .before .before .before .before .before .before .before .before .before .before .before .before .before .before .before .before) in
     let k = courseOf (now (s .args .starts)) (now (s .args .ends)) (now (s .args .nets)) (now (s .args .loads)) (s .args .s) in
-    merging.reached-yes refl (c .before .before .before .before .before .before .before .step .ensures .yes (c .if1 .taken)) (c .before .before .before .before .before .before .before .step .ensures .same) (c .before .before .before .before .before .before .before .step .ensures .sound) (sweeps.front-none k (s .args .j + 2 * s .args .p) _)
+    merging.reached-yes refl (c .before .before .before .before .before .before .before .step .ensures .yes (c .if1 .taken))
+    (c .before .before .before .before .before .before .before .step .ensures .same) (c .before .before .before .before .before .before .before .step .ensures .sound)
+    (sweeps.front-none k (s .args .j + 2 * s .args .p) _)
 
 sweep-pairs-requires : tie.Need-sweep-pairs-requires
 sweep-pairs-requires c κs =
-    let s = (c .before .before .before .before .before .before .before .before .before .before .before .before .before .before .before .before .before .before .before .before .before .before .before .before) in
-    (s .pre .1, c .before .before .before .before .before .before .before .before .before .before .before .step .ensures .sound, s .pre .4, c .before .before .before .before .before .before .before .before .before .before .before .step .ensures .well)
+    let s = (c .before .before .before .before .before .before .before .before .before .before .before .before .before .before .before .before .before .before .before .before .before .before
+    .before .before) in (
+      s .pre .1,
+      c .before .before .before .before .before .before .before .before .before .before .before .step .ensures .sound,
+      s .pre .4,
+      c .before .before .before .before .before .before .before .before .before .before .before .step .ensures .well,
+    )
 
 returns-2 : tie.Need-returns-2
 returns-2 c =
-    let s = (c .before .before .before .before .before .before .before .before .before .before .before .before .before .before .before .before .before .before .before .before .before .before .before .before .before .before .before .before .before .before .before .before .before) in
+    let s = (c .before .before .before .before .before .before .before .before .before .before .before .before .before .before .before .before .before .before .before .before .before .before
+    .before .before .before .before .before .before .before .before .before .before .before) in
     let k = courseOf (now (s .args .starts)) (now (s .args .ends)) (now (s .args .nets)) (now (s .args .loads)) (s .args .s) in
-    merging.reached-on (c .before .before .before .before .before .before .before .before .before .before .before .before .before .if1 .left) (chain.no-entry k (s .args .j) _) (c .before .before .before .before .before .before .before .before .before .before .before .before .before .before .before .before .before .before .before .before .step .ensures) (c .before .before .before .before .before .before .before .before .sweep-pairs .ensures)
+    merging.reached-on (c .before .before .before .before .before .before .before .before .before .before .before .before .before .if1 .left) (chain.no-entry k (s .args .j) _)
+    (c .before .before .before .before .before .before .before .before .before .before .before .before .before .before .before .before .before .before .before .before .step .ensures)
+    (c .before .before .before .before .before .before .before .before .sweep-pairs .ensures)
 
 pub ask-to-spec : {M : Type 1} → statement M
 ask-to-spec =

@@ -19,9 +19,14 @@ completes-requires c κs =
 
 returns : tie.Need-returns
 returns c =
-    let s = (c .before .before .before .before .before .before .before .before .before .before .before .before .before .before .before .before .before .before .before .before .before .before .before) in
+    let s = (c .before .before .before .before .before .before .before .before .before .before .before .before .before .before .before .before .before .before .before .before .before .before
+    .before) in
     let k = courseOf (now (s .args .starts)) (now (s .args .ends)) (now (s .args .nets)) (now (s .args .loads)) (s .args .s) in
-    sweeps.from-start k (s .pre .sized .lies) (now (s .args .owed)) (c .before .before .before .before .before .before .before .before .before .before .before .before .before .before .rest-week .result) (c .before .before .before .before .before .before .before .before .before .start-state .ensures) (c .before .before .before .before .before .before .before .before .before .before .before .before .before .before .rest-week .ensures) (c .before .before .before .before .before .before .before .before .completes .ensures)
+    sweeps.from-start k (s .pre .sized .lies) (now (s .args .owed))
+    (c .before .before .before .before .before .before .before .before .before .before .before .before .before .before .rest-week .result)
+    (c .before .before .before .before .before .before .before .before .before .start-state .ensures)
+    (c .before .before .before .before .before .before .before .before .before .before .before .before .before .before .rest-week .ensures)
+    (c .before .before .before .before .before .before .before .before .completes .ensures)
 
 pub possible-spec : {M : Type 1} → statement M
 possible-spec =

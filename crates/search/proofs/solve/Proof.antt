@@ -20,10 +20,12 @@ step-requires c κs =
     (law.given (s .pre .0) (s .pre .1) (sweeps.front-none k (s .args .j) _), s .pre .2)
 
 returns : tie.Need-returns
-returns c = led.found-yes (c .before .before .before .before .before .before .before .step .ensures .yes (c .if1 .taken)) (c .before .before .before .before .before .before .before .step .ensures .same) (c .before .before .before .before .before .before .before .step .ensures .sound)
+returns c = led.found-yes (c .before .before .before .before .before .before .before .step .ensures .yes (c .if1 .taken))
+    (c .before .before .before .before .before .before .before .step .ensures .same) (c .before .before .before .before .before .before .before .step .ensures .sound)
 
 array-borrow-prefix-slots : tie.Need-array-borrow-prefix-slots
-array-borrow-prefix-slots c = (c .before .before .before .before .before .before .before .before .before .before .before .before .before .before .before .before .before .before .before) .pre .0 .sized .few
+array-borrow-prefix-slots c = (c .before .before .before .before .before .before .before .before .before .before .before .before .before .before .before .before .before .before .before) .pre .0
+    .sized .few
 
 slice-aggregate-sweep-on : tie.Need-slice-aggregate-sweep-on
 slice-aggregate-sweep-on c =
@@ -32,7 +34,8 @@ slice-aggregate-sweep-on c =
 
 sweep-on-requires : tie.Need-sweep-on-requires
 sweep-on-requires c κs =
-    let s = (c .before .before .before .before .before .before .before .before .before .before .before .before .before .before .before .before .before .before .before .before .before .before .before) in
+    let s = (c .before .before .before .before .before .before .before .before .before .before .before .before .before .before .before .before .before .before .before .before .before .before
+    .before) in
     let k = courseOf (now (s .args .starts)) (now (s .args .ends)) (now (s .args .nets)) (now (s .args .loads)) (s .args .s) in (
       law.sized-too k (s .pre .0 .sized .lies) (s .pre .0 .sized) (sweeps.none-size (length (now (s .args .starts))) (s .pre .0 .sized .few) ∙ sym (s .pre .0 .sized .owed-too)),
       c .before .before .before .before .before .before .before .before .before .before .before .step .ensures .sound,
@@ -42,9 +45,14 @@ sweep-on-requires c κs =
 
 returns-2 : tie.Need-returns-2
 returns-2 c =
-    let s = (c .before .before .before .before .before .before .before .before .before .before .before .before .before .before .before .before .before .before .before .before .before .before .before .before .before .before .before .before .before .before .before) in
+    let s = (c .before .before .before .before .before .before .before .before .before .before .before .before .before .before .before .before .before .before .before .before .before .before
+    .before .before .before .before .before .before .before .before .before) in
     let k = courseOf (now (s .args .starts)) (now (s .args .ends)) (now (s .args .nets)) (now (s .args .loads)) (s .args .s) in
-    sweeps.whole (chain.no-entry k (s .args .j) _) (c .before .before .before .before .before .before .before .before .before .before .before .before .if1 .left) (c .before .before .before .before .before .before .before .before .before .before .before .before .before .before .before .before .before .before .before .step .ensures) (c .before .before .before .before .before .before .before .sweep-on .ensures) (c .before .before .before .before .before .before .before .before .before .before .before .before .before .before .before .before .before .before .before .step .ensures .same) (c .before .before .before .before .before .before .before .sweep-on .ensures .sound)
+    sweeps.whole (chain.no-entry k (s .args .j) _) (c .before .before .before .before .before .before .before .before .before .before .before .before .if1 .left)
+    (c .before .before .before .before .before .before .before .before .before .before .before .before .before .before .before .before .before .before .before .step .ensures)
+    (c .before .before .before .before .before .before .before .sweep-on .ensures)
+    (c .before .before .before .before .before .before .before .before .before .before .before .before .before .before .before .before .before .before .before .step .ensures .same)
+    (c .before .before .before .before .before .before .before .sweep-on .ensures .sound)
 
 pub solve-spec : {M : Type 1} → statement M
 solve-spec =

@@ -33,57 +33,78 @@ loop-holds c =
 sweep-two-requires : tie.Need-sweep-two-requires Inv-loop μ-loop
 sweep-two-requires c κs =
     let s = (c .before .before .before .before .before .before .before .before .before .before .before .before .before .before) in
-    let k = courseOf (now (s .args .starts)) (now (s .args .ends)) (now (s .args .nets)) (now (s .args .loads)) (s .args .s) in
-    (law.sized-too k (s .pre .0 .lies) (s .pre .0) (c .before .before .before .before .before .loop .inv .1), c .before .before .before .before .before .loop .inv .5, c .before .before .before .before .loop-test .taken, c .before .before .before .before .before .loop .inv .6)
+    let k = courseOf (now (s .args .starts)) (now (s .args .ends)) (now (s .args .nets)) (now (s .args .loads)) (s .args .s) in (
+      law.sized-too k (s .pre .0 .lies) (s .pre .0) (c .before .before .before .before .before .loop .inv .1),
+      c .before .before .before .before .before .loop .inv .5,
+      c .before .before .before .before .loop-test .taken,
+      c .before .before .before .before .before .loop .inv .6,
+    )
 
 same-length : tie.Need-same-length Inv-loop μ-loop
-same-length c = c .before .before .before .before .before .before .before .before .before .sweep-two .kept .1 .1 .1 .1 .1 .0 ∙ c .before .before .before .before .before .before .before .before .before .before .before .before .before .before .before .loop .inv .1
+same-length c = c .before .before .before .before .before .before .before .before .before .sweep-two .kept .1 .1 .1 .1 .1 .0 ∙
+    c .before .before .before .before .before .before .before .before .before .before .before .before .before .before .before .loop .inv .1
 
 same-length-2 : tie.Need-same-length-2 Inv-loop μ-loop
-same-length-2 c = c .before .before .before .before .before .before .before .before .before .sweep-two .kept .1 .1 .1 .1 .1 .1 .0 ∙ c .before .before .before .before .before .before .before .before .before .before .before .before .before .before .before .loop .inv .2
+same-length-2 c = c .before .before .before .before .before .before .before .before .before .sweep-two .kept .1 .1 .1 .1 .1 .1 .0 ∙
+    c .before .before .before .before .before .before .before .before .before .before .before .before .before .before .before .loop .inv .2
 
 same-length-3 : tie.Need-same-length-3 Inv-loop μ-loop
-same-length-3 c = c .before .before .before .before .before .before .before .before .before .sweep-two .kept .1 .1 .1 .1 .1 .1 .1 .0 ∙ c .before .before .before .before .before .before .before .before .before .before .before .before .before .before .before .loop .inv .3
+same-length-3 c = c .before .before .before .before .before .before .before .before .before .sweep-two .kept .1 .1 .1 .1 .1 .1 .1 .0 ∙
+    c .before .before .before .before .before .before .before .before .before .before .before .before .before .before .before .loop .inv .3
 
 same-length-4 : tie.Need-same-length-4 Inv-loop μ-loop
-same-length-4 c = c .before .before .before .before .before .before .before .before .before .sweep-two .kept .1 .1 .1 .1 .1 .1 .1 .1 .0 ∙ c .before .before .before .before .before .before .before .before .before .before .before .before .before .before .before .loop .inv .4
+same-length-4 c = c .before .before .before .before .before .before .before .before .before .sweep-two .kept .1 .1 .1 .1 .1 .1 .1 .1 .0 ∙
+    c .before .before .before .before .before .before .before .before .before .before .before .before .before .before .before .loop .inv .4
 
 returns : tie.Need-returns Inv-loop μ-loop
 returns c = record {
-  yes = λ _. c .before .before .before .before .before .before .before .before .before .before .before .before .before .before .before .loop .inv .7 .from (c .before .before .before .before .before .before .before .before .before .sweep-two .ensures .yes (c .if1 .taken));
+  yes = λ _. c .before .before .before .before .before .before .before .before .before .before .before .before .before .before .before .loop .inv .7 .from
+      (c .before .before .before .before .before .before .before .before .before .sweep-two .ensures .yes (c .if1 .taken));
   no = λ h. absurd (true≢false h);
   sound = c .before .before .before .before .before .before .before .before .before .sweep-two .ensures .sound;
 }
 
 same-length-5 : tie.Need-same-length-5 Inv-loop μ-loop
-same-length-5 c = c .before .before .before .before .before .before .before .before .before .before .before .sweep-two .kept .1 .1 .1 .1 .1 .0 ∙ c .before .before .before .before .before .before .before .before .before .before .before .before .before .before .before .before .before .loop .inv .1
+same-length-5 c = c .before .before .before .before .before .before .before .before .before .before .before .sweep-two .kept .1 .1 .1 .1 .1 .0 ∙
+    c .before .before .before .before .before .before .before .before .before .before .before .before .before .before .before .before .before .loop .inv .1
 
 same-length-6 : tie.Need-same-length-6 Inv-loop μ-loop
-same-length-6 c = c .before .before .before .before .before .before .before .before .before .before .before .sweep-two .kept .1 .1 .1 .1 .1 .1 .0 ∙ c .before .before .before .before .before .before .before .before .before .before .before .before .before .before .before .before .before .loop .inv .2
+same-length-6 c = c .before .before .before .before .before .before .before .before .before .before .before .sweep-two .kept .1 .1 .1 .1 .1 .1 .0 ∙
+    c .before .before .before .before .before .before .before .before .before .before .before .before .before .before .before .before .before .loop .inv .2
 
 same-length-7 : tie.Need-same-length-7 Inv-loop μ-loop
-same-length-7 c = c .before .before .before .before .before .before .before .before .before .before .before .sweep-two .kept .1 .1 .1 .1 .1 .1 .1 .0 ∙ c .before .before .before .before .before .before .before .before .before .before .before .before .before .before .before .before .before .loop .inv .3
+same-length-7 c = c .before .before .before .before .before .before .before .before .before .before .before .sweep-two .kept .1 .1 .1 .1 .1 .1 .1 .0 ∙
+    c .before .before .before .before .before .before .before .before .before .before .before .before .before .before .before .before .before .loop .inv .3
 
 same-length-8 : tie.Need-same-length-8 Inv-loop μ-loop
-same-length-8 c = c .before .before .before .before .before .before .before .before .before .before .before .sweep-two .kept .1 .1 .1 .1 .1 .1 .1 .1 .0 ∙ c .before .before .before .before .before .before .before .before .before .before .before .before .before .before .before .before .before .loop .inv .4
+same-length-8 c = c .before .before .before .before .before .before .before .before .before .before .before .sweep-two .kept .1 .1 .1 .1 .1 .1 .1 .1 .0 ∙
+    c .before .before .before .before .before .before .before .before .before .before .before .before .before .before .before .before .before .loop .inv .4
 
 returns-2 : tie.Need-returns-2 Inv-loop μ-loop
 returns-2 c = record {
   yes = λ h. absurd (false≢true h);
-  no = λ _ p. let a = c .before .before .before .before .before .before .before .before .before .before .before .sweep-two .ensures .leads (c .before .before .if1 .left) (c .before .before .before .before .before .before .before .before .before .before .before .before .before .before .before .before .before .loop .inv .7 .to p) in omega (arith, a .below, c .if2 .taken);
+  no = λ _ p. let a = c .before .before .before .before .before .before .before .before .before .before .before .sweep-two .ensures .leads (c .before .before .if1 .left)
+      (c .before .before .before .before .before .before .before .before .before .before .before .before .before .before .before .before .before .loop .inv .7 .to p) in omega
+      (arith, a .below, c .if2 .taken);
   sound = c .before .before .before .before .before .before .before .before .before .before .before .sweep-two .ensures .sound;
 }
 
 loop-again : tie.Need-loop-again Inv-loop μ-loop
 loop-again c = (
   omega (arith, c .before .before .before .before .before .before .before .before .before .before .before .before .before .before .before .before .loop-test .taken),
-  c .before .before .before .before .before .before .before .before .before .before .before .sweep-two .kept .1 .1 .1 .1 .1 .0 ∙ c .before .before .before .before .before .before .before .before .before .before .before .before .before .before .before .before .before .loop .inv .1,
-  c .before .before .before .before .before .before .before .before .before .before .before .sweep-two .kept .1 .1 .1 .1 .1 .1 .0 ∙ c .before .before .before .before .before .before .before .before .before .before .before .before .before .before .before .before .before .loop .inv .2,
-  c .before .before .before .before .before .before .before .before .before .before .before .sweep-two .kept .1 .1 .1 .1 .1 .1 .1 .0 ∙ c .before .before .before .before .before .before .before .before .before .before .before .before .before .before .before .before .before .loop .inv .3,
-  c .before .before .before .before .before .before .before .before .before .before .before .sweep-two .kept .1 .1 .1 .1 .1 .1 .1 .1 .0 ∙ c .before .before .before .before .before .before .before .before .before .before .before .before .before .before .before .before .before .loop .inv .4,
+  c .before .before .before .before .before .before .before .before .before .before .before .sweep-two .kept .1 .1 .1 .1 .1 .0 ∙
+      c .before .before .before .before .before .before .before .before .before .before .before .before .before .before .before .before .before .loop .inv .1,
+  c .before .before .before .before .before .before .before .before .before .before .before .sweep-two .kept .1 .1 .1 .1 .1 .1 .0 ∙
+      c .before .before .before .before .before .before .before .before .before .before .before .before .before .before .before .before .before .loop .inv .2,
+  c .before .before .before .before .before .before .before .before .before .before .before .sweep-two .kept .1 .1 .1 .1 .1 .1 .1 .0 ∙
+      c .before .before .before .before .before .before .before .before .before .before .before .before .before .before .before .before .before .loop .inv .3,
+  c .before .before .before .before .before .before .before .before .before .before .before .sweep-two .kept .1 .1 .1 .1 .1 .1 .1 .1 .0 ∙
+      c .before .before .before .before .before .before .before .before .before .before .before .before .before .before .before .before .before .loop .inv .4,
   c .before .before .before .before .before .before .before .before .before .before .before .sweep-two .ensures .sound,
   c .before .before .before .before .before .before .before .before .before .before .before .sweep-two .ensures .well,
-  led.equal-then (c .before .before .before .before .before .before .before .before .before .before .before .before .before .before .before .before .before .loop .inv .7) (led.equal (c .before .before .before .before .before .before .before .before .before .before .before .sweep-two .ensures .leads (c .before .before .if1 .left)) (c .before .before .before .before .before .before .before .before .before .before .before .sweep-two .ensures .from (c .before .before .if1 .left))),
+  led.equal-then (c .before .before .before .before .before .before .before .before .before .before .before .before .before .before .before .before .before .loop .inv .7)
+      (led.equal (c .before .before .before .before .before .before .before .before .before .before .before .sweep-two .ensures .leads (c .before .before .if1 .left))
+      (c .before .before .before .before .before .before .before .before .before .before .before .sweep-two .ensures .from (c .before .before .if1 .left))),
 )
 
 same-length-9 : tie.Need-same-length-9 Inv-loop μ-loop

@@ -47,18 +47,26 @@ visit-requires c κs =
     )
 
 same-length : tie.Need-same-length Inv-loop μ-loop
-same-length c = c .before .before .before .before .before .before .before .visit .kept .1 .1 .1 .1 .1 .0 ∙ c .before .before .before .before .before .before .before .before .before .before .before .before .loop .inv .1
+same-length c = c .before .before .before .before .before .before .before .visit .kept .1 .1 .1 .1 .1 .0 ∙
+    c .before .before .before .before .before .before .before .before .before .before .before .before .loop .inv .1
 
 same-length-2 : tie.Need-same-length-2 Inv-loop μ-loop
-same-length-2 c = c .before .before .before .before .before .before .before .visit .kept .1 .1 .1 .1 .1 .1 .0 ∙ c .before .before .before .before .before .before .before .before .before .before .before .before .loop .inv .2
+same-length-2 c = c .before .before .before .before .before .before .before .visit .kept .1 .1 .1 .1 .1 .1 .0 ∙
+    c .before .before .before .before .before .before .before .before .before .before .before .before .loop .inv .2
 
 same-length-3 : tie.Need-same-length-3 Inv-loop μ-loop
-same-length-3 c = c .before .before .before .before .before .before .before .visit .kept .1 .1 .1 .1 .1 .1 .1 .0 ∙ c .before .before .before .before .before .before .before .before .before .before .before .before .loop .inv .3
+same-length-3 c = c .before .before .before .before .before .before .before .visit .kept .1 .1 .1 .1 .1 .1 .1 .0 ∙
+    c .before .before .before .before .before .before .before .before .before .before .before .before .loop .inv .3
 
 returns : tie.Need-returns Inv-loop μ-loop
 returns c =
     let found = c .before .before .before .before .before .before .before .visit .ensures in
-    led.passed-yes (c .if1 .taken) (record { entry = c .before .before .before .before .before .before .before .before .before .before .before .before .loop .e; below = c .before .before .before .before .before .before .before .before .before .before .before .loop-test .taken; can = found .yes (c .if1 .taken) }) (found .sound) (found .well)
+    led.passed-yes (c .if1 .taken) (record {
+      entry = c .before .before .before .before .before .before .before .before .before .before .before .before .loop .e;
+      below =
+          c .before .before .before .before .before .before .before .before .before .before .before .loop-test .taken;
+      can = found .yes (c .if1 .taken);
+    }) (found .sound) (found .well)
 
 loop-again : tie.Need-loop-again Inv-loop μ-loop
 loop-again c =
@@ -69,7 +77,8 @@ loop-again c =
       c .before .before .before .before .before .before .before .visit .kept .1 .1 .1 .1 .1 .0 ∙ i .1,
       c .before .before .before .before .before .before .before .visit .kept .1 .1 .1 .1 .1 .1 .0 ∙ i .2,
       c .before .before .before .before .before .before .before .visit .kept .1 .1 .1 .1 .1 .1 .1 .0 ∙ i .3,
-      led.carry (chain.one-entry k (s .args .j) (now (s .args .front)) (c .before .before .before .before .before .before .before .before .before .before .before .before .loop .e)) (led.both (i .4) (led.relist [] (led.known (c .if1 .left) (c .before .before .before .before .before .before .before .visit .ensures)))),
+      led.carry (chain.one-entry k (s .args .j) (now (s .args .front)) (c .before .before .before .before .before .before .before .before .before .before .before .before .loop .e))
+          (led.both (i .4) (led.relist [] (led.known (c .if1 .left) (c .before .before .before .before .before .before .before .visit .ensures)))),
     )
 
 same-length-4 : tie.Need-same-length-4 Inv-loop μ-loop

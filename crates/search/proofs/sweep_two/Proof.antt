@@ -17,7 +17,8 @@ returns : tie.Need-returns
 returns c =
     let s = (c .before .before .before .before .before .before .before .before .before .before .before .before .before .before .before .before .before .before .before .before) in
     let k = courseOf (now (s .args .starts)) (now (s .args .ends)) (now (s .args .nets)) (now (s .args .loads)) (s .args .s) in
-    led.passed-yes refl (c .before .before .before .before .before .before .before .sweep-rest .ensures .yes (c .if1 .taken)) (c .before .before .before .before .before .before .before .sweep-rest .ensures .sound) (sweeps.front-none k (s .args .j + 2) _)
+    led.passed-yes refl (c .before .before .before .before .before .before .before .sweep-rest .ensures .yes (c .if1 .taken))
+    (c .before .before .before .before .before .before .before .sweep-rest .ensures .sound) (sweeps.front-none k (s .args .j + 2) _)
 
 returns-2 : tie.Need-returns-2
 returns-2 c =
@@ -29,7 +30,8 @@ returns-2 c =
 
 sweep-rest-requires-2 : tie.Need-sweep-rest-requires-2
 sweep-rest-requires-2 c κs =
-    let s = (c .before .before .before .before .before .before .before .before .before .before .before .before .before .before .before .before .before .before .before .before .before .before .before .before .before) in
+    let s = (c .before .before .before .before .before .before .before .before .before .before .before .before .before .before .before .before .before .before .before .before .before .before
+    .before .before .before) in
     let k = courseOf (now (s .args .starts)) (now (s .args .ends)) (now (s .args .nets)) (now (s .args .loads)) (s .args .s) in (
       law.sized-too k (s .pre .0 .lies) (s .pre .0) (c .before .before .before .before .before .before .before .before .before .before .before .before .sweep-rest .kept .1 .1 .1 .1 .1 .0),
       c .before .before .before .before .before .before .before .before .before .before .before .before .sweep-rest .ensures .sound,
@@ -39,9 +41,12 @@ sweep-rest-requires-2 c κs =
 
 returns-3 : tie.Need-returns-3
 returns-3 c =
-    let s = (c .before .before .before .before .before .before .before .before .before .before .before .before .before .before .before .before .before .before .before .before .before .before .before .before .before .before .before .before .before .before .before .before) in
+    let s = (c .before .before .before .before .before .before .before .before .before .before .before .before .before .before .before .before .before .before .before .before .before .before
+    .before .before .before .before .before .before .before .before .before .before) in
     let k = courseOf (now (s .args .starts)) (now (s .args .ends)) (now (s .args .nets)) (now (s .args .loads)) (s .args .s) in
-    led.passed-then (c .before .before .before .before .before .before .before .before .before .before .before .before .if1 .left) (c .before .before .before .before .before .before .before .before .before .before .before .before .before .before .before .before .before .before .before .sweep-rest .ensures) (sweeps.two-on k (s .args .j) (c .before .before .before .before .before .before .sweep-rest2 .ensures))
+    led.passed-then (c .before .before .before .before .before .before .before .before .before .before .before .before .if1 .left)
+    (c .before .before .before .before .before .before .before .before .before .before .before .before .before .before .before .before .before .before .before .sweep-rest .ensures)
+    (sweeps.two-on k (s .args .j) (c .before .before .before .before .before .before .sweep-rest2 .ensures))
 
 pub sweep-two-spec : {M : Type 1} → statement M
 sweep-two-spec =

@@ -30,22 +30,35 @@ merge-on-requires c κs =
 
 returns : tie.Need-returns
 returns c =
-    let s = (c .before .before .before .before .before .before .before .before .before .before .before .before .before .before .before .before .before .before .before .before .before .before .before .before .before .before .before .before .before .before .before) in
-    let e = merging.paid-none (now (s .args .loads)) (s .args .x) (s .args .less) (c .before .before .before .before .before .before .before .before .before .before .before .before .before .before .before .before .before .before .before .before .if1 .taken) in
-    (merging.told-same (now (s .args .starts)) (now (s .args .ends)) (now (s .args .nets)) (s .args .s) (sym e) (c .before .before .before .before .before .before .before .before .before .before .before .before .merge-on .ensures .sound) (c .before .before .before .before .before .before .before .before .before .before .before .before .merge-on .ensures), refl)
+    let s = (c .before .before .before .before .before .before .before .before .before .before .before .before .before .before .before .before .before .before .before .before .before .before
+    .before .before .before .before .before .before .before .before .before) in
+    let e = merging.paid-none (now (s .args .loads)) (s .args .x) (s .args .less)
+    (c .before .before .before .before .before .before .before .before .before .before .before .before .before .before .before .before .before .before .before .before .if1 .taken) in (
+      merging.told-same (now (s .args .starts)) (now (s .args .ends)) (now (s .args .nets)) (s .args .s) (sym e)
+          (c .before .before .before .before .before .before .before .before .before .before .before .before .merge-on .ensures .sound)
+          (c .before .before .before .before .before .before .before .before .before .before .before .before .merge-on .ensures),
+      refl,
+    )
 
 add-loads : tie.Need-add-loads
 add-loads c =
     let s = (c .before .before .before .before .before .before .before .before .before .before .before .before .before .before .before .before) in
-    omega (arith, merging.paid-fits (now (s .args .loads)) (s .args .x) (s .args .less) totalAtMost (c .before .before .before .before .before .if1 .left) (omega (arith, s .pre .4, s .pre .0 .loads-too)) (s .pre .1 .loads-low))
+    omega (
+      arith,
+      merging.paid-fits (now (s .args .loads)) (s .args .x) (s .args .less) totalAtMost (c .before .before .before .before .before .if1 .left)
+          (omega (arith, s .pre .4, s .pre .0 .loads-too)) (s .pre .1 .loads-low),
+    )
 
 merge-on-requires-2 : tie.Need-merge-on-requires-2
 merge-on-requires-2 c κs =
-    let s = (c .before .before .before .before .before .before .before .before .before .before .before .before .before .before .before .before .before .before .before .before .before .before .before) in
+    let s = (c .before .before .before .before .before .before .before .before .before .before .before .before .before .before .before .before .before .before .before .before .before .before
+    .before) in
     let e = merging.paid-some (now (s .args .loads)) (s .args .x) (s .args .less) (c .before .before .before .before .before .before .before .before .before .before .before .before .if1 .left) in
     let d = subst (λ (l : List ℕ). Sized (courseOf (now (s .args .starts)) (now (s .args .ends)) (now (s .args .nets)) l (s .args .s)) (now (s .args .slots))) e (s .pre .1) in (
       d,
-      memory.empty-sound (courseOf (now (s .args .starts)) (now (s .args .ends)) (now (s .args .nets)) (set (now (s .args .loads)) (s .args .x - 1) (at (now (s .args .loads)) (s .args .x - 1) + s .args .less)) (s .args .s)) (d .lies) (c .before .before .before .before .before .before .before .before .before .before .clear .ensures),
+      memory.empty-sound (courseOf (now (s .args .starts)) (now (s .args .ends)) (now (s .args .nets))
+          (set (now (s .args .loads)) (s .args .x - 1) (at (now (s .args .loads)) (s .args .x - 1) + s .args .less)) (s .args .s)) (d .lies)
+          (c .before .before .before .before .before .before .before .before .before .before .clear .ensures),
       s .pre .3,
       subst (λ (l : List ℕ). Front (courseOf (now (s .args .starts)) (now (s .args .ends)) (now (s .args .nets)) l (s .args .s)) (s .args .j) (now (s .args .front)) (s .args .f)) e (s .pre .5),
       subst (λ (l : List ℕ). Front (courseOf (now (s .args .starts)) (now (s .args .ends)) (now (s .args .nets)) l (s .args .s)) (s .args .j) (now (s .args .known)) (s .args .g)) e (s .pre .6),
@@ -53,20 +66,32 @@ merge-on-requires-2 c κs =
 
 mul-loads-2 : tie.Need-mul-loads-2
 mul-loads-2 c =
-    let s = (c .before .before .before .before .before .before .before .before .before .before .before .before .before .before .before .before .before .before .before .before .before .before .before .before .before .before .before .before .before .before .before .before .before .before .before .before) in
+    let s = (c .before .before .before .before .before .before .before .before .before .before .before .before .before .before .before .before .before .before .before .before .before .before
+    .before .before .before .before .before .before .before .before .before .before .before .before .before .before) in
     omega (arith, s .pre .4, s .pre .0 .few)
 
 slice-write-loads-2 : tie.Need-slice-write-loads-2
 slice-write-loads-2 c =
-    let s = (c .before .before .before .before .before .before .before .before .before .before .before .before .before .before .before .before .before .before .before .before .before .before .before .before .before .before .before .before .before .before .before .before .before .before .before .before) in
-    simp length-set (omega (arith, c .before .before .before .before .before .before .before .before .before .before .before .before .before .before .before .before .before .before .before .before .before .before .before .before .before .if1 .left, s .pre .4, s .pre .0 .loads-too))
+    let s = (c .before .before .before .before .before .before .before .before .before .before .before .before .before .before .before .before .before .before .before .before .before .before
+    .before .before .before .before .before .before .before .before .before .before .before .before .before .before) in
+    simp length-set (omega (
+      arith,
+      c .before .before .before .before .before .before .before .before .before .before .before .before .before .before .before .before .before .before .before .before
+          .before .before .before .before .before .if1 .left,
+      s .pre .4,
+      s .pre .0 .loads-too,
+    ))
 
 returns-2 : tie.Need-returns-2
 returns-2 c =
-    let s = (c .before .before .before .before .before .before .before .before .before .before .before .before .before .before .before .before .before .before .before .before .before .before .before .before .before .before .before .before .before .before .before .before .before .before .before .before .before .before .before .before) in
+    let s = (c .before .before .before .before .before .before .before .before .before .before .before .before .before .before .before .before .before .before .before .before .before .before
+    .before .before .before .before .before .before .before .before .before .before .before .before .before .before .before .before .before .before) in
     let k = courseOf (now (s .args .starts)) (now (s .args .ends)) (now (s .args .nets)) (now (s .args .loads)) (s .args .s) in
-    let e = merging.paid-some (now (s .args .loads)) (s .args .x) (s .args .less) (c .before .before .before .before .before .before .before .before .before .before .before .before .before .before .before .before .before .before .before .before .before .before .before .before .before .before .before .before .before .if1 .left) in (
-      merging.told-same (now (s .args .starts)) (now (s .args .ends)) (now (s .args .nets)) (s .args .s) (sym e) (memory.empty-sound k (s .pre .0 .lies) (c .before .before .clear2 .ensures)) (c .before .before .before .before .before .before .before .before .before .before .before .before .before .before .before .before .merge-on2 .ensures),
+    let e = merging.paid-some (now (s .args .loads)) (s .args .x) (s .args .less)
+    (c .before .before .before .before .before .before .before .before .before .before .before .before .before .before .before .before .before .before .before .before .before .before .before
+    .before .before .before .before .before .before .if1 .left) in (
+      merging.told-same (now (s .args .starts)) (now (s .args .ends)) (now (s .args .nets)) (s .args .s) (sym e) (memory.empty-sound k (s .pre .0 .lies) (c .before .before .clear2 .ensures))
+          (c .before .before .before .before .before .before .before .before .before .before .before .before .before .before .before .before .merge-on2 .ensures),
       merging.put-back (s .args .x - 1) (at (now (s .args .loads)) (s .args .x - 1) + s .args .less) refl,
     )
 

@@ -29,14 +29,24 @@ ask-to-requires c κs =
 
 returns : tie.Need-returns
 returns c =
-    let s = (c .before .before .before .before .before .before .before .before .before .before .before .before .before .before .before .before .before .before .before .before .before .before .before .before .before .before .before) in
-    let e = merging.paid-none (now (s .args .loads)) (s .args .x) (s .args .less) (c .before .before .before .before .before .before .before .before .before .before .before .before .before .before .before .before .before .if1 .taken) in
-    (merging.reached-same (now (s .args .starts)) (now (s .args .ends)) (now (s .args .nets)) (s .args .s) (s .args .j) (s .args .st) (sym e) refl (c .before .before .before .before .before .before .before .before .before .before .ask-to .ensures .passed .sound) (c .before .before .before .before .before .before .before .before .before .before .ask-to .ensures), refl)
+    let s = (c .before .before .before .before .before .before .before .before .before .before .before .before .before .before .before .before .before .before .before .before .before .before
+    .before .before .before .before .before) in
+    let e = merging.paid-none (now (s .args .loads)) (s .args .x) (s .args .less)
+    (c .before .before .before .before .before .before .before .before .before .before .before .before .before .before .before .before .before .if1 .taken) in (
+      merging.reached-same (now (s .args .starts)) (now (s .args .ends)) (now (s .args .nets)) (s .args .s) (s .args .j) (s .args .st) (sym e) refl
+          (c .before .before .before .before .before .before .before .before .before .before .ask-to .ensures .passed .sound)
+          (c .before .before .before .before .before .before .before .before .before .before .ask-to .ensures),
+      refl,
+    )
 
 add-loads : tie.Need-add-loads
 add-loads c =
     let s = (c .before .before .before .before .before .before .before .before .before .before .before .before .before .before .before) in
-    omega (arith, merging.paid-fits (now (s .args .loads)) (s .args .x) (s .args .less) totalAtMost (c .before .before .before .before .before .if1 .left) (omega (arith, s .pre .6, s .pre .0 .loads-too)) (s .pre .2 .loads-low))
+    omega (
+      arith,
+      merging.paid-fits (now (s .args .loads)) (s .args .x) (s .args .less) totalAtMost (c .before .before .before .before .before .if1 .left)
+          (omega (arith, s .pre .6, s .pre .0 .loads-too)) (s .pre .2 .loads-low),
+    )
 
 ask-to-requires-2 : tie.Need-ask-to-requires-2
 ask-to-requires-2 c κs =
@@ -45,27 +55,42 @@ ask-to-requires-2 c κs =
     let d = subst (λ (l : List ℕ). Sized (courseOf (now (s .args .starts)) (now (s .args .ends)) (now (s .args .nets)) l (s .args .s)) (now (s .args .slots))) e (s .pre .2) in (
       subst (λ (l : List ℕ). Lent (courseOf (now (s .args .starts)) (now (s .args .ends)) (now (s .args .nets)) l (s .args .s)) (now (s .args .owed))) e (s .pre .1),
       d,
-      memory.empty-sound (courseOf (now (s .args .starts)) (now (s .args .ends)) (now (s .args .nets)) (set (now (s .args .loads)) (s .args .x - 1) (at (now (s .args .loads)) (s .args .x - 1) + s .args .less)) (s .args .s)) (d .lies) (c .before .before .before .before .before .before .before .before .before .clear .ensures),
+      memory.empty-sound (courseOf (now (s .args .starts)) (now (s .args .ends)) (now (s .args .nets))
+          (set (now (s .args .loads)) (s .args .x - 1) (at (now (s .args .loads)) (s .args .x - 1) + s .args .less)) (s .args .s)) (d .lies)
+          (c .before .before .before .before .before .before .before .before .before .clear .ensures),
       subst (λ (l : List ℕ). Before (courseOf (now (s .args .starts)) (now (s .args .ends)) (now (s .args .nets)) l (s .args .s)) (s .args .j) (s .args .st)) e (s .pre .4),
       s .pre .5,
     )
 
 mul-loads-2 : tie.Need-mul-loads-2
 mul-loads-2 c =
-    let s = (c .before .before .before .before .before .before .before .before .before .before .before .before .before .before .before .before .before .before .before .before .before .before .before .before .before .before .before .before .before .before .before .before) in
+    let s = (c .before .before .before .before .before .before .before .before .before .before .before .before .before .before .before .before .before .before .before .before .before .before
+    .before .before .before .before .before .before .before .before .before .before) in
     omega (arith, s .pre .6, s .pre .0 .few)
 
 slice-write-loads-2 : tie.Need-slice-write-loads-2
 slice-write-loads-2 c =
-    let s = (c .before .before .before .before .before .before .before .before .before .before .before .before .before .before .before .before .before .before .before .before .before .before .before .before .before .before .before .before .before .before .before .before) in
-    simp length-set (omega (arith, c .before .before .before .before .before .before .before .before .before .before .before .before .before .before .before .before .before .before .before .before .before .before .if1 .left, s .pre .6, s .pre .0 .loads-too))
+    let s = (c .before .before .before .before .before .before .before .before .before .before .before .before .before .before .before .before .before .before .before .before .before .before
+    .before .before .before .before .before .before .before .before .before .before) in
+    simp length-set (omega (
+      arith,
+      c .before .before .before .before .before .before .before .before .before .before .before .before .before .before .before .before .before .before .before .before
+          .before .before .if1 .left,
+      s .pre .6,
+      s .pre .0 .loads-too,
+    ))
 
 returns-2 : tie.Need-returns-2
 returns-2 c =
-    let s = (c .before .before .before .before .before .before .before .before .before .before .before .before .before .before .before .before .before .before .before .before .before .before .before .before .before .before .before .before .before .before .before .before .before .before .before .before) in
+    let s = (c .before .before .before .before .before .before .before .before .before .before .before .before .before .before .before .before .before .before .before .before .before .before
+    .before .before .before .before .before .before .before .before .before .before .before .before .before .before) in
     let k = courseOf (now (s .args .starts)) (now (s .args .ends)) (now (s .args .nets)) (now (s .args .loads)) (s .args .s) in
-    let e = merging.paid-some (now (s .args .loads)) (s .args .x) (s .args .less) (c .before .before .before .before .before .before .before .before .before .before .before .before .before .before .before .before .before .before .before .before .before .before .before .before .before .before .if1 .left) in (
-      merging.reached-same (now (s .args .starts)) (now (s .args .ends)) (now (s .args .nets)) (s .args .s) (s .args .j) (s .args .st) (sym e) refl (memory.empty-sound k (s .pre .0 .lies) (c .before .before .clear2 .ensures)) (c .before .before .before .before .before .before .before .before .before .before .before .before .before .before .ask-to2 .ensures),
+    let e = merging.paid-some (now (s .args .loads)) (s .args .x) (s .args .less)
+    (c .before .before .before .before .before .before .before .before .before .before .before .before .before .before .before .before .before .before .before .before .before .before .before
+    .before .before .before .if1 .left) in (
+      merging.reached-same (now (s .args .starts)) (now (s .args .ends)) (now (s .args .nets)) (s .args .s) (s .args .j) (s .args .st) (sym e) refl
+          (memory.empty-sound k (s .pre .0 .lies) (c .before .before .clear2 .ensures))
+          (c .before .before .before .before .before .before .before .before .before .before .before .before .before .before .ask-to2 .ensures),
       merging.put-back (s .args .x - 1) (at (now (s .args .loads)) (s .args .x - 1) + s .args .less) refl,
     )
 

@@ -22,31 +22,61 @@ sub-loop : tie.Need-sub-loop Inv-loop μ-loop
 sub-loop c = omega (arith, c .loop .inv .0 .order)
 
 between-requires : tie.Need-between-requires Inv-loop μ-loop
-between-requires c κs = (omega (arith, c .before .loop .inv .0 .order, c .loop-test .taken), omega (arith, c .before .loop .inv .0 .within, (c .before .before .before .before .before .before .before .before) .pre .1))
+between-requires c κs = (
+  omega (arith, c .before .loop .inv .0 .order, c .loop-test .taken),
+  omega
+      (arith, c .before .loop .inv .0 .within, (c .before .before .before .before .before .before .before .before) .pre .1),
+)
 
 day-readable-requires : tie.Need-day-readable-requires Inv-loop μ-loop
-day-readable-requires c κs = ((c .before .before .before .before .before .before .before .before .before .before .before .before) .pre .0, (c .before .before .before .before .before .before .before .before .before .before .before .before) .pre .1, (c .before .before .before .before .before .before .before .before .before .before .before .before) .pre .2, omega (arith, c .before .before .before .between .ensures .1, c .before .before .before .before .before .loop .inv .0 .within))
+day-readable-requires c κs = (
+  (c .before .before .before .before .before .before .before .before .before .before .before .before) .pre .0,
+  (c .before .before .before .before .before .before .before .before .before .before .before .before) .pre .1,
+  (c .before .before .before .before .before .before .before .before .before .before .before .before) .pre .2,
+  omega
+      (arith, c .before .before .before .between .ensures .1, c .before .before .before .before .before .loop .inv .0 .within),
+)
 
 loop-less : tie.Need-loop-less Inv-loop μ-loop
-loop-less c = omega (arith, c .before .before .before .before .before .before .before .before .before .before .before .between .ensures .0, c .before .before .before .before .before .before .before .before .before .before .before .between .ensures .1)
+loop-less c = omega (
+  arith,
+  c .before .before .before .before .before .before .before .before .before .before .before .between .ensures .0,
+  c .before .before .before .before .before .before .before .before .before .before .before .between .ensures .1,
+)
 
 loop-again : tie.Need-loop-again Inv-loop μ-loop
 loop-again c = (
-  halve-up (c .before .before .before .before .before .before .before .before .before .before .before .before .before .loop .inv .0) (c .before .before .before .before .before .before .before .day-readable .ensures) (c .before .before .before .before .before .before .before .before .before .before .before .between .ensures .0) (c .before .before .before .before .before .before .before .before .before .before .before .between .ensures .1) (c .if1 .taken),
-  c .before .before .before .before .before .before .before .day-readable .kept .1 .1 .1 .1 .1 .0 ∙ c .before .before .before .before .before .before .before .before .before .before .before .before .before .loop .inv .1,
-  c .before .before .before .before .before .before .before .day-readable .kept .1 .1 .1 .1 .1 .1 .0 ∙ c .before .before .before .before .before .before .before .before .before .before .before .before .before .loop .inv .2,
-  c .before .before .before .before .before .before .before .day-readable .kept .1 .1 .1 .1 .1 .1 .1 .0 ∙ c .before .before .before .before .before .before .before .before .before .before .before .before .before .loop .inv .3,
+  halve-up (c .before .before .before .before .before .before .before .before .before .before .before .before .before .loop .inv .0)
+      (c .before .before .before .before .before .before .before .day-readable .ensures)
+      (c .before .before .before .before .before .before .before .before .before .before .before .between .ensures .0)
+      (c .before .before .before .before .before .before .before .before .before .before .before .between .ensures .1) (c .if1 .taken),
+  c .before .before .before .before .before .before .before .day-readable .kept .1 .1 .1 .1 .1 .0 ∙
+      c .before .before .before .before .before .before .before .before .before .before .before .before .before .loop .inv .1,
+  c .before .before .before .before .before .before .before .day-readable .kept .1 .1 .1 .1 .1 .1 .0 ∙
+      c .before .before .before .before .before .before .before .before .before .before .before .before .before .loop .inv .2,
+  c .before .before .before .before .before .before .before .day-readable .kept .1 .1 .1 .1 .1 .1 .1 .0 ∙
+      c .before .before .before .before .before .before .before .before .before .before .before .before .before .loop .inv .3,
 )
 
 loop-less-2 : tie.Need-loop-less-2 Inv-loop μ-loop
-loop-less-2 c = omega (arith, c .before .before .before .before .before .before .before .before .before .before .before .between .ensures .0, c .before .before .before .before .before .before .before .before .before .before .before .between .ensures .1)
+loop-less-2 c = omega (
+  arith,
+  c .before .before .before .before .before .before .before .before .before .before .before .between .ensures .0,
+  c .before .before .before .before .before .before .before .before .before .before .before .between .ensures .1,
+)
 
 loop-again-2 : tie.Need-loop-again-2 Inv-loop μ-loop
 loop-again-2 c = (
-  halve-down (c .before .before .before .before .before .before .before .before .before .before .before .before .before .loop .inv .0) (c .before .before .before .before .before .before .before .day-readable .ensures) (c .before .before .before .before .before .before .before .before .before .before .before .between .ensures .0) (c .before .before .before .before .before .before .before .before .before .before .before .between .ensures .1) (c .if1 .left),
-  c .before .before .before .before .before .before .before .day-readable .kept .1 .1 .1 .1 .1 .0 ∙ c .before .before .before .before .before .before .before .before .before .before .before .before .before .loop .inv .1,
-  c .before .before .before .before .before .before .before .day-readable .kept .1 .1 .1 .1 .1 .1 .0 ∙ c .before .before .before .before .before .before .before .before .before .before .before .before .before .loop .inv .2,
-  c .before .before .before .before .before .before .before .day-readable .kept .1 .1 .1 .1 .1 .1 .1 .0 ∙ c .before .before .before .before .before .before .before .before .before .before .before .before .before .loop .inv .3,
+  halve-down (c .before .before .before .before .before .before .before .before .before .before .before .before .before .loop .inv .0)
+      (c .before .before .before .before .before .before .before .day-readable .ensures)
+      (c .before .before .before .before .before .before .before .before .before .before .before .between .ensures .0)
+      (c .before .before .before .before .before .before .before .before .before .before .before .between .ensures .1) (c .if1 .left),
+  c .before .before .before .before .before .before .before .day-readable .kept .1 .1 .1 .1 .1 .0 ∙
+      c .before .before .before .before .before .before .before .before .before .before .before .before .before .loop .inv .1,
+  c .before .before .before .before .before .before .before .day-readable .kept .1 .1 .1 .1 .1 .1 .0 ∙
+      c .before .before .before .before .before .before .before .before .before .before .before .before .before .loop .inv .2,
+  c .before .before .before .before .before .before .before .day-readable .kept .1 .1 .1 .1 .1 .1 .1 .0 ∙
+      c .before .before .before .before .before .before .before .before .before .before .before .before .before .loop .inv .3,
 )
 
 same-length : tie.Need-same-length Inv-loop μ-loop

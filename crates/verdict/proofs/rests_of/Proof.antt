@@ -7,7 +7,9 @@ use Rattle.verdict.proofs.rests_of.Statement.{statement}
 use Rattle.verdict.proofs.rests_of.Tie as tie
 
 returns : tie.Need-returns
-returns c = cut (now ((c .before .before .before .before .before .before .before .before .before .before .before .before .before .before .before .before .before .before) .args .words)) _ ((c .before .before .before .before .before .before .before .before .before .before .before .before .before .before .before .before .before .before) .pre .0) (c .before .before .before .before .before .before .before .before .before .before .survey-of .ensures) (omega arith) (omega arith) (omega arith) (omega arith)
+returns c = cut (now ((c .before .before .before .before .before .before .before .before .before .before .before .before .before .before .before .before .before .before) .args .words)) _
+    ((c .before .before .before .before .before .before .before .before .before .before .before .before .before .before .before .before .before .before) .pre .0)
+    (c .before .before .before .before .before .before .before .before .before .before .survey-of .ensures) (omega arith) (omega arith) (omega arith) (omega arith)
 
 pub rests-of-spec : {M : Type 1} → statement M
 rests-of-spec =

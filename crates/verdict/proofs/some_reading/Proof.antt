@@ -30,7 +30,8 @@ returns c =
     let s = (c .before .before .before .before .before .before .before .before .before .before .before .before .before .before .before .before .before .before .before) in
     let none = front-zeros longRestsAtMost (length (now (s .args .starts))) (s .pre .1) in
     let size = front-size longRestsAtMost (length (now (s .args .starts))) (s .pre .1) in
-    some-reading (now (s .args .starts)) (now (s .args .ends)) (now (s .args .nets)) _ _ (s .args .s) (s .pre .0) (s .pre .1) (s .pre .2) none size none (c .before .before .before .before .before .before .before .possible .ensures)
+    some-reading (now (s .args .starts)) (now (s .args .ends)) (now (s .args .nets)) _ _ (s .args .s) (s .pre .0) (s .pre .1) (s .pre .2) none size none
+    (c .before .before .before .before .before .before .before .possible .ensures)
 
 pub some-reading-spec : {M : Type 1} → statement M
 some-reading-spec =
