@@ -31,10 +31,11 @@ use Rattle.completion.proofs.Heads.{arrives, after}
 use Rattle.completion.proofs.Monotone.{daily-stands}
 use Rattle.completion.proofs.Payments.{set-other}
 use Rattle.steps.specs.Steps.{Says}
-use Rattle.search.specs.Search.{FoundIf, courseOf, Later, Sound, Lent, Before}
+use Rattle.search.specs.Search.{courseOf, Later, Sound, Lent, Before}
+use Rattle.merging.specs.Merging.{FoundIf}
 use Rattle.search.proofs.Leading.{Equal}
 use Rattle.search.proofs.Slots.{sized-too, reached-at}
-use Rattle.search.proofs.Sweeps.{noneOf, none-size, none-zeros}
+use Rattle.sweep.proofs.Sweeps.{noneOf, none-size, none-zeros}
 use Rattle.first_reading.specs.First.{Least, restsOnly}
 use Rattle.first_reading.proofs.Choosing.{with-loads, lies-with, carrier-low}
 use Rattle.first_reading.specs.Choices.{loadAt, reductionAt, carrying, CanBeRead, CarriedBy, afterCounted, GoesWeekly, Room, NotPast, FirstWeekly}

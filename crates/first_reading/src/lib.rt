@@ -18,7 +18,8 @@ ghost use Rattle.reading.specs.Items.{loadAtMost, paid, Zeros};
 ghost use Rattle.completion.specs.Completable.{at, count, lengthAt, Lies};
 ghost use Rattle.completion.specs.Better.{AtRest};
 ghost use Rattle.steps.specs.Steps.{Says};
-ghost use Rattle.search.specs.Search.{FoundIf, courseOf, Sound, Lent, Before};
+ghost use Rattle.search.specs.Search.{courseOf, Sound, Lent, Before};
+ghost use Rattle.merging.specs.Merging.{FoundIf};
 ghost use Rattle.first_reading.specs.First.{Least, restsOnly};
 ghost use Rattle.first_reading.specs.Choices.{Renewed, CanBeRead, GoesDaily, GoesWeekly, FirstWeekly, withEntry, FirstOf};
 ghost use Rattle.first_reading.specs.Choices.{Limited, Room, Fits, Carries, GoesWith, PutDaily, PutWeekly, Stepped};
@@ -72,7 +73,7 @@ fn daily_goes(
     if reading::SHORTENED_AT_MOST < next.short {
         return false;
     }
-    search::completes_beside(
+    merging::completes_beside(
         starts,
         ends,
         nets,
@@ -156,7 +157,7 @@ fn goes_with(
         return false;
     }
     let less = reduction(ends[j] - starts[j], loads[j]);
-    search::completes_beside(
+    merging::completes_beside(
         starts,
         ends,
         nets,

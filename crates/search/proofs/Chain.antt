@@ -51,7 +51,7 @@ use Rattle.steps.proofs.StepLaws.{standing-debt}
 use Rattle.search.specs.Search.{Later, Slots}
 use Rattle.search.proofs.Memory.{later-mono}
 use Rattle.fronts.specs.Front.{entryAt, stateIn, owedIn}
-use Rattle.search.specs.Sweep.{Can, Any, CountedIn, ReadAs, TakenAs}
+use Rattle.search.specs.Leading.{Can, Any, CountedIn, ReadAs, TakenAs}
 use Rattle.search.proofs.Leading.{Equal}
 
 one-left : (n i : ℕ) → i < n → n - i ≡ suc (n - (i + 1))

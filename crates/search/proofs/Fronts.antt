@@ -22,7 +22,7 @@ use Rattle.fronts.specs.Front.{entryAt, stateIn, slotIn, owedIn, Beats, Same, H
 use Rattle.fronts.proofs.FrontLaws.{same-first, same-debt, same-back, no-slot, a-slot, words-length, words-at, words-out, words-same}
 use Rattle.search.specs.Search.{Later, Slots}
 use Rattle.search.proofs.Memory.{later-matched}
-use Rattle.search.specs.Sweep.{Can, Any, Well, Front, Led}
+use Rattle.search.specs.Leading.{Can, Any, Well, Front, Led}
 use Rattle.search.proofs.Leading.{Equal}
 
 -- ---- what an entry owes

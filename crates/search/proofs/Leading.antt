@@ -1,4 +1,4 @@
--- Laws of a question that is led on to the next front, and of one that is told. Assumes nothing.
+-- Laws of a question that is led on to the next front. Assumes nothing.
 use mathlib.Core.Path.{_≡_, refl, sym, ap, subst, _∙_}
 use mathlib.Core.Logic.{_⊎_, inl, inr}
 use mathlib.Core.Bool.{Bool, true, false, false≢true, true≢false}
@@ -9,7 +9,7 @@ use lib.Seq.{set-set, set-getD}
 use Rattle.completion.specs.Completable.{at}
 use Rattle.steps.specs.Steps.{Says}
 use Rattle.search.specs.Search.{Found}
-use Rattle.search.specs.Sweep.{Led, Passed}
+use Rattle.search.specs.Leading.{Led}
 
 -- each of two questions answers the other
 pub record Equal (P Q : Type 0) : Type 0 where
@@ -135,31 +135,3 @@ accepted {P} {A} {A′} {S} {W} {r} {o} {o′} e p q s w = subst (λ (b : Bool).
 -- the same, where what is owed is not told
 pub relist : {P A A′ S W : Type 0} {r : Bool} {o o′ : List ℕ} (q : List ℕ) → Led P A A′ r o o′ S W → Led P A A′ r q q S W
 relist q h = record { yes = h .yes; keeps = h .keeps; leads = h .leads; from = h .from; same = refl; sound = h .sound; well = h .well }
-
--- ---- whole fronts
-pub passed-yes : {P A S W : Type 0} {r : Bool} → r ≡ true → P → S → W → Passed P A r S W
-passed-yes e p s w = record { yes = λ _. p; leads = λ f. absurd (true≢false (sym e ∙ f)); from = λ f. absurd (true≢false (sym e ∙ f)); sound = s; well = w }
-
-pub passed-no : {P A A′ S W : Type 0} {o o′ : List ℕ} → (A → ⊥) → Led P A A′ false o o′ S W → Passed P A′ false S W
-passed-no {P} {A} none h = record { yes = λ e. absurd (false≢true e); leads = λ _. h .leads refl; from = λ _ a. go (h .from refl a); sound = h .sound; well = h .well }
-  where
-    go : A ⊎ P → P
-    go (inl a) = absurd (none a)
-    go (inr p) = p
-
-pub passed-then : {P A B S S′ W W′ : Type 0} {r r′ : Bool} → r ≡ false → Passed P A r S W → Passed A B r′ S′ W′ → Passed P B r′ S′ W′
-passed-then e f g = record {
-  yes = λ y. f .from e (g .yes y);
-  leads = λ n p. g .leads n (f .leads e p);
-  from = λ n b. f .from e (g .from n b);
-  sound = g .sound;
-  well = g .well;
-}
-
--- nothing holds of the last front
-pub passed-out : {P A B S S′ W W′ : Type 0} {r : Bool} → r ≡ false → (A → ⊥) → (B → ⊥) → S′ → W′ → Passed P A r S W → Passed P B false S′ W′
-passed-out e none none′ s w f = record { yes = λ h. absurd (false≢true h); leads = λ _ p. absurd (none (f .leads e p)); from = λ _ b. absurd (none′ b); sound = s; well = w }
-
--- an answer of the search carried to another question
-pub found-carry : {P Q S : Type 0} {r : Bool} {o o′ : List ℕ} → Equal P Q → Found P r o o′ S → Found Q r o o′ S
-found-carry i h = record { yes = λ e. i .to (h .yes e); no = λ e q. h .no e (i .from q); same = h .same; sound = h .sound }

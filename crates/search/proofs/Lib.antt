@@ -3,5 +3,3 @@ pub mod Memory
 pub mod Slots
 pub mod Fronts
 pub mod Chain
-pub mod Sweeps
-pub mod Merging

@@ -24,7 +24,7 @@ use Rattle.completion.proofs.Monotone.{Carried, advanced, counted-week, daily-s
 use Rattle.steps.specs.Steps.{Ordered}
 use Rattle.steps.proofs.NearRests.{in-order}
 use Rattle.search.specs.Search.{Sound, Sized, Slots, Lent, Before}
-use Rattle.search.specs.Sweep.{Front, Given}
+use Rattle.search.specs.Leading.{Front, Given}
 
 -- what holds below d and at d holds below d + 1
 pub one-more : (P : ℕ → Type 0) (d x : ℕ) → x < d + 1 → P d → (x < d → P x) → P x
@@ -39,6 +39,10 @@ pub brought : (rest : ℕ → Bool) (n : ℕ) {st here : State} {b : Brought} �
 brought rest n {st} {here} {b} small e g =
     subst (λ (x : Brought). After x (Carried rest n st)) (sym e ∙ g)
     (advanced rest (Carried rest n st) (λ _. Unit) n small (λ there k _. k) (subst (λ (x : Brought). After x (λ _. Unit)) (sym g ∙ e) tt))
+
+-- an empty front
+pub front-none : (c : Course) (j : ℕ) (t : List ℕ) → Front c j t 0
+front-none c j t = record { room = zero-le; each = λ e l. absurd (omega arith) }
 
 -- ---- a rest
 module _ (c : Course) (lies : Lies c) where

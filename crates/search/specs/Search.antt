@@ -20,13 +20,6 @@ pub record Found (P : Type 0) (r : Bool) (owed owed′ : List ℕ) (S : Type 0) 
   pub same : owed′ ≡ owed
   pub sound : S
 
--- the same, where a yes may rest on R
-pub record FoundIf (R P : Type 0) (r : Bool) (owed owed′ : List ℕ) (S : Type 0) : Type 0 where
-  pub yes : r ≡ true → R → P
-  pub no : r ≡ false → P → ⊥
-  pub same : owed′ ≡ owed
-  pub sound : S
-
 abbrev pub courseOf : List ℕ → List ℕ → List ℕ → List ℕ → ℕ → Course
 courseOf starts ends nets loads s = record { starts = starts; ends = ends; nets = nets; loads = loads; judged = s }
 

@@ -2,7 +2,7 @@
 use fixed::Break;
 use recording::Measure;
 use recording::Weighing;
-use search::Swept;
+use sweep::Swept;
 ghost use mathlib.Core.Path.{_≡_};
 ghost use mathlib.Core.Bool.{not};
 ghost use mathlib.Core.Option.{some};
@@ -98,7 +98,7 @@ fn some_reading(
     let k = starts.len();
     let loads = [0u32; recording::LONG_RESTS];
     let mut owed = [0u32; recording::LONG_RESTS];
-    search::possible(
+    sweep::possible(
         starts,
         ends,
         nets,

@@ -4,7 +4,7 @@ use mathlib.Core.Path.{sym}
 use Prim.Native.Nat.{_-_}
 use native.Mathlib.Omega.{arith}
 use denote.Ref.{now}
-use Rattle.search.proofs.Merging.{paid-some}
+use Rattle.merging.proofs.Merging.{paid-some}
 use Rattle.first_reading.proofs.add_load.Statement.{statement}
 use Rattle.first_reading.proofs.add_load.Tie as tie
 

@@ -15,7 +15,7 @@ use Rattle.completion.specs.States.{afterWeekly}
 use Rattle.completion.specs.Completable.{at, restWeek, lengthAt}
 use Rattle.search.specs.Search.{courseOf}
 use Rattle.search.proofs.Slots.{brought, before-weekly, to-counted}
-use Rattle.search.proofs.Merging.{paid-none}
+use Rattle.merging.proofs.Merging.{paid-none}
 use Rattle.first_reading.specs.Choices.{withEntry, Limited}
 use Rattle.first_reading.proofs.Choosing.{with-loads}
 use Rattle.first_reading.proofs.Placing.{before-here, before-with, limited-with, broken-not-to, to-same, counted-state}

@@ -5,7 +5,7 @@ use lib.ListN.{length}
 use denote.Ref.{now}
 use Rattle.search.specs.Search.{courseOf}
 use Rattle.search.proofs.Memory.{empty-sound}
-use Rattle.search.proofs.Sweeps.{noneOf, none-size, none-zeros}
+use Rattle.sweep.proofs.Sweeps.{noneOf, none-size, none-zeros}
 use Rattle.first_reading.proofs.Placing.{lent-start}
 use Rattle.first_reading.proofs.write_first.Statement.{statement}
 use Rattle.first_reading.proofs.write_first.Tie as tie

@@ -22,13 +22,12 @@ use Rattle.steps.proofs.StepLaws.{standing-regular, standing-low}
 use Rattle.steps.proofs.NearRests.{in-order, week-of-rest}
 use Rattle.nogoods.specs.Table.{Remembered}
 use Rattle.search.specs.Search.{courseOf, Later, Sound, Slots, Before}
-use Rattle.search.specs.Sweep.{Any, Front, Led, TakenAs, CountedIn}
+use Rattle.search.specs.Leading.{Any, Front, Led, TakenAs, CountedIn}
 use Rattle.search.proofs.Leading as led
 use Rattle.search.proofs.Memory as memory
 use Rattle.search.proofs.Slots as law
 use Rattle.search.proofs.Fronts as fronts
 use Rattle.search.proofs.Chain as chain
-use Rattle.search.proofs.Sweeps as sweeps
 use Prim.Native.Nat.{ℕ, _<_}
 use borrow.Fn.Kinds.{In}
 use borrow.Fn.PlainCycle.{Measures, is, falls, and}
@@ -932,7 +931,7 @@ place-pay-requires t c κs =
     let k = courseOf (now (s .args .starts)) (now (s .args .ends)) (now (s .args .nets)) (now (s .args .loads)) (s .args .s) in
     let g = s .pre .1 .0 in
     let lies = g .slots .sized .lies in
-    let given = law.given (g .slots) (g .sound) (sweeps.front-none k (s .args .j + 1) _) in
+    let given = law.given (g .slots) (g .sound) (law.front-none k (s .args .j + 1) _) in
     (omega (arith, s .pre .0, s .pre .1 .1 .within, g .slots .below, g .slots .sized .few), (given, s .pre .1 .1, omega arith, g .slots .sized .loads-low (s .args .j)))
 
 place-returns-3 : (t : ℕ) → place-lts.Need-returns-3 (place-calls t) (place-at t) place.Post
