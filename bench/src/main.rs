@@ -23,6 +23,8 @@ const SLOW: [&str; 2] = [
     include_str!("../recordings/slow_pass.txt"),
 ];
 
+const DEEP: [&str; 1] = [include_str!("../recordings/deep.txt")];
+
 /// Bytes enough for any reading.
 const READING: usize = 3 * hours_desk::LONG_RESTS_AT_MOST;
 
@@ -62,7 +64,7 @@ fn kind(name: &str, count: u64, grow: impl Fn(&mut Dice) -> Vec<u32>) -> Kind {
 }
 
 /// Ordinary weeks; grown rest by rest while lawful; grown to be hard; many rests just over 24 hours and few that can pay back; climbed
-/// to make the front of a sweep wide; the stored recordings that a search is slow on.
+/// to make the front of a sweep wide; the stored recordings that a search is slow on, and the one on which it goes deepest.
 fn kinds() -> Vec<Kind> {
     vec![
         kind("ordinary", 400, grow::ordinary),
@@ -71,6 +73,7 @@ fn kinds() -> Vec<Kind> {
         kind("scarce", 100, grow::scarce),
         kind("climbed", 20, |dice| grow::climbed(dice, 8, 400)),
         ("slow".to_owned(), SLOW.map(stored).into()),
+        ("deep".to_owned(), DEEP.map(stored).into()),
     ]
 }
 

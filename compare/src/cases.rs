@@ -18,15 +18,16 @@ pub struct Plan {
     pub hard: u64,
     pub scarce: u64,
     pub climbed: u64,
-    /// Of the stored recordings that a search is slow on, the first so many.
-    pub slow: usize,
+    /// Of the stored recordings, which are hard for a search, the first so many.
+    pub stored: usize,
     pub entries: u64,
 }
 
-/// The recordings that a search is slow on.
-const SLOW: [&str; 2] = [
+/// The recordings that a search is slow on, and the one on which it goes deepest.
+const STORED: [&str; 3] = [
     include_str!("../../bench/recordings/slow_breach.txt"),
     include_str!("../../bench/recordings/slow_pass.txt"),
+    include_str!("../../bench/recordings/deep.txt"),
 ];
 
 /// What the comparison does with each input; whether it goes on.
@@ -68,7 +69,7 @@ pub fn each_recording(plan: &Plan, visit: VisitRecording) -> bool {
         && recordings_of(plan.hard, 6, "hard", |dice| grow::hard(dice, 150), visit)
         && recordings_of(plan.scarce, 7, "scarce", grow::scarce, visit)
         && recordings_of(plan.climbed, 8, "climbed", climbed, visit)
-        && slow(plan, visit)
+        && stored(plan, visit)
 }
 
 fn all(kind: &'static str, tries: Vec<Try>, visit: Visit) -> bool {
@@ -93,11 +94,11 @@ fn climbed(dice: &mut Dice) -> Vec<u32> {
     grow::climbed(dice, 8, 400)
 }
 
-fn slow(plan: &Plan, visit: VisitRecording) -> bool {
+fn stored(plan: &Plan, visit: VisitRecording) -> bool {
     let mut dice = Dice::new(104);
-    SLOW.iter().take(plan.slow).all(|text| {
+    STORED.iter().take(plan.stored).all(|text| {
         let words = second::text::parse(text.as_bytes()).expect("a stored text is of the form");
-        one("slow", &words, &mut dice, visit)
+        one("stored", &words, &mut dice, visit)
     })
 }
 

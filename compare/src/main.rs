@@ -29,7 +29,7 @@ fn main() {
         hard: 30,
         scarce: 200,
         climbed: 60,
-        slow: 2,
+        stored: 3,
         entries: 20_000,
     };
     let mut tally = Tally::default();

@@ -56,7 +56,7 @@ const PLAN: Plan = Plan {
     hard: 0,
     scarce: 0,
     climbed: 0,
-    slow: 0,
+    stored: 0,
     entries: 50,
 };
 

@@ -12,7 +12,7 @@ fn every_example_has_its_answer() {
 }
 
 #[test]
-fn every_slow_recording_has_its_answer() {
+fn every_hard_recording_has_its_answer() {
     every_text_has_its_answer("../bench/recordings");
 }
 

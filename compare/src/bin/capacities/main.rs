@@ -34,7 +34,7 @@ const FAULT_AFTER: Duration = Duration::from_secs(60);
 /// Whether a verdict may be too slow: with next to no front, on recordings that
 /// are made to be hard.
 fn may_be_left_out(entries: u32, kind: &str) -> bool {
-    entries <= 1 && ["hard", "scarce", "climbed", "slow"].contains(&kind)
+    entries <= 1 && ["hard", "scarce", "climbed", "stored"].contains(&kind)
 }
 
 const PLAN: Plan = Plan {
@@ -46,7 +46,7 @@ const PLAN: Plan = Plan {
     hard: 20,
     scarce: 100,
     climbed: 24,
-    slow: 2,
+    stored: 3,
     entries: 0,
 };
 
@@ -60,7 +60,7 @@ const SELF_TEST: Plan = Plan {
     hard: 0,
     scarce: 0,
     climbed: 0,
-    slow: 0,
+    stored: 0,
     entries: 0,
 };
 
