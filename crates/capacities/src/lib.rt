@@ -10,6 +10,11 @@ ghost use Rattle.rules.specs.Operations.{judged, outcome, readingAfter};
 ghost use Rattle.verdict.specs.Verdicts.{outcomeBy};
 ghost use Rattle.interface.specs.Codes.{codeOf, outcomeValue};
 
+// The words of three entries, and of 32.
+const THREE: usize = 3 * nogoods::ENTRY_WORDS;
+
+const MORE: usize = 32 * nogoods::ENTRY_WORDS;
+
 // The verdict with fronts of no entry.
 fn with_none(words: &[u32], measure: Measure, reading: &mut [u8]) -> Outcome
     requires { ⌜ measured (now words) ≡ answered measure ⌝ }
@@ -40,10 +45,10 @@ fn with_one(words: &[u32], measure: Measure, reading: &mut [u8]) -> Outcome
         × (now (reading .exit) ≡ readingAfter (judged (now (words .entry)) (length (now (reading .entry)))) (now (reading .entry))) ⌝ }
 {
     let mut nogoods = [0u32; nogoods::TABLE_WORDS];
-    let mut front = [0u32; 15];
-    let mut other = [0u32; 15];
-    let mut known = [0u32; 15];
-    let mut beside = [0u32; 15];
+    let mut front = [0u32; nogoods::ENTRY_WORDS];
+    let mut other = [0u32; nogoods::ENTRY_WORDS];
+    let mut known = [0u32; nogoods::ENTRY_WORDS];
+    let mut beside = [0u32; nogoods::ENTRY_WORDS];
     verdict::verdict_within(
         words,
         measure,
@@ -63,10 +68,10 @@ fn with_three(words: &[u32], measure: Measure, reading: &mut [u8]) -> Outcome
         × (now (reading .exit) ≡ readingAfter (judged (now (words .entry)) (length (now (reading .entry)))) (now (reading .entry))) ⌝ }
 {
     let mut nogoods = [0u32; nogoods::TABLE_WORDS];
-    let mut front = [0u32; 45];
-    let mut other = [0u32; 45];
-    let mut known = [0u32; 45];
-    let mut beside = [0u32; 45];
+    let mut front = [0u32; THREE];
+    let mut other = [0u32; THREE];
+    let mut known = [0u32; THREE];
+    let mut beside = [0u32; THREE];
     verdict::verdict_within(
         words,
         measure,
@@ -86,10 +91,10 @@ fn with_more(words: &[u32], measure: Measure, reading: &mut [u8]) -> Outcome
         × (now (reading .exit) ≡ readingAfter (judged (now (words .entry)) (length (now (reading .entry)))) (now (reading .entry))) ⌝ }
 {
     let mut nogoods = [0u32; nogoods::TABLE_WORDS];
-    let mut front = [0u32; 480];
-    let mut other = [0u32; 480];
-    let mut known = [0u32; 480];
-    let mut beside = [0u32; 480];
+    let mut front = [0u32; MORE];
+    let mut other = [0u32; MORE];
+    let mut known = [0u32; MORE];
+    let mut beside = [0u32; MORE];
     verdict::verdict_within(
         words,
         measure,

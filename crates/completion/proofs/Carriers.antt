@@ -31,7 +31,8 @@ use Rattle.completion.specs.States.{advance, afterDaily, afterWeekly}
 use Rattle.completion.specs.Runs.{Runs, Kept}
 use Rattle.completion.specs.Completable.{Course, at, count, spansOf, restWeek, lengthAt, amountOf, dueOf, debtOf, Overdue, shortens, ReadDaily, ReadWeekly, Reads, Completable, Lies}
 use Rattle.completion.proofs.Heads.{arrives, after, reduction-daily, reduction-weekly, regular-weekly, shortened-daily, Carried, DailyStep, WeeklyStep, kept-daily, kept-weekly, kept-head}
-use Rattle.completion.proofs.Payments.{debt-none, debt-some, debt-due, debt-amount, share, brought, share-none, share-other, brought-same, brought-last, brought-nothing, set-other, carriedBy, Paid, paid, Left, pays}
+use Rattle.completion.proofs.Payments.{debt-none, debt-some, debt-due, debt-amount, share, brought, share-none, share-other, brought-same, brought-last, brought-nothing, set-other}
+use Rattle.completion.proofs.Payments.{carriedBy, Paid, paid, Left, pays}
 
 -- ---- a debt from before the rest of a number and after it: paid by it, or left as it was
 data Moves (number : ℕ) (carrier debt carrier′ debt′ : ℕ) : Type 0 where

@@ -14,7 +14,8 @@ use Rattle.recording.specs.Weeks.{weekStart, weekOf, touches}
 use Rattle.recording.specs.declared.Span.{Span}
 use Rattle.recording.proofs.TestLaws.{and-left, and-right, and-both, or-cases, or-left, or-right, clash}
 use Rattle.rules.specs.Reading.{Entry, minutes, dailyKind, weeklyKind, regularMinutes, standingOf, asRead, isRegular, reductionOf}
-use Rattle.rules.specs.ReadingRules.{formedDaily, weeklyLength, formedWeekly, formed, rule6, leastNet, longEnough, rule7, deadline, endOf, byDeadline, settles, compensated, rule8, dailyWindow, fullPortion, shortened, shortenedAtMost, weeklyGap}
+use Rattle.rules.specs.ReadingRules.{formedDaily, weeklyLength, formedWeekly, formed, rule6, leastNet, longEnough, rule7, deadline, endOf, byDeadline, settles, compensated, rule8}
+use Rattle.rules.specs.ReadingRules.{dailyWindow, fullPortion, shortened, shortenedAtMost, weeklyGap}
 use Rattle.rules.specs.declared.Kind.{Kind}
 use Rattle.rules.specs.declared.Kind.the-variants.{Daily, Weekly}
 use Rattle.rules.specs.declared.Standing.{Standing}

@@ -23,7 +23,8 @@ use Rattle.completion.specs.declared.State.{State}
 use Rattle.completion.specs.declared.Brought.{Brought}
 use Rattle.completion.specs.declared.Brought.the-variants.{Broken}
 use Rattle.completion.specs.States.{pairKept, nextWeek, advance, After, afterDaily, afterWeekly}
-use Rattle.completion.specs.Completable.{Course, at, count, restWeek, lengthAt, debtUnit, amountOf, dueOf, debtOf, Overdue, Pays, shortens, ReadDaily, ReadWeekly, Reads, Tries, Completable, Lies, Stands}
+use Rattle.completion.specs.Completable.{Course, at, count, restWeek, lengthAt, debtUnit, amountOf, dueOf, debtOf, Overdue, Pays, shortens, ReadDaily, ReadWeekly, Reads, Tries}
+use Rattle.completion.specs.Completable.{Completable, Lies, Stands}
 use Rattle.completion.specs.Better.{Milder, none, free, some, Debts, Within, Matched, Better, Small, AtRest}
 use Rattle.completion.proofs.Matching.{same-or-not, matched-on, matched-overdue, put-at, matched-pays}
 
@@ -307,7 +308,8 @@ module _ (c : Course) {R : ℕ → List ℕ → List ℕ → Type 0} (lasting : 
           (λ there. K (afterWeekly (restWeek c (h .week)) (leb (regularMinutes + b) (lengthAt c j)) (at (c .ends) j) there) (set p j (debtOf (lengthAt c j) b (h .week))))
           (h .week - x .week) better
           (λ x′ y′ b′. mono _ _ _ _ (weekly-better (restWeek c (h .week)) _ _ (at (c .ends) j) regular b′) (lasting .put j _ _ inside d (debt-mono (lengthAt c j) (h .week) a b le (h .net))))
-          (subst (λ (n : ℕ). After (advance (restWeek c) (h .week - n) y) (λ there. K (afterWeekly (restWeek c (h .week)) (leb (regularMinutes + b) (lengthAt c j)) (at (c .ends) j) there) (set p j (debtOf (lengthAt c j) b (h .week))))) (sym (better .week)) (h .then));
+          (subst (λ (n : ℕ). After (advance (restWeek c) (h .week - n) y) (λ there. K (afterWeekly (restWeek c (h .week)) (leb (regularMinutes + b) (lengthAt c j)) (at (c .ends) j) there)
+          (set p j (debtOf (lengthAt c j) b (h .week))))) (sym (better .week)) (h .then));
     }
       where
         regular : one (leb (regularMinutes + b) (lengthAt c j)) ≤ one (leb (regularMinutes + a) (lengthAt c j))
@@ -387,7 +389,8 @@ module _ (c : Course) (lies : Lies c) where
         from = omega arith;
         upto = omega (arith, proper);
         then =
-            subst (λ (m : ℕ). After (advance (restWeek c) m here) (λ there. K (afterWeekly (restWeek c w) (leb (regularMinutes + load) (lengthAt c j)) (at (c .ends) j) there) (set owed j (debtOf (lengthAt c j) load w)))) still
+            subst (λ (m : ℕ). After (advance (restWeek c) m here) (λ there. K (afterWeekly (restWeek c w) (leb (regularMinutes + load) (lengthAt c j)) (at (c .ends) j) there) (set owed j
+            (debtOf (lengthAt c j) load w)))) still
             (subst (λ (t : Bool). K (afterWeekly (restWeek c w) t (at (c .ends) j) here) (set owed j (pick t 0 ((w + weeksToCompensate) * debtUnit + (regularMinutes + load - lengthAt c j))))) yes
             (mono _ _ _ owed (regular-better here (restWeek c w) (shortens c j load) (at (c .ends) j) (r .small) (omega (arith, proper, r .ended)))
             (set-left (c .judged) j 0 (debts-self (c .judged) owed) (none refl)) (h .then)));

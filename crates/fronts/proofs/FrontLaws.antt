@@ -7,10 +7,11 @@ use Prim.Native.Nat.{ℕ, zero, suc, _+_, _-_, _≤_, _<_}
 use native.Mathlib.Nat.{le-refl}
 use native.Mathlib.Omega.{arith}
 use lib.Dec.{ltb}
-use lib.ListN.{length, set}
+use lib.ListN.{length, set, List·getD-eq-default}
 use borrow.Author.Tests.{lt-ltb, le-ltb}
 use Rattle.recording.specs.Tests.{pick}
 use Rattle.recording.proofs.TestLaws.{less-or-not}
+use Rattle.reading.specs.Items.{Zeros}
 use Rattle.completion.specs.declared.State.{State}
 use Rattle.completion.specs.Completable.{at}
 use Rattle.completion.specs.Better.{Within}
@@ -297,20 +298,49 @@ unfolding wordsBy
 words-same f g i zero h = refl
 words-same f g i (suc k) h = ap (λ (y : ℕ). y ∷ wordsBy f (suc i) k) (h i) ∙ ap (λ (q : List ℕ). g i ∷ q) (words-same f g (suc i) k h)
 
--- the first i slots are written
+-- the first i slots have no debt
+pub record Cleared (l : List ℕ) (i : ℕ) : Type 0 where
+  pub none : (d : ℕ) → d < i → at l d ≡ 0
+
+pub cleared-start : (l : List ℕ) → Cleared l 0
+cleared-start l = record { none = λ d h. absurd (omega arith) }
+
+pub cleared-on : {l : List ℕ} {i : ℕ} → i < length l → Cleared l i → Cleared (set l i 0) (i + 1)
+cleared-on {l} {i} room before = record { none = λ d h. go d h (less-or-not d i) }
+  where
+    go : (d : ℕ) → d < i + 1 → (d < i) ⊎ (i ≤ d) → at (set l i 0) d ≡ 0
+    go d h (inl f) = skip l i d 0 (λ q. omega arith) ∙ before .none d f
+    go d h (inr f) = let q : i ≡ d = omega arith in subst (λ (x : ℕ). at (set l i 0) x ≡ 0) q (same l i 0 room)
+
+pub cleared-all : {l : List ℕ} {i : ℕ} → length l ≤ i → Cleared l i → Zeros l
+cleared-all {l} {i} m h d = go (less-or-not d i)
+  where
+    go : (d < i) ⊎ (i ≤ d) → at l d ≡ 0
+    go (inl f) = h .none d f
+    go (inr f) = List·getD-eq-default l 0 (omega arith)
+
+-- the first i slots are written, and no other has a debt
 pub record Written (t : List ℕ) (p : ℕ) (l : List ℕ) (i : ℕ) : Type 0 where
   pub word : (d : ℕ) → d < i → at l d ≡ slotIn t p d
+  pub none : (d : ℕ) → i ≤ d → at l d ≡ 0
 
-pub written-start : (t : List ℕ) (p : ℕ) (l : List ℕ) → Written t p l 0
-written-start t p l = record { word = λ d h. absurd (omega arith) }
+pub written-start : (t : List ℕ) (p : ℕ) {l : List ℕ} → Zeros l → Written t p l 0
+written-start t p z = record { word = λ d h. absurd (omega arith); none = λ d _. z d }
 
 pub written-on : {t l : List ℕ} {p i : ℕ} (w : ℕ) → i < length l → w ≡ slotIn t p i → Written t p l i → Written t p (set l i w) (i + 1)
-written-on {t} {l} {p} {i} w room e before = record { word = λ d h. go d h (less-or-not d i) }
+written-on {t} {l} {p} {i} w room e before = record {
+  word = λ d h. go d h (less-or-not d i);
+  none = λ d h. skip l i d w (λ q. omega arith) ∙ before .none d (omega arith);
+}
   where
     go : (d : ℕ) → d < i + 1 → (d < i) ⊎ (i ≤ d) → at (set l i w) d ≡ slotIn t p d
     go d h (inl f) = skip l i d w (λ q. omega arith) ∙ before .word d f
     go d h (inr f) = let q : i ≡ d = omega arith in subst (λ (x : ℕ). at (set l i w) x ≡ slotIn t p x) q (same l i w room ∙ e)
 
-pub written-all : {t l : List ℕ} {p i k : ℕ} → length l ≡ k → k ≤ i → Written t p l i → l ≡ owedIn t p k
+pub written-all : {t l : List ℕ} {p i k : ℕ} → length l ≡ k → debtsOf t p ≤ i → Written t p l i → l ≡ owedIn t p k
 written-all {t} {l} {p} {i} {k} e m h =
-    words-are (slotIn t p) 0 l (λ d f. h .word d (omega arith) ∙ ap (slotIn t p) (let g : d ≡ 0 + d = omega arith in g)) ∙ ap (λ (x : ℕ). wordsBy (slotIn t p) 0 x) e
+    words-are (slotIn t p) 0 l (λ d f. go d (less-or-not d i) ∙ ap (slotIn t p) (let g : d ≡ 0 + d = omega arith in g)) ∙ ap (λ (x : ℕ). wordsBy (slotIn t p) 0 x) e
+  where
+    go : (d : ℕ) → (d < i) ⊎ (i ≤ d) → at l d ≡ slotIn t p d
+    go d (inl f) = h .word d f
+    go d (inr f) = h .none d f ∙ sym (no-slot t p d (omega arith))

@@ -10,8 +10,9 @@ ghost use mathlib.Core.Path.{_≡_};
 ghost use mathlib.Core.Bool.{true};
 ghost use Prim.Native.Nat.{_+_, _≤_};
 ghost use lib.ListN.{length};
+ghost use Rattle.reading.specs.Items.{Zeros};
 ghost use Rattle.nogoods.specs.Table.{debtsAtMost, entryWords, debtsOf};
-ghost use Rattle.fronts.specs.Front.{entryAt, stateIn, slotIn, owedIn, Paired, Beats, Copied, Held, Beaten, AllBeaten, Removed, Placed, PlacedState};
+ghost use Rattle.fronts.specs.Front.{entryAt, stateIn, owedIn, Paired, Beats, Copied, Held, Beaten, AllBeaten, Removed, Placed, PlacedState};
 
 // How many entries are in use after a state was put into a front, and whether it found its place there or needs none.
 pub struct Grown {
@@ -49,11 +50,14 @@ fn debts_within(a: &[u32], p: usize, b: &[u32], q: usize) -> bool
     true
 }
 
-// The entry at p of a is at least as good as the entry at q of b.
+// The entry at p of a is at least as good as the entry at q of b. One with more debts is not; that is seen first.
 pub fn beats(a: &[u32], p: usize, b: &[u32], q: usize) -> bool
     requires { ⌜ (p + entryWords ≤ length (now a)) × (q + entryWords ≤ length (now b)) ⌝ }
     ensures { λ r. ⌜ (r ≡ true → Beats (now (a .entry)) p (now (b .entry)) q) ⌝ }
 {
+    if b[q + DEBTS_AT] < a[p + DEBTS_AT] {
+        return false;
+    }
     if a[p] < b[q] {
         return false;
     }
@@ -231,27 +235,28 @@ pub fn debts_in(front: &[u32], p: usize) -> usize
     m as usize
 }
 
-// What the entry at p has in slot d.
-fn slot_in(front: &[u32], p: usize, d: usize) -> u32
-    requires { ⌜ (p + entryWords ≤ length (now front)) × (debtsOf (now front) p ≤ debtsAtMost) ⌝ }
-    ensures { λ r. ⌜ r ≡ slotIn (now (front .entry)) p d ⌝ }
-{
-    let m = front[p + DEBTS_AT];
-    if m as usize <= d {
-        return 0;
-    }
-    front[p + DEBT_AT + d]
-}
-
-// Writes what the entry at p owes into slots.
-pub fn owed_in(front: &[u32], p: usize, owed: &mut [u32])
-    requires { ⌜ (p + entryWords ≤ length (now front)) × (debtsOf (now front) p ≤ debtsAtMost) ⌝ }
-    ensures { λ _. ⌜ now (owed .exit) ≡ owedIn (now (front .entry)) p (length (now (owed .entry))) ⌝ }
+// No slot has a debt.
+fn clear_slots(owed: &mut [u32])
+    ensures { λ _. ⌜ Zeros (now (owed .exit)) ⌝ }
 {
     let k = owed.len();
     let mut i = 0;
     while i < k {
-        owed[i] = slot_in(front, p, i);
+        owed[i] = 0;
+        i += 1;
+    }
+}
+
+// Writes what the entry at p owes into slots.
+pub fn owed_in(front: &[u32], p: usize, owed: &mut [u32])
+    requires { ⌜ (p + entryWords ≤ length (now front)) × (debtsOf (now front) p ≤ debtsAtMost) × (debtsOf (now front) p ≤ length (now owed)) ⌝ }
+    ensures { λ _. ⌜ now (owed .exit) ≡ owedIn (now (front .entry)) p (length (now (owed .entry))) ⌝ }
+{
+    clear_slots(owed);
+    let m = debts_in(front, p);
+    let mut i = 0;
+    while i < m {
+        owed[i] = front[p + DEBT_AT + i];
         i += 1;
     }
 }

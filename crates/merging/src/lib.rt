@@ -192,7 +192,23 @@ fn beside_two(
     )
 }
 
-// From two fronts before the rest of index j to the first rest at which they merge, or to the end.
+// So many rests a question goes beside the known front: those that merge mostly do so soon, and the known front costs as much as the question's.
+const BESIDE: usize = 16;
+
+// So many rests after that of index j, or all k.
+fn beside_end(j: usize, k: usize) -> usize
+    ensures { λ r. ⌜ r ≤ k ⌝ }
+{
+    if k <= j {
+        return k;
+    }
+    if k - j <= BESIDE {
+        return k;
+    }
+    j + BESIDE
+}
+
+// From two fronts before the rest of index j to the first rest at which they merge; past so many rests the question goes on alone, to the end.
 fn merge_on(
     starts: &[u32],
     ends: &[u32],
@@ -217,10 +233,11 @@ fn merge_on(
     if all_matched(known, g, front, f) {
         return true;
     }
+    let last = beside_end(j, starts.len());
     let mut i = j;
     let mut n = f;
     let mut m = g;
-    while i < starts.len() {
+    while i < last {
         let went = beside_two(
             starts,
             ends,
@@ -247,7 +264,20 @@ fn merge_on(
         m = went.g;
         i += 2;
     }
-    false
+    let swept = sweep::sweep_on(
+        starts,
+        ends,
+        nets,
+        loads,
+        s,
+        owed,
+        nogoods,
+        front,
+        other,
+        i,
+        n,
+    );
+    swept.yes
 }
 
 // From a state before the rest of index j, where nothing is owed, p times two rests on.
@@ -640,7 +670,7 @@ pub fn completes_beside(
 ) -> bool
     requires { ⌜ (let c = courseOf (now starts) (now ends) (now nets) (now loads) s in
         let d = courseOf (now starts) (now ends) (now nets) (paid (now loads) x less) s in
-        Lent c (now owed) × Lent d (now owed) × AtRest c j here × Before d (j + 1) next × (x ≤ count c) × (0 < x → j + 1 < x) × Sound c (now nogoods)) ⌝ }
+        Lent c (now owed) × Lent d (now owed) × AtRest c j here × Before d (j + 1) next × (x ≤ count c) × Sound c (now nogoods)) ⌝ }
     ensures { λ r. ⌜ (let c = courseOf (now (starts .entry)) (now (ends .entry)) (now (nets .entry)) (now (loads .entry)) s in
         let d = courseOf (now (starts .entry)) (now (ends .entry)) (now (nets .entry)) (paid (now (loads .entry)) x less) s in
         FoundIf (Tries c (Later c j) j here (now (owed .entry))) (Later d j next (now (owed .entry))) r

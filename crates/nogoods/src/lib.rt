@@ -22,10 +22,10 @@ pub const DEBTS_AT_MOST: u32 = 8;
 
 pub const ENTRY_WORDS: usize = 15;
 
-pub const LEVEL_WORDS: usize = 241;
+pub const LEVEL_WORDS: usize = 1 + RING as usize * ENTRY_WORDS;
 
-// A table for as many rests as there can be: LEVEL_WORDS for each.
-pub const TABLE_WORDS: usize = 53743;
+// A table for as many rests as there can be.
+pub const TABLE_WORDS: usize = recording::LONG_RESTS * LEVEL_WORDS;
 
 // The first k levels are emptied, as far as the table reaches.
 pub fn clear(table: &mut [u32], k: usize)

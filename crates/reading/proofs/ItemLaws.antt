@@ -36,7 +36,15 @@ pub formed-carried : (k : ℕ) (x : Item) → x .kind ≡ weeklyKind → weeklyL
     → (x .carrier ≡ 0 → ⊥) → x .number < x .carrier → leb (x .carrier) k ≡ formed k (entryBy x)
 unfolding formed formedDaily formedWeekly touches _and_ _or_
 formed-carried k x e l s t z n =
-    rw (e, le-leb weeklyLength (x .end - x .start) l, lt-ltb (x .start) (weekStart (x .week + 1)) s, lt-ltb (weekStart (x .week)) (x .end) t, ne-eqb (x .carrier) 0 z, lt-ltb (x .number) (x .carrier) n)
+    rw (
+      e,
+      le-leb weeklyLength (x .end - x .start) l,
+      lt-ltb (x .start) (weekStart (x .week + 1)) s,
+      lt-ltb (weekStart (x .week)) (x .end) t,
+      ne-eqb (x .carrier) 0 z,
+      lt-ltb (x .number)
+          (x .carrier) n,
+    )
     refl
 
 -- the kind of an item's rest

@@ -18,7 +18,8 @@ use Rattle.recording.specs.declared.Span.{Span}
 use Rattle.recording.proofs.TestLaws.{less-or-not, one-most}
 use Rattle.rules.specs.Broken.{unless}
 use Rattle.rules.specs.Reading.{Entry, minutes, regularMinutes, weeklyKind, asRead, isWeekly, isRegular, reductionOf, kindOf, standingOf, compensationOf, entryBytes, entryOf, entriesFrom, entries}
-use Rattle.rules.specs.ReadingRules.{formed, formedDaily, formedWeekly, rule6, leastNet, longEnough, rule7, endOf, byDeadline, settles, compensated, deadline, shortened, shortenedAtMost, rule9From, inGap, rule10From, ofKind}
+use Rattle.rules.specs.ReadingRules.{formed, formedDaily, formedWeekly, rule6, leastNet, longEnough, rule7, endOf, byDeadline, settles, compensated, deadline, shortened, shortenedAtMost}
+use Rattle.rules.specs.ReadingRules.{rule9From, inGap, rule10From, ofKind}
 use Rattle.rules.specs.declared.Kind.{Kind}
 use Rattle.rules.specs.declared.Kind.the-variants.{Daily, Weekly}
 use Rattle.rules.specs.declared.Standing.the-variants.{Regular, Reduced}
@@ -29,7 +30,8 @@ use Rattle.reading.specs.declared.LongRest.{LongRest}
 use Rattle.reading.specs.declared.Tally.{Tally}
 use Rattle.reading.specs.declared.Walk.the-variants.{TooShort, AllThrough}
 use Rattle.reading.proofs.TallyLaws.{test-next, end-of-spans, paid-at, paid-length, paid-below, bumped-at, bumped-length, bumped-below, owes-little}
-use Rattle.reading.specs.Items.{entryBy, endBefore, itemAt, loadAtMost, Sane, restBy, enoughBy, endAt, timeBy, gapBy, Below, shortAfter, brokenBy, tallyBy, paid, bumped, spanAt, spansFrom, spansIn, Laid, Zeros, testFrom, freshTally, Through, Walked}
+use Rattle.reading.specs.Items.{entryBy, endBefore, itemAt, loadAtMost, Sane, restBy, enoughBy, endAt, timeBy, gapBy, Below, shortAfter, brokenBy, tallyBy, paid, bumped, spanAt}
+use Rattle.reading.specs.Items.{spansFrom, spansIn, Laid, Zeros, testFrom, freshTally, Through, Walked}
 
 -- ---- the entries that are left at index i, after those before them
 module _ (starts ends reading : List ℕ) (k : ℕ) where

@@ -16,7 +16,8 @@ ghost use Rattle.rules.specs.Reading.{isWeekly, isRegular, reductionOf, entries
 ghost use Rattle.rules.specs.ReadingRules.{formed, rule6, shortened, shortenedAtMost, inGap};
 ghost use Rattle.rules.specs.Operations.{readingTested};
 ghost use Rattle.fixed.specs.Walk.{tested};
-ghost use Rattle.reading.specs.Items.{entryBy, endBefore, itemAt, Sane, loadAtMost, Below, restBy, enoughBy, endAt, timeBy, gapBy, shortAfter, tallyBy, paid, bumped, spansIn, Laid, Zeros, Walked, enoughWith, rule11With, restWeeks, spanOf, zeros, laterBy};
+ghost use Rattle.reading.specs.Items.{entryBy, endBefore, itemAt, Sane, loadAtMost, Below, restBy, enoughBy, endAt, timeBy, gapBy, shortAfter, tallyBy, paid, bumped, spansIn, Laid};
+ghost use Rattle.reading.specs.Items.{Zeros, Walked, enoughWith, rule11With, restWeeks, spanOf, zeros, laterBy};
 
 // A long rest with its entry: its number from 1, the end of the long rest before it or 0, its start and end, the least net length
 // at which it is no shortened daily rest, its three bytes, and the compensation that it gives, the document's load.
@@ -420,8 +421,10 @@ fn rest_walk(
     k: usize,
     s: u32,
 ) -> Walk
-    requires { ⌜ Laid (now starts) (now ends) (now nets) (now reading) (now loads) k × Zeros (now loads) × Zeros (now weekly) × Zeros (now regular) × (length (now weekly) ≡ 256) × (length (now regular) ≡ 256) ⌝ }
-    ensures { λ r. ⌜ Walked s (spansIn (now (starts .entry)) (now (ends .entry)) k) (entries (spansIn (now (starts .entry)) (now (ends .entry)) k) (now (reading .entry))) r (now (weekly .exit)) (now (regular .exit)) ⌝ }
+    requires { ⌜ Laid (now starts) (now ends) (now nets) (now reading) (now loads) k × Zeros (now loads) × Zeros (now weekly) × Zeros (now regular) × (length (now weekly) ≡ 256)
+        × (length (now regular) ≡ 256) ⌝ }
+    ensures { λ r. ⌜ Walked s (spansIn (now (starts .entry)) (now (ends .entry)) k) (entries (spansIn (now (starts .entry)) (now (ends .entry)) k) (now (reading .entry)))
+        r (now (weekly .exit)) (now (regular .exit)) ⌝ }
 {
     let mut t = Tally {
         rule: 0,
@@ -493,7 +496,8 @@ fn enough_in(
     k: usize,
     w: u32,
 ) -> bool
-    requires { ⌜ (k ≤ length (now starts)) × (k ≤ length (now ends)) × (w < 254) × (length (now weekly) ≡ 256) × (length (now regular) ≡ 256) × Below loadAtMost (now weekly) × Below loadAtMost (now regular) ⌝ }
+    requires { ⌜ (k ≤ length (now starts)) × (k ≤ length (now ends)) × (w < 254) × (length (now weekly) ≡ 256) × (length (now regular) ≡ 256) × Below loadAtMost (now weekly)
+        × Below loadAtMost (now regular) ⌝ }
     ensures { λ r. ⌜ r ≡ enoughWith (restWeeks (spansIn (now (starts .entry)) (now (ends .entry)) k)) (now (weekly .entry)) (now (regular .entry)) w ⌝ }
 {
     let next = w + 1;
@@ -515,7 +519,8 @@ fn pair_kept(
     s: u32,
     w: u32,
 ) -> bool
-    requires { ⌜ (k ≤ length (now starts)) × (k ≤ length (now ends)) × (w < 254) × (length (now weekly) ≡ 256) × (length (now regular) ≡ 256) × Below loadAtMost (now weekly) × Below loadAtMost (now regular) ⌝ }
+    requires { ⌜ (k ≤ length (now starts)) × (k ≤ length (now ends)) × (w < 254) × (length (now weekly) ≡ 256) × (length (now regular) ≡ 256) × Below loadAtMost (now weekly)
+        × Below loadAtMost (now regular) ⌝ }
     ensures { λ r. ⌜ r ≡ not (leb (weekStart (w + 2)) s) or enoughWith (restWeeks (spansIn (now (starts .entry)) (now (ends .entry)) k)) (now (weekly .entry)) (now (regular .entry)) w ⌝ }
 {
     if s < recording::WEEK_MINUTES * (w + 2) {
@@ -533,7 +538,8 @@ fn pairs_test(
     k: usize,
     s: u32,
 ) -> bool
-    requires { ⌜ (k ≤ length (now starts)) × (k ≤ length (now ends)) × (s ≤ totalAtMost) × (length (now weekly) ≡ 256) × (length (now regular) ≡ 256) × Below loadAtMost (now weekly) × Below loadAtMost (now regular) ⌝ }
+    requires { ⌜ (k ≤ length (now starts)) × (k ≤ length (now ends)) × (s ≤ totalAtMost) × (length (now weekly) ≡ 256) × (length (now regular) ≡ 256) × Below loadAtMost (now weekly)
+        × Below loadAtMost (now regular) ⌝ }
     ensures { λ r. ⌜ r ≡ rule11With (restWeeks (spansIn (now (starts .entry)) (now (ends .entry)) k)) s (now (weekly .entry)) (now (regular .entry)) ⌝ }
 {
     let mut w = s / recording::WEEK_MINUTES;

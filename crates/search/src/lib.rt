@@ -160,7 +160,7 @@ pub fn step(
 }
 
 // The rest of index j is daily, with a load.
-pub fn daily(
+fn daily(
     starts: &[u32],
     ends: &[u32],
     nets: &[u32],
@@ -202,7 +202,7 @@ pub fn daily(
 }
 
 // It is weekly, counted in week w, and owes what it is reduced by; a debt that is due after s needs nothing.
-pub fn count_in(
+fn count_in(
     starts: &[u32],
     ends: &[u32],
     nets: &[u32],
@@ -244,7 +244,7 @@ pub fn count_in(
 }
 
 // It is weekly, in week w.
-pub fn in_week(
+fn in_week(
     starts: &[u32],
     ends: &[u32],
     nets: &[u32],
@@ -292,7 +292,7 @@ pub fn in_week(
 }
 
 // It is weekly, in one of the weeks in which it has a minute.
-pub fn weekly(
+fn weekly(
     starts: &[u32],
     ends: &[u32],
     nets: &[u32],
@@ -348,7 +348,7 @@ pub fn weekly(
 }
 
 // It is read as of a kind.
-pub fn read_as(
+fn read_as(
     starts: &[u32],
     ends: &[u32],
     nets: &[u32],
@@ -406,7 +406,7 @@ pub fn read_as(
 }
 
 // It is daily or weekly, with a load; where it can be a regular weekly rest it need not be daily.
-pub fn choose(
+fn choose(
     starts: &[u32],
     ends: &[u32],
     nets: &[u32],
@@ -511,7 +511,8 @@ pub fn pay(
     requires { ⌜ (let c = courseOf (now starts) (now ends) (now nets) (now loads) s in
         Given c j m (now owed) (now nogoods) (j + 1) (now next) n × AtRest c j here × (i ≤ m) × (load ≤ totalAtMost)) ⌝ }
     ensures { λ r. ⌜ (let c = courseOf (now (starts .entry)) (now (ends .entry)) (now (nets .entry)) (now (loads .entry)) s in
-        Leads c (λ o. Pays (Reads c (Later c j) j here) (lengthAt c j) (j - i) i load o) (j + 1) n (now (next .entry)) (now (next .exit)) (now (owed .entry)) (now (owed .exit)) (now (nogoods .exit)) r) ⌝ }
+        Leads c (λ o. Pays (Reads c (Later c j) j here) (lengthAt c j) (j - i) i load o) (j + 1) n
+        (now (next .entry)) (now (next .exit)) (now (owed .entry)) (now (owed .exit)) (now (nogoods .exit)) r) ⌝ }
 {
     let d = steps::debtor(owed, m, i, load, ends[j] - starts[j]);
     if d == m {

@@ -151,7 +151,8 @@ fn in_rest(starts: &[u32], ends: &[u32], j: usize, w: u32) -> bool
 
 // Whether the week w, between the starts of the long rests before j and of j, is one of rest minutes only.
 pub fn rest_near(starts: &[u32], ends: &[u32], j: usize, w: u32) -> bool
-    requires { ⌜ Ordered (now starts) (now ends) × (j ≤ length (now starts)) × (w < 255) × (0 < j → weekOf (at (now starts) (j - 1)) < w) × (j < length (now starts) → w ≤ weekOf (at (now starts) j)) ⌝ }
+    requires { ⌜ Ordered (now starts) (now ends) × (j ≤ length (now starts)) × (w < 255) × (0 < j → weekOf (at (now starts) (j - 1)) < w)
+        × (j < length (now starts) → w ≤ weekOf (at (now starts) j)) ⌝ }
     ensures { λ r. ⌜ r ≡ restWeeks (spansIn (now (starts .entry)) (now (ends .entry)) (length (now (starts .entry)))) w ⌝ }
 {
     if in_rest(starts, ends, j, w) {
@@ -165,7 +166,8 @@ pub fn rest_near(starts: &[u32], ends: &[u32], j: usize, w: u32) -> bool
 
 // The state brought on to the week `to`, unless two weeks that are over break rule 11. The next long rest is that of index j.
 pub fn advance(starts: &[u32], ends: &[u32], j: usize, st: State, to: u32) -> Brought
-    requires { ⌜ Ordered (now starts) (now ends) × (j ≤ length (now starts)) × (to < 255) × Small st × (0 < j → weekOf (at (now starts) (j - 1)) ≤ st .week) × (j < length (now starts) → to ≤ weekOf (at (now starts) j)) ⌝ }
+    requires { ⌜ Ordered (now starts) (now ends) × (j ≤ length (now starts)) × (to < 255) × Small st × (0 < j → weekOf (at (now starts) (j - 1)) ≤ st .week)
+        × (j < length (now starts) → to ≤ weekOf (at (now starts) j)) ⌝ }
     ensures { λ r. ⌜ r ≡ advanced (restWeeks (spansIn (now (starts .entry)) (now (ends .entry)) (length (now (starts .entry))))) (to - st .week) st ⌝ }
 {
     let mut here = st;

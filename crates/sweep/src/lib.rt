@@ -160,7 +160,7 @@ fn sweep_two(
 }
 
 // From the front before the rest of index j, of f states, to the end.
-fn sweep_on(
+pub fn sweep_on(
     starts: &[u32],
     ends: &[u32],
     nets: &[u32],
@@ -174,7 +174,7 @@ fn sweep_on(
     f: usize,
 ) -> Swept
     requires { ⌜ (let c = courseOf (now starts) (now ends) (now nets) (now loads) s in
-        Sized c (now owed) × Sound c (now nogoods) × (j ≤ count c) × Front c j (now front) f) ⌝ }
+        Sized c (now owed) × Sound c (now nogoods) × (j ≤ count c + 1) × Front c j (now front) f) ⌝ }
     ensures { λ r. ⌜ (let c = courseOf (now (starts .entry)) (now (ends .entry)) (now (nets .entry)) (now (loads .entry)) s in
         Told (Any c j (now (front .entry)) f) (r .yes) (Sound c (now (nogoods .exit)))) ⌝ }
 {

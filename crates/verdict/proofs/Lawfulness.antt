@@ -1,19 +1,17 @@
 -- A reading of a recording's long rests that keeps rules 6 to 11 is a lawful one, where the fixed rules hold. Assumes nothing.
 use mathlib.Core.Path.{_≡_, refl, sym, ap, subst, _∙_}
-use mathlib.Core.Logic.{_⊎_, inl, inr}
 use mathlib.Core.Bool.{Bool, true, false, not}
 use mathlib.Core.List.{List, [], map}
 use mathlib.Core.Option.{Option, some}
 use Prim.Native.Nat.{ℕ, zero, suc, _+_, _*_, _≤_, _<_, min, zero-le}
 use native.Mathlib.Omega.{arith}
-use lib.ListN.{length, getD, take, replicate, length-map, length-replicate, getD-replicate, List·getD-eq-default, length-take}
-use lib.Seq.{length-take-le, getD-take, take-length}
+use lib.ListN.{length, getD, take, length-map, length-take}
+use lib.Seq.{take-length}
 use borrow.Author.Tests.{eqb-true, eq-eqb}
 use Rattle.recording.specs.Words.{minutesOf}
 use Rattle.recording.specs.Rests.{judgedEnd, longRests, longRestsAtMost}
 use Rattle.recording.specs.Operations.{totalAtMost}
 use Rattle.recording.specs.declared.Span.{Span}
-use Rattle.recording.proofs.TestLaws.{less-or-not}
 use Rattle.recording.proofs.Walks.{judged-within}
 use Rattle.recording.proofs.LongRests.{Ordered, none as no-rest, next, rests-ordered, few-rests}
 use Rattle.rules.specs.Broken.{ifNone}
@@ -39,21 +37,6 @@ use Rattle.fixed.specs.Account.{accountFrom, opening}
 use Rattle.verdict.specs.Verdicts.{Cut, HasKept, Some, ByRule, HasReading, Readable, AllRests, Whole, restsAlone}
 use Rattle.verdict.proofs.Days.{lies-later}
 use Rattle.verdict.specs.declared.Rests.{Rests}
-
--- ---- the front of an array of zeros
-module _ (n k : ℕ) (h : k ≤ n) where
-  abbrev noughts : List ℕ
-  noughts = replicate n 0
-
-  pub front-size : length {A = ℕ} (take k noughts) ≡ k
-  front-size = length-take-le {A = ℕ} k noughts (rw (length-replicate {A = ℕ} n 0) h)
-
-  pub front-zeros : Zeros (take k noughts)
-  front-zeros i = zero-front i (less-or-not i k)
-    where
-      zero-front : (i : ℕ) → (i < k) ⊎ (k ≤ i) → _≡_ {A = ℕ} (getD (take k noughts) i 0) 0
-      zero-front i (inl l) = getD-take k noughts i 0 l ∙ getD-replicate n i 0 0 (omega arith)
-      zero-front i (inr l) = List·getD-eq-default (take k noughts) 0 {n = i} (rw front-size l)
 
 -- ---- the search's answer on long rests without loads
 module _ (starts ends nets loads owed : List ℕ) (s : ℕ) (lies : Lies (restsOnly starts ends nets s)) (few : length starts ≤ longRestsAtMost) (bound : s ≤ totalAtMost)

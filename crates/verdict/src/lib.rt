@@ -17,7 +17,8 @@ ghost use Rattle.fixed.specs.Account.{accountFrom, opening};
 ghost use Rattle.rules.specs.Operations.{judged, outcome, readingAfter};
 ghost use Rattle.completion.specs.Completable.{at, Lies};
 ghost use Rattle.first_reading.specs.First.{restsOnly};
-ghost use Rattle.verdict.specs.Verdicts.{outcomeBy, broken, findingOf, found, findingBy, findingIn, Cut, Some, ByRule, HasReading, Bound, AllRests, Whole, dayStart, DayReadable, LastDay, DayTop, restsAlone, Sooner, NextDemand, FirstWithout, laterOf, NextActive};
+ghost use Rattle.verdict.specs.Verdicts.{outcomeBy, broken, findingOf, found, findingBy, findingIn, Cut, Some, ByRule, HasReading, Bound, AllRests, Whole, dayStart, DayReadable};
+ghost use Rattle.verdict.specs.Verdicts.{LastDay, DayTop, restsAlone, Sooner, NextDemand, FirstWithout, laterOf, NextActive};
 
 // A breach: the length of the shortest stretch without a lawful reading, and its article, 1 to 6.
 pub struct Breach {
@@ -56,12 +57,27 @@ pub struct Rests {
 // The article of a breach where all fixed rules hold.
 const NO_FIXED_RULE: u32 = 6;
 
-// How many long rests are few, some or many: so much room the search is lent, nogoods::LEVEL_WORDS for each.
+// How many long rests are few, some or many; for so many there is a level of nogoods each, and room for some states in a front.
 const FEW: u32 = 8;
+
+const FEW_NOGOODS: usize = FEW as usize * nogoods::LEVEL_WORDS;
+
+const FEW_STATES: usize = 32 * nogoods::ENTRY_WORDS;
 
 const SOME: u32 = 32;
 
+const SOME_NOGOODS: usize = SOME as usize * nogoods::LEVEL_WORDS;
+
+const SOME_STATES: usize = 64 * nogoods::ENTRY_WORDS;
+
 const MANY: u32 = 96;
+
+const MANY_NOGOODS: usize = MANY as usize * nogoods::LEVEL_WORDS;
+
+const MANY_STATES: usize = 256 * nogoods::ENTRY_WORDS;
+
+// Any number of long rests.
+const MOST_STATES: usize = 1024 * nogoods::ENTRY_WORDS;
 
 // The long rests of the first m minutes into three slices: where each starts and ends, and its number.
 fn rests_of(words: &[u32], m: u32, starts: &mut [u32], ends: &mut [u32], nets: &mut [u32]) -> Rests
@@ -546,17 +562,17 @@ pub fn verdict_within(
     Outcome::Breached(breach)
 }
 
-// The same with room for 8 long rests, and 32 states in a front.
+// The same with room for few long rests.
 fn within_few(words: &[u32], measure: Measure, reading: &mut [u8]) -> Outcome
     requires { ⌜ measured (now words) ≡ answered measure ⌝ }
     ensures { λ r. ⌜ (outcomeBy r ≡ outcome (judged (now (words .entry)) (length (now (reading .entry)))))
         × (now (reading .exit) ≡ readingAfter (judged (now (words .entry)) (length (now (reading .entry)))) (now (reading .entry))) ⌝ }
 {
-    let mut nogoods = [0u32; 1928];
-    let mut front = [0u32; 480];
-    let mut other = [0u32; 480];
-    let mut known = [0u32; 480];
-    let mut beside = [0u32; 480];
+    let mut nogoods = [0u32; FEW_NOGOODS];
+    let mut front = [0u32; FEW_STATES];
+    let mut other = [0u32; FEW_STATES];
+    let mut known = [0u32; FEW_STATES];
+    let mut beside = [0u32; FEW_STATES];
     verdict_within(
         words,
         measure,
@@ -569,17 +585,17 @@ fn within_few(words: &[u32], measure: Measure, reading: &mut [u8]) -> Outcome
     )
 }
 
-// The same with room for 32 long rests, and 64 states in a front.
+// The same with room for some long rests.
 fn within_some(words: &[u32], measure: Measure, reading: &mut [u8]) -> Outcome
     requires { ⌜ measured (now words) ≡ answered measure ⌝ }
     ensures { λ r. ⌜ (outcomeBy r ≡ outcome (judged (now (words .entry)) (length (now (reading .entry)))))
         × (now (reading .exit) ≡ readingAfter (judged (now (words .entry)) (length (now (reading .entry)))) (now (reading .entry))) ⌝ }
 {
-    let mut nogoods = [0u32; 7712];
-    let mut front = [0u32; 960];
-    let mut other = [0u32; 960];
-    let mut known = [0u32; 960];
-    let mut beside = [0u32; 960];
+    let mut nogoods = [0u32; SOME_NOGOODS];
+    let mut front = [0u32; SOME_STATES];
+    let mut other = [0u32; SOME_STATES];
+    let mut known = [0u32; SOME_STATES];
+    let mut beside = [0u32; SOME_STATES];
     verdict_within(
         words,
         measure,
@@ -592,17 +608,17 @@ fn within_some(words: &[u32], measure: Measure, reading: &mut [u8]) -> Outcome
     )
 }
 
-// The same with room for 96 long rests, and 256 states in a front.
+// The same with room for many long rests.
 fn within_many(words: &[u32], measure: Measure, reading: &mut [u8]) -> Outcome
     requires { ⌜ measured (now words) ≡ answered measure ⌝ }
     ensures { λ r. ⌜ (outcomeBy r ≡ outcome (judged (now (words .entry)) (length (now (reading .entry)))))
         × (now (reading .exit) ≡ readingAfter (judged (now (words .entry)) (length (now (reading .entry)))) (now (reading .entry))) ⌝ }
 {
-    let mut nogoods = [0u32; 23136];
-    let mut front = [0u32; 3840];
-    let mut other = [0u32; 3840];
-    let mut known = [0u32; 3840];
-    let mut beside = [0u32; 3840];
+    let mut nogoods = [0u32; MANY_NOGOODS];
+    let mut front = [0u32; MANY_STATES];
+    let mut other = [0u32; MANY_STATES];
+    let mut known = [0u32; MANY_STATES];
+    let mut beside = [0u32; MANY_STATES];
     verdict_within(
         words,
         measure,
@@ -615,17 +631,17 @@ fn within_many(words: &[u32], measure: Measure, reading: &mut [u8]) -> Outcome
     )
 }
 
-// The same with room for 223 long rests, and 1024 states in a front.
+// The same with room for as many long rests as there can be.
 fn within_most(words: &[u32], measure: Measure, reading: &mut [u8]) -> Outcome
     requires { ⌜ measured (now words) ≡ answered measure ⌝ }
     ensures { λ r. ⌜ (outcomeBy r ≡ outcome (judged (now (words .entry)) (length (now (reading .entry)))))
         × (now (reading .exit) ≡ readingAfter (judged (now (words .entry)) (length (now (reading .entry)))) (now (reading .entry))) ⌝ }
 {
-    let mut nogoods = [0u32; 53743];
-    let mut front = [0u32; 15360];
-    let mut other = [0u32; 15360];
-    let mut known = [0u32; 15360];
-    let mut beside = [0u32; 15360];
+    let mut nogoods = [0u32; nogoods::TABLE_WORDS];
+    let mut front = [0u32; MOST_STATES];
+    let mut other = [0u32; MOST_STATES];
+    let mut known = [0u32; MOST_STATES];
+    let mut beside = [0u32; MOST_STATES];
     verdict_within(
         words,
         measure,
@@ -671,9 +687,9 @@ pub fn judge(words: &[u32]) -> Judgement
     let mut nets = [0u32; recording::LONG_RESTS];
     let rests = rests_of(words, total, &mut starts, &mut ends, &mut nets);
     let k = rests.count;
-    let mut nogoods = [0u32; 53743];
-    let mut front = [0u32; 15360];
-    let mut other = [0u32; 15360];
+    let mut nogoods = [0u32; nogoods::TABLE_WORDS];
+    let mut front = [0u32; MOST_STATES];
+    let mut other = [0u32; MOST_STATES];
     let ruling = ruling_of(
         words,
         &starts[..k],
@@ -693,7 +709,8 @@ pub fn judge(words: &[u32]) -> Judgement
 
 // The verdict: refusals 1 and 2, then 4; a pass writes the first lawful reading.
 pub fn verdict(words: &[u32], reading: &mut [u8]) -> Outcome
-    ensures { λ r. ⌜ (outcomeBy r ≡ outcome (judged (now (words .entry)) (length (now (reading .entry))))) × (now (reading .exit) ≡ readingAfter (judged (now (words .entry)) (length (now (reading .entry)))) (now (reading .entry))) ⌝ }
+    ensures { λ r. ⌜ (outcomeBy r ≡ outcome (judged (now (words .entry)) (length (now (reading .entry)))))
+        × (now (reading .exit) ≡ readingAfter (judged (now (words .entry)) (length (now (reading .entry)))) (now (reading .entry))) ⌝ }
 {
     let weighing = recording::weigh(words);
     let Weighing::Weighed(measure) = weighing else {

@@ -48,7 +48,6 @@ completes-beside-requires c κs =
       s .pre .1,
       before-daily k (s .pre .0 .sized .lies) (s .args .j) (s .args .here) (at-is-short .is-short .result) (at-after-daily .after-daily .ensures) (s .pre .1) (at-if1 .if1 .left),
       zero-le,
-      λ l. absurd (omega arith),
       s .pre .3,
     )
 

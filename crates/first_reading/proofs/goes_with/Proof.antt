@@ -52,7 +52,6 @@ completes-beside-requires c κs =
       s .pre .1,
       before-with k (paid (now (s .args .loads)) (s .args .x) (at-reduction .reduction .result)) (s .pre .2),
       s .pre .4,
-      s .pre .5,
       s .pre .6,
     )
 
@@ -65,7 +64,8 @@ returns-2 c =
     let s = at-carries .before .before .before .before .before .before .before .before .before .before .before .before in
     let k = courseOf (now (s .args .starts)) (now (s .args .ends)) (now (s .args .nets)) (now (s .args .loads)) (s .args .s) in
     let y = at-carries .carries .ensures .yes (not-false _ (at-if1 .if1 .left)) in (
-      if-carry (with-carrier k (s .args .j) (s .args .w) (s .args .next) (now (s .args .owed)) (s .args .x) (at-reduction .reduction .ensures) (y .carried)) (at-completes-beside .completes-beside .ensures .0),
+      if-carry (with-carrier k (s .args .j) (s .args .w) (s .args .next) (now (s .args .owed)) (s .args .x) (at-reduction .reduction .ensures) (y .carried))
+          (at-completes-beside .completes-beside .ensures .0),
       λ _. y .fits,
       at-completes-beside .completes-beside .ensures .1,
     )

@@ -23,13 +23,16 @@ returns-6 : tie.Need-returns-6
 returns-6 c = λ h. absurd (false≢true h)
 
 returns-7 : tie.Need-returns-7
-returns-7 c = λ h. record {
-  ended = c .before .before .before .before .before .before .before .before .before .before .before .before .before .before .before .before .if1 .left;
-  short = c .before .before .before .before .before .before .before .before .before .before .before .before .before .if2 .left;
-  weekly-before = c .before .before .before .before .before .before .before .before .before .before .if3 .left;
-  regular-before = c .before .before .before .before .before .before .before .if4 .left;
-  weekly = c .before .before .before .before .if5 .left;
-  regular = c .before .if6 .left;
+returns-7 c = λ h. absurd (false≢true h)
+
+returns-8 : tie.Need-returns-8
+returns-8 c = λ h. record {
+  ended = c .before .before .before .before .before .before .before .before .before .before .before .before .before .before .before .before .if2 .left;
+  short = c .before .before .before .before .before .before .before .before .before .before .before .before .before .if3 .left;
+  weekly-before = c .before .before .before .before .before .before .before .before .before .before .if4 .left;
+  regular-before = c .before .before .before .before .before .before .before .if5 .left;
+  weekly = c .before .before .before .before .if6 .left;
+  regular = c .before .if7 .left;
   debts = c .debts-within .ensures h;
 }
 
@@ -41,9 +44,9 @@ beats-spec =
     (λ c. search needs)
     (λ c. search needs)
     (λ c. search needs)
+    (λ c. search needs)
+    (λ c. search needs)
     returns
-    (λ c. search needs)
-    (λ c. search needs)
     (λ c. search needs)
     (λ c. search needs)
     (λ c. search needs)
@@ -77,5 +80,12 @@ beats-spec =
     (λ c. search needs)
     (λ c. search needs)
     returns-6
+    (λ c. search needs)
+    (λ c. search needs)
+    (λ c. search needs)
+    (λ c. search needs)
+    (λ c. search needs)
+    (λ c. search needs)
+    returns-7
     (λ c κs. search needs)
-    returns-7)
+    returns-8)

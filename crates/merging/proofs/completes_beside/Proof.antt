@@ -31,7 +31,7 @@ asks-beside-requires c κs =
       s .pre .2,
       s .pre .3,
       s .pre .4,
-      s .pre .6,
+      s .pre .5,
     )
 
 pub completes-beside-spec : {M : Type 1} → statement M

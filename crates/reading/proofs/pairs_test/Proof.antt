@@ -24,7 +24,18 @@ loop-holds : tie.Need-loop-holds Inv-loop μ-loop
 loop-holds c = (omega arith, record { same = refl })
 
 pair-kept-requires : tie.Need-pair-kept-requires Inv-loop μ-loop
-pair-kept-requires c κs = ((c .before .before .before .before .before .before) .pre .0, (c .before .before .before .before .before .before) .pre .1, omega (arith, (c .before .before .before .before .before .before) .pre .2), (c .before .before .before .before .before .before) .pre .3, (c .before .before .before .before .before .before) .pre .4, (c .before .before .before .before .before .before) .pre .5, (c .before .before .before .before .before .before) .pre .6)
+pair-kept-requires c κs = (
+  (c .before .before .before .before .before .before) .pre .0,
+  (c .before .before .before .before .before .before) .pre .1,
+  omega (
+    arith,
+    (c .before .before .before .before .before .before) .pre .2,
+  ),
+  (c .before .before .before .before .before .before) .pre .3,
+  (c .before .before .before .before .before .before) .pre .4,
+  (c .before .before .before .before .before .before) .pre .5,
+  (c .before .before .before .before .before .before) .pre .6,
+)
 
 returns : tie.Need-returns Inv-loop μ-loop
 unfolding rule11With

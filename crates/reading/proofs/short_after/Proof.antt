@@ -10,11 +10,19 @@ use Rattle.reading.proofs.short_after.Tie as tie
 
 returns : tie.Need-returns
 unfolding shortAfter
-returns c = rw (kind-is ((c .before .before .before .before) .args .x) ((c .before .before .before .before) .pre .1) (c .before .enum-told .given .1), sym (c .before .before .before .shortened-item .ensures) ∙ c .if1 .taken) refl
+returns c = rw (
+  kind-is ((c .before .before .before .before) .args .x) ((c .before .before .before .before) .pre .1) (c .before .enum-told .given .1),
+  sym
+      (c .before .before .before .shortened-item .ensures) ∙ c .if1 .taken,
+) refl
 
 returns-2 : tie.Need-returns-2
 unfolding shortAfter
-returns-2 c = rw (kind-is ((c .before .before .before .before) .args .x) ((c .before .before .before .before) .pre .1) (c .before .enum-told .given .1), sym (c .before .before .before .shortened-item .ensures) ∙ c .if1 .left) (sym (add-zero _))
+returns-2 c = rw (
+  kind-is ((c .before .before .before .before) .args .x) ((c .before .before .before .before) .pre .1) (c .before .enum-told .given .1),
+  sym
+      (c .before .before .before .shortened-item .ensures) ∙ c .if1 .left,
+) (sym (add-zero _))
 
 returns-3 : tie.Need-returns-3
 unfolding shortAfter

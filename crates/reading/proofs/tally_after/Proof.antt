@@ -8,7 +8,16 @@ use Rattle.reading.proofs.tally_after.Tie as tie
 
 returns : tie.Need-returns
 unfolding tallyBy brokenBy
-returns c = rw (c .smaller-of .ensures, c .before .broken-by .ensures, c .before .before .in-gap .ensures, c .before .before .before .in-time .ensures, c .before .before .before .before .last-after .ensures, c .before .before .before .before .before .short-after .ensures, (c .before .before .before .before .before .before) .pre .1) refl
+returns c = rw (
+  c .smaller-of .ensures,
+  c .before .broken-by .ensures,
+  c .before .before .in-gap .ensures,
+  c .before .before .before .in-time .ensures,
+  c .before .before .before .before
+      .last-after .ensures,
+  c .before .before .before .before .before .short-after .ensures,
+  (c .before .before .before .before .before .before) .pre .1,
+) refl
 
 pub tally-after-spec : {M : Type 1} → statement M
 tally-after-spec =

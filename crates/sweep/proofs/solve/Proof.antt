@@ -3,6 +3,7 @@ use borrow.Author.Needs.{needs}
 use mathlib.Core.Path.{sym, _∙_}
 use Prim.Native.Nat.{_-_}
 use lib.ListN.{length}
+use native.Mathlib.Omega.{arith}
 use denote.Ref.{now}
 use Rattle.search.specs.Search.{courseOf}
 use Rattle.search.proofs.Leading as led
@@ -38,7 +39,7 @@ sweep-on-requires c κs =
     let k = courseOf (now (s .args .starts)) (now (s .args .ends)) (now (s .args .nets)) (now (s .args .loads)) (s .args .s) in (
       law.sized-too k (s .pre .0 .sized .lies) (s .pre .0 .sized) (sweeps.none-size (length (now (s .args .starts))) (s .pre .0 .sized .few) ∙ sym (s .pre .0 .sized .owed-too)),
       c .before .before .before .before .before .before .before .before .before .before .before .step .ensures .sound,
-      s .pre .2 .within,
+      omega (arith, s .pre .2 .within),
       c .before .before .before .before .before .before .before .before .before .before .before .step .ensures .well,
     )
 

@@ -2,8 +2,8 @@
 use borrow.Author.Needs.{needs}
 use denote.Ref.{now}
 use mathlib.Core.Path.{sym}
-use Rattle.verdict.proofs.Lawfulness.{front-size, front-zeros, lent, some-reading}
-use Rattle.recording.specs.Rests.{longRestsAtMost}
+use Rattle.sweep.proofs.Sweeps.{none-size, none-zeros}
+use Rattle.verdict.proofs.Lawfulness.{lent, some-reading}
 use lib.ListN.{length}
 use Rattle.verdict.proofs.some_reading.Statement.{statement}
 use Rattle.verdict.proofs.some_reading.Tie as tie
@@ -11,25 +11,25 @@ use Rattle.verdict.proofs.some_reading.Tie as tie
 slice-aggregate-possible : tie.Need-slice-aggregate-possible
 slice-aggregate-possible c =
     let s = (c .before .before .before .before .before .before .before) in
-    sym (front-size longRestsAtMost (length (now (s .args .starts))) (s .pre .1))
+    sym (none-size (length (now (s .args .starts))) (s .pre .1))
 
 slice-aggregate-possible-2 : tie.Need-slice-aggregate-possible-2
 slice-aggregate-possible-2 c =
     let s = (c .before .before .before .before .before .before .before .before) in
-    sym (front-size longRestsAtMost (length (now (s .args .starts))) (s .pre .1))
+    sym (none-size (length (now (s .args .starts))) (s .pre .1))
 
 possible-requires : tie.Need-possible-requires
 possible-requires c κs =
     let s = (c .before .before .before .before .before .before .before .before .before .before .before) in
-    let none = front-zeros longRestsAtMost (length (now (s .args .starts))) (s .pre .1) in
-    let size = front-size longRestsAtMost (length (now (s .args .starts))) (s .pre .1) in
+    let none = none-zeros (length (now (s .args .starts))) in
+    let size = none-size (length (now (s .args .starts))) (s .pre .1) in
     lent (now (s .args .starts)) (now (s .args .ends)) (now (s .args .nets)) _ _ (s .args .s) (s .pre .0) (s .pre .1) (s .pre .2) none size none size
 
 returns : tie.Need-returns
 returns c =
     let s = (c .before .before .before .before .before .before .before .before .before .before .before .before .before .before .before .before .before .before .before) in
-    let none = front-zeros longRestsAtMost (length (now (s .args .starts))) (s .pre .1) in
-    let size = front-size longRestsAtMost (length (now (s .args .starts))) (s .pre .1) in
+    let none = none-zeros (length (now (s .args .starts))) in
+    let size = none-size (length (now (s .args .starts))) (s .pre .1) in
     some-reading (now (s .args .starts)) (now (s .args .ends)) (now (s .args .nets)) _ _ (s .args .s) (s .pre .0) (s .pre .1) (s .pre .2) none size none
     (c .before .before .before .before .before .before .before .possible .ensures)
 
