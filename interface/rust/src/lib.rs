@@ -19,7 +19,8 @@
 //! and leaves what lies beyond.
 //!
 //! Nothing is kept between calls, so threads may call at the same time.
-//! Have 1 MiB of stack for [`verdict`]; the most that was measured is 608 KiB.
+//! Have 1 MiB of stack for [`verdict`]; the most that was measured is 671 KiB,
+//! on a recording made to take much.
 //! The main thread and the threads of `std` have more, unless told otherwise.
 
 mod calls;
