@@ -29,7 +29,7 @@ use Rattle.completion.specs.Completable.{Course, at, count, spansOf, restWeek, 
 use Rattle.completion.proofs.Heads.{arrives, after, reduction-weekly, regular-weekly, Carried, DailyStep, WeeklyStep, kept-daily, kept-weekly, kept-head}
 use Rattle.completion.proofs.Payments.{set-other}
 use Rattle.completion.proofs.Carriers.{end-at, rests, shortened-at, extend, extended}
-use Rattle.search.specs.Search.{Later}
+use Rattle.search.specs.Search.{Later, withLoads}
 use Rattle.first_reading.specs.Choices.{loadAt, reductionAt, carrying, CanBeRead, GoesDaily, CarriedBy, afterCounted, GoesWeekly, NotPast, FirstWeekly, KeepsFrom, LeastFrom, Ahead}
 
 -- ---- bytes by threes
@@ -79,10 +79,7 @@ after-entry a b d r t (inr (e, inr (f, inl l))) = absurd (omega arith)
 after-entry a b d r t (inr (e, inr (f, inr (g, h)))) = h
 
 -- ---- other loads
-abbrev pub with-loads : Course → List ℕ → Course
-with-loads c p = record { starts = c .starts; ends = c .ends; nets = c .nets; loads = p; judged = c .judged }
-
-pub lies-with : (c : Course) (p : List ℕ) → Lies c → Lies (with-loads c p)
+pub lies-with : (c : Course) (p : List ℕ) → Lies c → Lies (withLoads c p)
 lies-with c p l = record { ends-too = l .ends-too; nets-too = l .nets-too; net = l .net; proper = l .proper; ordered = l .ordered; judged = l .judged }
 
 -- ---- what is asked of the later rests, by how many are left

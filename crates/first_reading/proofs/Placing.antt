@@ -31,13 +31,13 @@ use Rattle.completion.proofs.Heads.{arrives, after}
 use Rattle.completion.proofs.Monotone.{daily-stands}
 use Rattle.completion.proofs.Payments.{set-other}
 use Rattle.steps.specs.Steps.{Says}
-use Rattle.search.specs.Search.{courseOf, Later, Sound, Lent, Before}
+use Rattle.search.specs.Search.{courseOf, Later, Sound, Lent, Before, withLoads}
 use Rattle.merging.specs.Merging.{FoundIf}
 use Rattle.search.proofs.Leading.{Equal}
 use Rattle.search.proofs.Slots.{sized-too, reached-at}
 use Rattle.sweep.proofs.Sweeps.{noneOf, none-size, none-zeros}
 use Rattle.first_reading.specs.First.{Least, restsOnly}
-use Rattle.first_reading.proofs.Choosing.{with-loads, lies-with, carrier-low}
+use Rattle.first_reading.proofs.Choosing.{lies-with, carrier-low}
 use Rattle.first_reading.specs.Choices.{loadAt, reductionAt, carrying, CanBeRead, CarriedBy, afterCounted, GoesWeekly, Room, NotPast, FirstWeekly}
 use Rattle.first_reading.specs.Choices.{LeastFrom, Ahead, withEntry, Placed, FirstOf, Limited, Carries, GoesWith}
 
@@ -83,7 +83,7 @@ module _ (c : Course) where
       (λ st′ o k g. long-enough n (suc j) st′ o y k (omega arith) g) (p .asked)
 
 -- ---- other loads
-pub before-with : (c : Course) (p : List ℕ) {j : ℕ} {st : State} → Before c j st → Before (with-loads c p) j st
+pub before-with : (c : Course) (p : List ℕ) {j : ℕ} {st : State} → Before c j st → Before (withLoads c p) j st
 before-with c p h = record {
   within = h .within;
   stands = record { short = h .stands .short; ended = h .stands .ended; week = h .stands .week; week-judged = h .stands .week-judged };
@@ -108,36 +108,36 @@ lent-of {c} {d} s k h e = record {
 
 -- slices that are as they were
 module _ {c : Course} {p : List ℕ} (q : p ≡ c .loads) where
-  pub lent-same : {o o′ : List ℕ} → o′ ≡ o → Lent c o → Lent (with-loads c p) o′
-  lent-same {o} {o′} e h = subst (λ (x : List ℕ). Lent (with-loads c x) o′) (sym q) (lent-of (limited h) refl h e)
+  pub lent-same : {o o′ : List ℕ} → o′ ≡ o → Lent c o → Lent (withLoads c p) o′
+  lent-same {o} {o′} e h = subst (λ (x : List ℕ). Lent (withLoads c x) o′) (sym q) (lent-of (limited h) refl h e)
 
-  pub sound-with : {t : List ℕ} → Sound c t → Sound (with-loads c p) t
-  sound-with {t} h = subst (λ (x : List ℕ). Sound (with-loads c x) t) (sym q) h
+  pub sound-with : {t : List ℕ} → Sound c t → Sound (withLoads c p) t
+  sound-with {t} h = subst (λ (x : List ℕ). Sound (withLoads c x) t) (sym q) h
 
-  pub with-sound : {t : List ℕ} → Sound (with-loads c p) t → Sound c t
-  with-sound {t} h = subst (λ (x : List ℕ). Sound (with-loads c x) t) q h
+  pub with-sound : {t : List ℕ} → Sound (withLoads c p) t → Sound c t
+  with-sound {t} h = subst (λ (x : List ℕ). Sound (withLoads c x) t) q h
 
   -- what was asked of them
   pub found-same : (here : State) {j w x : ℕ} {next : State} {r : Bool} {o o′ o″ t : List ℕ} → o′ ≡ o
-      → FoundIf (CanBeRead (with-loads c p) j here o′) (GoesWith (with-loads c p) j w next o′ x) r o′ o″ (Sound (with-loads c p) t)
+      → FoundIf (CanBeRead (withLoads c p) j here o′) (GoesWith (withLoads c p) j w next o′ x) r o′ o″ (Sound (withLoads c p) t)
       → FoundIf (CanBeRead c j here o) (GoesWith c j w next o x) r o o″ (Sound c t)
   found-same here {j} {w} {x} {next} {r} {o} {o′} {o″} {t} e f =
       subst (λ (l : List ℕ). FoundIf (CanBeRead c j here l) (GoesWith c j w next l x) r l o″ (Sound c t)) e
-      (subst (λ (l : List ℕ). FoundIf (CanBeRead (with-loads c l) j here o′) (GoesWith (with-loads c l) j w next o′ x) r o′ o″ (Sound (with-loads c l) t)) q f)
+      (subst (λ (l : List ℕ). FoundIf (CanBeRead (withLoads c l) j here o′) (GoesWith (withLoads c l) j w next o′ x) r o′ o″ (Sound (withLoads c l) t)) q f)
 
-  pub room-same : {j x : ℕ} → Room (with-loads c p) j x → Room c j x
-  room-same {j} {x} f = subst (λ (l : List ℕ). Room (with-loads c l) j x) q f
+  pub room-same : {j x : ℕ} → Room (withLoads c p) j x → Room c j x
+  room-same {j} {x} f = subst (λ (l : List ℕ). Room (withLoads c l) j x) q f
 
   pub first-same : {j w x : ℕ} {here : State} {o o′ : List ℕ} → o′ ≡ o
-      → FirstOf (CanBeRead (with-loads c p) j here o′) (GoesWeekly (with-loads c p) j here o′ w) (Room (with-loads c p) j) (count c) x
+      → FirstOf (CanBeRead (withLoads c p) j here o′) (GoesWeekly (withLoads c p) j here o′ w) (Room (withLoads c p) j) (count c) x
       → FirstOf (CanBeRead c j here o) (GoesWeekly c j here o w) (Room c j) (count c) x
   first-same {j} {w} {x} {here} {o} {o′} e f =
       subst (λ (l : List ℕ). FirstOf (CanBeRead c j here l) (GoesWeekly c j here l w) (Room c j) (count c) x) e
-      (subst (λ (l : List ℕ). FirstOf (CanBeRead (with-loads c l) j here o′) (GoesWeekly (with-loads c l) j here o′ w) (Room (with-loads c l) j) (count c) x) q f)
+      (subst (λ (l : List ℕ). FirstOf (CanBeRead (withLoads c l) j here o′) (GoesWeekly (withLoads c l) j here o′ w) (Room (withLoads c l) j) (count c) x) q f)
 
-  pub weekly-same : {j w x : ℕ} {here : State} {o o′ : List ℕ} → o′ ≡ o → FirstWeekly (with-loads c p) j here o′ w x → FirstWeekly c j here o w x
+  pub weekly-same : {j w x : ℕ} {here : State} {o o′ : List ℕ} → o′ ≡ o → FirstWeekly (withLoads c p) j here o′ w x → FirstWeekly c j here o w x
   weekly-same {j} {w} {x} {here} {o} {o′} e f =
-      subst (λ (l : List ℕ). FirstWeekly c j here l w x) e (subst (λ (l : List ℕ). FirstWeekly (with-loads c l) j here o′ w x) q f)
+      subst (λ (l : List ℕ). FirstWeekly c j here l w x) e (subst (λ (l : List ℕ). FirstWeekly (withLoads c l) j here o′ w x) q f)
 
 -- ---- answers
 pub if-no : {R P S : Type 0} {o o′ : List ℕ} → (P → ⊥) → o′ ≡ o → S → FoundIf R P false o o′ S
@@ -354,10 +354,10 @@ module _ (c : Course) (j w x : ℕ) where
 
 -- with a carrier that is one, the later rests are what is left to ask
 pub with-carrier : (c : Course) (j w : ℕ) (next : State) (o : List ℕ) (x : ℕ) {less : ℕ} → less ≡ reductionAt c j → CarriedBy c j w x
-    → Equal (Later (with-loads c (paid (c .loads) x less)) j next o) (GoesWith c j w next o x)
+    → Equal (Later (withLoads c (paid (c .loads) x less)) j next o) (GoesWith c j w next o x)
 with-carrier c j w next o x {less} e k = record {
-  to = λ p. record { carried = k; then = subst (λ (d : ℕ). Later (with-loads c (paid (c .loads) x d)) j next o) e p };
-  from = λ g. subst (λ (d : ℕ). Later (with-loads c (paid (c .loads) x d)) j next o) (sym e) (g .then);
+  to = λ p. record { carried = k; then = subst (λ (d : ℕ). Later (withLoads c (paid (c .loads) x d)) j next o) e p };
+  from = λ g. subst (λ (d : ℕ). Later (withLoads c (paid (c .loads) x d)) j next o) (sym e) (g .then);
 }
 
 -- ---- the bytes written so far
@@ -461,7 +461,7 @@ pub counted-state : (c : Course) (j w : ℕ) (rest : Bool) (there next : State)
 counted-state c j w rest there next e r =
     e ∙ ap (λ (b : Bool). afterWeekly b (leb (regularMinutes + loadAt c j) (lengthAt c j)) (at (c .ends) j) there) r
 
-pub at-rest-with : (c : Course) (p : List ℕ) {j : ℕ} {here : State} → AtRest c j here → AtRest (with-loads c p) j here
+pub at-rest-with : (c : Course) (p : List ℕ) {j : ℕ} {here : State} → AtRest c j here → AtRest (withLoads c p) j here
 at-rest-with c p h = record { within = h .within; small = h .small; week = h .week; ended = h .ended }
 
 -- ---- before a rest has a load or anything is owed

@@ -18,11 +18,11 @@ use Rattle.completion.specs.States.{advance}
 use Rattle.completion.specs.Completable.{Course, at, count, restWeek, lengthAt, Lies}
 use Rattle.completion.specs.Better.{AtRest, bestState}
 use Rattle.completion.proofs.Monotone.{arrives}
-use Rattle.search.specs.Search.{Sound, Lent, Before}
+use Rattle.search.specs.Search.{Sound, Lent, Before, withLoads}
 use Rattle.search.proofs.Slots.{brought}
 use Rattle.search.proofs.Memory.{empty-sound}
 use Rattle.first_reading.specs.Choices.{Renewed, loadAt, carrying, CanBeRead, GoesDaily, Fits, FirstWeekly, Ahead, Limited, PutDaily, PutWeekly, Stepped}
-use Rattle.first_reading.proofs.Choosing.{with-loads, lies-with, daily, weekly, NextDaily, too-short-for-weekly, never-broken, goes-as-daily, goes-as-weekly}
+use Rattle.first_reading.proofs.Choosing.{lies-with, daily, weekly, NextDaily, too-short-for-weekly, never-broken, goes-as-daily, goes-as-weekly}
 use Rattle.first_reading.proofs.Placing.{limited, lent-of, before-best}
 
 module _ (c : Course) (j : ℕ) (st : State) (owed : List ℕ) (lent : Lent c owed) (before : Before c j st) (inside : j < count c) where
@@ -84,8 +84,8 @@ module _ (c : Course) (j : ℕ) (st : State) (owed : List ℕ) (lent : Lent c ow
           let h = lent .sized in
           goes-as-daily c (h .lies) (omega (arith, h .few)) (h .judged) (h .loads-too) j inside st past left owed (h .owed-too) zeros a here (sym e ∙ g) d)
 
-      pub stepped-weekly : (p : List ℕ) (w x : ℕ) → Sound (with-loads c p) nogoods′ → (GoesDaily c j here owed → ⊥) → FirstWeekly c j here owed w x
-          → PutWeekly c (with-loads c p) j here w x reading reading′ r → Stepped c (with-loads c p) j st owed owed′ nogoods′ reading reading′ r
+      pub stepped-weekly : (p : List ℕ) (w x : ℕ) → Sound (withLoads c p) nogoods′ → (GoesDaily c j here owed → ⊥) → FirstWeekly c j here owed w x
+          → PutWeekly c (withLoads c p) j here w x reading reading′ r → Stepped c (withLoads c p) j st owed owed′ nogoods′ reading reading′ r
       stepped-weekly p w x sound nay f put = record {
         lent = lent-still (put .limited) refl;
         sound = sound;
@@ -104,37 +104,37 @@ module _ (c : Course) (j : ℕ) (st : State) (owed : List ℕ) (lent : Lent c ow
               begins = n .begins;
               written = d .written;
               ahead =
-                  subst (λ (l : List ℕ). Ahead (with-loads c l) (suc j) r (weekly c j past w x ∷ past) (n .rest)) (sym (d .loads))
+                  subst (λ (l : List ℕ). Ahead (withLoads c l) (suc j) r (weekly c j past w x ∷ past) (n .rest)) (sym (d .loads))
                   (subst (λ (s : State). Ahead (carrying c j x) (suc j) s (weekly c j past w x ∷ past) (n .rest)) (sym (d .state)) (n .ahead));
             };
       }
 
 -- the same, of loads that are as they were
 module _ {c : Course} {p : List ℕ} (q : p ≡ c .loads) where
-  pub put-daily-same : {j : ℕ} {here r : State} {reading reading′ : List ℕ} → PutDaily (with-loads c p) j here reading reading′ r → PutDaily c j here reading reading′ r
-  put-daily-same {j} {here} {r} {reading} {reading′} h = subst (λ (l : List ℕ). PutDaily (with-loads c l) j here reading reading′ r) q h
+  pub put-daily-same : {j : ℕ} {here r : State} {reading reading′ : List ℕ} → PutDaily (withLoads c p) j here reading reading′ r → PutDaily c j here reading reading′ r
+  put-daily-same {j} {here} {r} {reading} {reading′} h = subst (λ (l : List ℕ). PutDaily (withLoads c l) j here reading reading′ r) q h
 
   pub stepped-same : {j : ℕ} {st r : State} {o o′ t reading reading′ : List ℕ} → Stepped c c j st o o′ t reading reading′ r
-      → Stepped c (with-loads c p) j st o o′ t reading reading′ r
-  stepped-same {j} {st} {r} {o} {o′} {t} {reading} {reading′} h = subst (λ (l : List ℕ). Stepped c (with-loads c l) j st o o′ t reading reading′ r) (sym q) h
+      → Stepped c (withLoads c p) j st o o′ t reading reading′ r
+  stepped-same {j} {st} {r} {o} {o′} {t} {reading} {reading′} h = subst (λ (l : List ℕ). Stepped c (withLoads c l) j st o o′ t reading reading′ r) (sym q) h
 
-  pub put-same : {d : Course} {j w x : ℕ} {here r : State} {reading reading′ : List ℕ} → PutWeekly (with-loads c p) d j here w x reading reading′ r
+  pub put-same : {d : Course} {j w x : ℕ} {here r : State} {reading reading′ : List ℕ} → PutWeekly (withLoads c p) d j here w x reading reading′ r
       → PutWeekly c d j here w x reading reading′ r
-  put-same {d} {j} {w} {x} {here} {r} {reading} {reading′} h = subst (λ (l : List ℕ). PutWeekly (with-loads c l) d j here w x reading reading′ r) q h
+  put-same {d} {j} {w} {x} {here} {r} {reading} {reading′} h = subst (λ (l : List ℕ). PutWeekly (withLoads c l) d j here w x reading reading′ r) q h
 
-  pub limited-same : Limited c → Limited (with-loads c p)
-  limited-same h = subst (λ (l : List ℕ). Limited (with-loads c l)) (sym q) h
+  pub limited-same : Limited c → Limited (withLoads c p)
+  limited-same h = subst (λ (l : List ℕ). Limited (withLoads c l)) (sym q) h
 
-  pub fits-same : {j w x : ℕ} → Fits c j w x → Fits (with-loads c p) j w x
-  fits-same {j} {w} {x} h = subst (λ (l : List ℕ). Fits (with-loads c l) j w x) (sym q) h
+  pub fits-same : {j w x : ℕ} → Fits c j w x → Fits (withLoads c p) j w x
+  fits-same {j} {w} {x} h = subst (λ (l : List ℕ). Fits (withLoads c l) j w x) (sym q) h
 
 -- the nogoods after a weekly rest: as they were where no load has grown, or none
 pub sound-renewed : {c d : Course} {x : ℕ} {t t′ : List ℕ} → Lies c → Sound c t → (x ≡ 0 → d .loads ≡ c .loads)
-    → d ≡ with-loads c (d .loads) → Renewed (count c) x t t′ → Sound d t′
+    → d ≡ withLoads c (d .loads) → Renewed (count c) x t t′ → Sound d t′
 sound-renewed {c} {d} {x} {t} {t′} lies sound kept e r = go (eq-zero-or-pos x)
   where
     go : (x ≡ 0) ⊎ (0 < x) → Sound d t′
     go (inl z) =
         subst (λ (k : Course). Sound k t′) (sym e)
-        (subst (λ (p : List ℕ). Sound (with-loads c p) t′) (sym (kept z)) (subst (Sound c) (sym (r .kept z)) sound))
-    go (inr l) = subst (λ (k : Course). Sound k t′) (sym e) (empty-sound (with-loads c (d .loads)) (lies-with c (d .loads) lies) (r .empty (λ z. omega arith)))
+        (subst (λ (p : List ℕ). Sound (withLoads c p) t′) (sym (kept z)) (subst (Sound c) (sym (r .kept z)) sound))
+    go (inr l) = subst (λ (k : Course). Sound k t′) (sym e) (empty-sound (withLoads c (d .loads)) (lies-with c (d .loads) lies) (r .empty (λ z. omega arith)))

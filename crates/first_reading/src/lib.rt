@@ -18,8 +18,8 @@ ghost use Rattle.reading.specs.Items.{loadAtMost, paid, Zeros};
 ghost use Rattle.completion.specs.Completable.{at, count, lengthAt, Lies};
 ghost use Rattle.completion.specs.Better.{AtRest};
 ghost use Rattle.steps.specs.Steps.{Says};
-ghost use Rattle.search.specs.Search.{courseOf, Sound, Lent, Before};
-ghost use Rattle.merging.specs.Merging.{FoundIf};
+ghost use Rattle.search.specs.Search.{courseNow, courseAt, withLoads, Sound, Lent, Before};
+ghost use Rattle.merging.specs.Merging.{FindsIf};
 ghost use Rattle.first_reading.specs.First.{Least, restsOnly};
 ghost use Rattle.first_reading.specs.Choices.{Renewed, CanBeRead, GoesDaily, GoesWeekly, FirstWeekly, withEntry, FirstOf};
 ghost use Rattle.first_reading.specs.Choices.{Limited, Room, Fits, Carries, GoesWith, PutDaily, PutWeekly, Stepped};
@@ -62,10 +62,9 @@ fn daily_goes(
     j: usize,
     here: State,
 ) -> bool
-    requires { ⌜ (let c = courseOf (now starts) (now ends) (now nets) (now loads) s in
+    requires { ⌜ (let c = courseNow starts ends nets loads s in
         Lent c (now owed) × AtRest c j here × (leastNet Daily + at (now loads) j ≤ lengthAt c j) × Sound c (now nogoods)) ⌝ }
-    ensures { λ r. ⌜ (let c = courseOf (now (starts .entry)) (now (ends .entry)) (now (nets .entry)) (now (loads .entry)) s in
-        FoundIf (CanBeRead c j here (now (owed .entry))) (GoesDaily c j here (now (owed .entry))) r (now (owed .entry)) (now (owed .exit)) (Sound c (now (nogoods .exit)))
+    ensures { λ r. ⌜ (let c = courseAt starts ends nets loads s in FindsIf c (CanBeRead c j here (now (owed .entry))) (GoesDaily c j here (now (owed .entry))) r owed nogoods
         × (now (loads .exit) ≡ now (loads .entry))) ⌝ }
 {
     let short = steps::is_short(ends[j] - starts[j], nets[j], loads[j]);
@@ -104,10 +103,8 @@ fn carries(
     w: u32,
     x: usize,
 ) -> bool
-    requires { ⌜ (let c = courseOf (now starts) (now ends) (now nets) (now loads) s in
-        Limited c × (j < count c) × (weekStart w < at (now ends) j) × (x ≤ count c) × (0 < x → j + 1 < x)) ⌝ }
-    ensures { λ r. ⌜ (let c = courseOf (now (starts .entry)) (now (ends .entry)) (now (nets .entry)) (now (loads .entry)) s in
-        Says (Carries c j w x) r) ⌝ }
+    requires { ⌜ (let c = courseNow starts ends nets loads s in Limited c × (j < count c) × (weekStart w < at (now ends) j) × (x ≤ count c) × (0 < x → j + 1 < x)) ⌝ }
+    ensures { λ r. ⌜ (let c = courseAt starts ends nets loads s in Says (Carries c j w x) r) ⌝ }
 {
     let due = recording::WEEK_MINUTES * (w + reading::WEEKS_TO_COMPENSATE);
     let less = reduction(ends[j] - starts[j], loads[j]);
@@ -146,11 +143,9 @@ fn goes_with(
     next: State,
     x: usize,
 ) -> bool
-    requires { ⌜ (let c = courseOf (now starts) (now ends) (now nets) (now loads) s in
-        Lent c (now owed) × AtRest c j here × Before c (j + 1) next × (weekStart w < at (now ends) j)
+    requires { ⌜ (let c = courseNow starts ends nets loads s in Lent c (now owed) × AtRest c j here × Before c (j + 1) next × (weekStart w < at (now ends) j)
         × (x ≤ count c) × (0 < x → j + 1 < x) × Sound c (now nogoods)) ⌝ }
-    ensures { λ r. ⌜ (let c = courseOf (now (starts .entry)) (now (ends .entry)) (now (nets .entry)) (now (loads .entry)) s in
-        FoundIf (CanBeRead c j here (now (owed .entry))) (GoesWith c j w next (now (owed .entry)) x) r (now (owed .entry)) (now (owed .exit)) (Sound c (now (nogoods .exit)))
+    ensures { λ r. ⌜ (let c = courseAt starts ends nets loads s in FindsIf c (CanBeRead c j here (now (owed .entry))) (GoesWith c j w next (now (owed .entry)) x) r owed nogoods
         × (r ≡ true → Room c j x) × (now (loads .exit) ≡ now (loads .entry))) ⌝ }
 {
     if !carries(starts, ends, nets, loads, s, j, w, x) {
@@ -206,10 +201,9 @@ fn first_carrier(
     w: u32,
     next: State,
 ) -> usize
-    requires { ⌜ (let c = courseOf (now starts) (now ends) (now nets) (now loads) s in
+    requires { ⌜ (let c = courseNow starts ends nets loads s in
         Lent c (now owed) × AtRest c j here × Before c (j + 1) next × (weekStart w < at (now ends) j) × Sound c (now nogoods)) ⌝ }
-    ensures { λ r. ⌜ (let c = courseOf (now (starts .entry)) (now (ends .entry)) (now (nets .entry)) (now (loads .entry)) s in
-        FirstOf (CanBeRead c j here (now (owed .entry))) (GoesWith c j w next (now (owed .entry))) (Room c j) (count c) r
+    ensures { λ r. ⌜ (let c = courseAt starts ends nets loads s in FirstOf (CanBeRead c j here (now (owed .entry))) (GoesWith c j w next (now (owed .entry))) (Room c j) (count c) r
         × (now (owed .exit) ≡ now (owed .entry)) × (now (loads .exit) ≡ now (loads .entry)) × Sound c (now (nogoods .exit))) ⌝ }
 {
     let mut x = 0;
@@ -256,10 +250,9 @@ fn carrier_in(
     here: State,
     w: u32,
 ) -> usize
-    requires { ⌜ (let c = courseOf (now starts) (now ends) (now nets) (now loads) s in
-        Lent c (now owed) × AtRest c j here × (leastNet (Weekly Regular) + at (now loads) j ≤ lengthAt c j)
+    requires { ⌜ (let c = courseNow starts ends nets loads s in Lent c (now owed) × AtRest c j here × (leastNet (Weekly Regular) + at (now loads) j ≤ lengthAt c j)
         × (at (now starts) j < weekStart (w + 1)) × (weekStart w < at (now ends) j) × Sound c (now nogoods)) ⌝ }
-    ensures { λ r. ⌜ (let c = courseOf (now (starts .entry)) (now (ends .entry)) (now (nets .entry)) (now (loads .entry)) s in
+    ensures { λ r. ⌜ (let c = courseAt starts ends nets loads s in
         FirstOf (CanBeRead c j here (now (owed .entry))) (GoesWeekly c j here (now (owed .entry)) w) (Room c j) (count c) r
         × (now (owed .exit) ≡ now (owed .entry)) × (now (loads .exit) ≡ now (loads .entry)) × Sound c (now (nogoods .exit))) ⌝ }
 {
@@ -304,10 +297,9 @@ fn first_weekly(
     j: usize,
     here: State,
 ) -> Choice
-    requires { ⌜ (let c = courseOf (now starts) (now ends) (now nets) (now loads) s in
+    requires { ⌜ (let c = courseNow starts ends nets loads s in
         Lent c (now owed) × AtRest c j here × (leastNet (Weekly Regular) + at (now loads) j ≤ lengthAt c j) × Sound c (now nogoods)) ⌝ }
-    ensures { λ r. ⌜ (let c = courseOf (now (starts .entry)) (now (ends .entry)) (now (nets .entry)) (now (loads .entry)) s in
-        FirstWeekly c j here (now (owed .entry)) (r .week) (r .carrier)
+    ensures { λ r. ⌜ (let c = courseAt starts ends nets loads s in FirstWeekly c j here (now (owed .entry)) (r .week) (r .carrier)
         × (now (owed .exit) ≡ now (owed .entry)) × (now (loads .exit) ≡ now (loads .entry)) × Sound c (now (nogoods .exit))) ⌝ }
 {
     let end = ends[j];
@@ -379,10 +371,8 @@ fn put_daily(
     j: usize,
     here: State,
 ) -> State
-    requires { ⌜ (let c = courseOf (now starts) (now ends) (now nets) (now loads) s in
-        Limited c × AtRest c j here × (length (now reading) ≡ entryBytes * count c)) ⌝ }
-    ensures { λ r. ⌜ (let c = courseOf (now (starts .entry)) (now (ends .entry)) (now (nets .entry)) (now (loads .entry)) s in
-        PutDaily c j here (now (reading .entry)) (now (reading .exit)) r) ⌝ }
+    requires { ⌜ (let c = courseNow starts ends nets loads s in Limited c × AtRest c j here × (length (now reading) ≡ entryBytes * count c)) ⌝ }
+    ensures { λ r. ⌜ (let c = courseAt starts ends nets loads s in PutDaily c j here (now (reading .entry)) (now (reading .exit)) r) ⌝ }
 {
     put_entry(reading, j, DAILY_KIND, 0, 0);
     let short = steps::is_short(ends[j] - starts[j], nets[j], loads[j]);
@@ -406,10 +396,8 @@ fn put_weekly(
     w: u32,
     x: usize,
 ) -> State
-    requires { ⌜ (let c = courseOf (now starts) (now ends) (now nets) (now loads) s in
-        Limited c × AtRest c j here × (length (now reading) ≡ entryBytes * count c) × (x ≤ count c → Fits c j w x)) ⌝ }
-    ensures { λ r. ⌜ (let c = courseOf (now (starts .entry)) (now (ends .entry)) (now (nets .entry)) (now (loads .entry)) s in
-        let d = courseOf (now (starts .entry)) (now (ends .entry)) (now (nets .entry)) (now (loads .exit)) s in
+    requires { ⌜ (let c = courseNow starts ends nets loads s in Limited c × AtRest c j here × (length (now reading) ≡ entryBytes * count c) × (x ≤ count c → Fits c j w x)) ⌝ }
+    ensures { λ r. ⌜ (let c = courseAt starts ends nets loads s in let d = withLoads c (now (loads .exit)) in
         PutWeekly c d j here w x (now (reading .entry)) (now (reading .exit)) r) ⌝ }
 {
     if starts.len() < x {
@@ -453,10 +441,9 @@ fn place(
     j: usize,
     st: State,
 ) -> State
-    requires { ⌜ (let c = courseOf (now starts) (now ends) (now nets) (now loads) s in
+    requires { ⌜ (let c = courseNow starts ends nets loads s in
         Lent c (now owed) × Zeros (now owed) × Before c j st × (j < count c) × (length (now reading) ≡ entryBytes * count c) × Sound c (now nogoods)) ⌝ }
-    ensures { λ r. ⌜ (let c = courseOf (now (starts .entry)) (now (ends .entry)) (now (nets .entry)) (now (loads .entry)) s in
-        let d = courseOf (now (starts .entry)) (now (ends .entry)) (now (nets .entry)) (now (loads .exit)) s in
+    ensures { λ r. ⌜ (let c = courseAt starts ends nets loads s in let d = withLoads c (now (loads .exit)) in
         Stepped c d j st (now (owed .entry)) (now (owed .exit)) (now (nogoods .exit)) (now (reading .entry)) (now (reading .exit)) r) ⌝ }
 {
     let Brought::To(here) = steps::advance(starts, ends, j, st, starts[j] / recording::WEEK_MINUTES)
@@ -529,7 +516,7 @@ fn write_entries(
     beside: &mut [u32],
     reading: &mut [u8],
 )
-    requires { ⌜ (let c = courseOf (now starts) (now ends) (now nets) (now loads) s in
+    requires { ⌜ (let c = courseNow starts ends nets loads s in
         Lent c (now owed) × Zeros (now loads) × Zeros (now owed) × (length (now reading) ≡ entryBytes * count c) × Sound c (now nogoods)) ⌝ }
     ensures { λ r. ⌜ (let c = restsOnly (now (starts .entry)) (now (ends .entry)) (now (nets .entry)) s in
         (f : List ℕ) → Least c f → now (reading .exit) ≡ f) ⌝ }

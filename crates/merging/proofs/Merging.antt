@@ -18,7 +18,7 @@ use Rattle.completion.specs.States.{advance, After, afterDaily, afterWeekly}
 use Rattle.completion.specs.Completable.{Course, at, count, restWeek, lengthAt, debtOf, shortens, Pays, Reads, Tries, Completable, Lies}
 use Rattle.completion.specs.Better.{AtRest}
 use Rattle.fronts.specs.Front.{entryAt, stateIn, owedIn, AllBeaten}
-use Rattle.search.specs.Search.{courseOf, Later, Sound}
+use Rattle.search.specs.Search.{courseOf, withLoads, Later, Sound}
 use Rattle.search.specs.Leading.{Any, Front, Led}
 use Rattle.sweep.specs.Sweep.{Passed}
 use Rattle.merging.specs.Merging.{ToldIf, Beside, Trusted, Knows, Reached}
@@ -38,12 +38,8 @@ after-map P Q Broken f h = h
 after-map P Q (To st) f h = f st h
 
 module _ (c : Course) (loads : List ℕ) where
-  -- the same course with other loads
-  abbrev pub withLoads : Course
-  withLoads = record { starts = c .starts; ends = c .ends; nets = c .nets; loads = loads; judged = c .judged }
-
   module _ (K K′ : State → List ℕ → Type 0) (f : (st : State) (o : List ℕ) → K st o → K′ st o) where
-    reads-map : (j : ℕ) (here : State) (load : ℕ) (o : List ℕ) → Reads c K j here load o → Reads withLoads K′ j here load o
+    reads-map : (j : ℕ) (here : State) (load : ℕ) (o : List ℕ) → Reads c K j here load o → Reads (withLoads c loads) K′ j here load o
     reads-map j here load o (inl h) = inl (record { net = h .net; few = h .few; then = f (afterDaily (shortens c j load) here) o (h .then) })
     reads-map j here load o (inr h) =
         let w = h .week in
@@ -61,37 +57,37 @@ module _ (c : Course) (loads : List ℕ) where
 
   module _ (x : ℕ) (agree : (i : ℕ) → x ≤ i → at loads i ≡ at (c .loads) i) where
     tries-map : (K K′ : State → List ℕ → Type 0) → ((st : State) (o : List ℕ) → K st o → K′ st o)
-        → (j : ℕ) (here : State) (o : List ℕ) → x ≤ j → Tries c K j here o → Tries withLoads K′ j here o
+        → (j : ℕ) (here : State) (o : List ℕ) → x ≤ j → Tries c K j here o → Tries (withLoads c loads) K′ j here o
     tries-map K K′ f j here o l h =
-        subst (λ (v : ℕ). Pays (Reads withLoads K′ j here) (lengthAt c j) j 0 v o) (sym (agree j l))
-        (pays-map (Reads c K j here) (Reads withLoads K′ j here) (lengthAt c j) (reads-map K K′ f j here) j 0 (at (c .loads) j) o h)
+        subst (λ (v : ℕ). Pays (Reads (withLoads c loads) K′ j here) (lengthAt c j) j 0 v o) (sym (agree j l))
+        (pays-map (Reads c K j here) (Reads (withLoads c loads) K′ j here) (lengthAt c j) (reads-map K K′ f j here) j 0 (at (c .loads) j) o h)
 
-    completable-map : (n j : ℕ) (st : State) (o : List ℕ) → x ≤ j → Completable c n j st o → Completable withLoads n j st o
+    completable-map : (n j : ℕ) (st : State) (o : List ℕ) → x ≤ j → Completable c n j st o → Completable (withLoads c loads) n j st o
     unfolding Completable
     completable-map zero j st o l h = h
     completable-map (suc n) j st o l h = (
       h .0,
       h .1,
-      after-map (λ here. Tries c (Completable c n (suc j)) j here o) (λ here. Tries withLoads (Completable withLoads n (suc j)) j here o)
+      after-map (λ here. Tries c (Completable c n (suc j)) j here o) (λ here. Tries (withLoads c loads) (Completable (withLoads c loads) n (suc j)) j here o)
           (advance (restWeek c) (weekOf (at (c .starts) j) - st .week) st)
-          (λ here k. tries-map (Completable c n (suc j)) (Completable withLoads n (suc j)) (λ y p q. completable-map n (suc j) y p (omega arith) q) j here o l k) (h .2),
+          (λ here k. tries-map (Completable c n (suc j)) (Completable (withLoads c loads) n (suc j)) (λ y p q. completable-map n (suc j) y p (omega arith) q) j here o l k) (h .2),
     )
 
-    any-map : {i n : ℕ} {t : List ℕ} → x ≤ i → Any c i t n → Any withLoads i t n
+    any-map : {i n : ℕ} {t : List ℕ} → x ≤ i → Any c i t n → Any (withLoads c loads) i t n
     any-map {i} {n} {t} l a = record {
       entry = a .entry;
       below = a .below;
-      can = tries-map (Later c i) (Later withLoads i) (λ st o h. completable-map (count c - (i + 1)) (i + 1) st o (omega arith) h) i
+      can = tries-map (Later c i) (Later (withLoads c loads) i) (λ st o h. completable-map (count c - (i + 1)) (i + 1) st o (omega arith) h) i
           (stateIn t (entryAt (a .entry)) (weekOf (at (c .starts) i))) (owedIn t (entryAt (a .entry)) (count c)) l (a .can);
     }
 
-    pub trusted-map : {i g : ℕ} {t : List ℕ} → x ≤ i → Trusted c i t g → Trusted withLoads i t g
+    pub trusted-map : {i g : ℕ} {t : List ℕ} → x ≤ i → Trusted c i t g → Trusted (withLoads c loads) i t g
     trusted-map l h p = any-map l (h p)
 
-  rest-map : {j : ℕ} {here : State} → AtRest c j here → AtRest withLoads j here
+  rest-map : {j : ℕ} {here : State} → AtRest c j here → AtRest (withLoads c loads) j here
   rest-map h = record { within = h .within; small = h .small; week = h .week; ended = h .ended }
 
-  pub front-map : {i n : ℕ} {t : List ℕ} → Front c i t n → Front withLoads i t n
+  pub front-map : {i n : ℕ} {t : List ℕ} → Front c i t n → Front (withLoads c loads) i t n
   front-map {i} {n} {t} h = record {
     room = h .room;
     each = λ e l. let w = h .each e l in record { few = w .few; below = w .below; rest = rest-map (w .rest) };

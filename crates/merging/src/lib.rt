@@ -6,13 +6,12 @@ ghost use mathlib.Core.Path.{_≡_};
 ghost use mathlib.Core.Bool.{true};
 ghost use Prim.Native.Nat.{_+_, _-_, _*_, _<_, _≤_};
 ghost use lib.ListN.{length};
-ghost use Rattle.reading.specs.Items.{paid};
-ghost use Rattle.completion.specs.Completable.{count, Tries, Completable};
+ghost use Rattle.completion.specs.Completable.{count, Tries};
 ghost use Rattle.completion.specs.Better.{AtRest};
 ghost use Rattle.fronts.specs.Front.{entryAt, AllBeaten};
-ghost use Rattle.search.specs.Search.{courseOf, Later, Sound, Sized, Lent, Before};
+ghost use Rattle.search.specs.Search.{courseNow, courseAt, paying, Later, Sound, Sized, Lent, Before};
 ghost use Rattle.search.specs.Leading.{Any, Front};
-ghost use Rattle.merging.specs.Merging.{FoundIf, ToldIf, Trusted, Besides, Knows, Reached};
+ghost use Rattle.merging.specs.Merging.{FindsIf, ToldIf, Trusted, Besides, Knows, Reaches};
 
 // Whether a question was answered yes; how many states its next front has; and how many the known one has, 0 where nothing is known of that.
 pub struct Both {
@@ -49,10 +48,8 @@ fn beside_rest(
     f: usize,
     g: usize,
 ) -> Both
-    requires { ⌜ (let c = courseOf (now starts) (now ends) (now nets) (now loads) s in
-        Sized c (now owed) × Sound c (now nogoods) × (j < count c) × Front c j (now front) f × Front c j (now known) g) ⌝ }
-    ensures { λ r. ⌜ (let c = courseOf (now (starts .entry)) (now (ends .entry)) (now (nets .entry)) (now (loads .entry)) s in
-        Besides c j (now (front .entry)) f (now (known .entry)) g (j + 1) (now (next .exit)) (now (beside .exit)) (now (nogoods .exit)) r) ⌝ }
+    requires { ⌜ (let c = courseNow starts ends nets loads s in Sized c (now owed) × Sound c (now nogoods) × (j < count c) × Front c j (now front) f × Front c j (now known) g) ⌝ }
+    ensures { λ r. ⌜ (let c = courseAt starts ends nets loads s in Besides c j front f known g (j + 1) next beside nogoods r) ⌝ }
 {
     let went = sweep::sweep_rest(
         starts,
@@ -139,10 +136,8 @@ fn beside_two(
     f: usize,
     g: usize,
 ) -> Both
-    requires { ⌜ (let c = courseOf (now starts) (now ends) (now nets) (now loads) s in
-        Sized c (now owed) × Sound c (now nogoods) × (j < count c) × Front c j (now front) f × Front c j (now known) g) ⌝ }
-    ensures { λ r. ⌜ (let c = courseOf (now (starts .entry)) (now (ends .entry)) (now (nets .entry)) (now (loads .entry)) s in
-        Besides c j (now (front .entry)) f (now (known .entry)) g (j + 2) (now (front .exit)) (now (known .exit)) (now (nogoods .exit)) r) ⌝ }
+    requires { ⌜ (let c = courseNow starts ends nets loads s in Sized c (now owed) × Sound c (now nogoods) × (j < count c) × Front c j (now front) f × Front c j (now known) g) ⌝ }
+    ensures { λ r. ⌜ (let c = courseAt starts ends nets loads s in Besides c j front f known g (j + 2) front known nogoods r) ⌝ }
 {
     let there = beside_rest(
         starts,
@@ -225,9 +220,9 @@ fn merge_on(
     f: usize,
     g: usize,
 ) -> bool
-    requires { ⌜ (let c = courseOf (now starts) (now ends) (now nets) (now loads) s in
+    requires { ⌜ (let c = courseNow starts ends nets loads s in
         Sized c (now owed) × Sound c (now nogoods) × (j ≤ count c + 1) × Front c j (now front) f × Front c j (now known) g) ⌝ }
-    ensures { λ r. ⌜ (let c = courseOf (now (starts .entry)) (now (ends .entry)) (now (nets .entry)) (now (loads .entry)) s in
+    ensures { λ r. ⌜ (let c = courseAt starts ends nets loads s in
         ToldIf (Trusted c j (now (known .entry)) g) (Any c j (now (front .entry)) f) r (Sound c (now (nogoods .exit)))) ⌝ }
 {
     if all_matched(known, g, front, f) {
@@ -296,11 +291,8 @@ fn ask_to(
     st: State,
     p: usize,
 ) -> Went
-    requires { ⌜ (let c = courseOf (now starts) (now ends) (now nets) (now loads) s in
-        Lent c (now owed) × Sized c (now slots) × Sound c (now nogoods) × Before c j st × (j + 2 * p ≤ count c + 1)) ⌝ }
-    ensures { λ r. ⌜ (let c = courseOf (now (starts .entry)) (now (ends .entry)) (now (nets .entry)) (now (loads .entry)) s in
-        Reached (Completable c (count c - j) j st (now (owed .entry))) (Any c (j + 2 * p) (now (front .exit)) (r .n)) (r .yes)
-        (now (owed .entry)) (now (owed .exit)) (Sound c (now (nogoods .exit))) (Front c (j + 2 * p) (now (front .exit)) (r .n))) ⌝ }
+    requires { ⌜ (let c = courseNow starts ends nets loads s in Lent c (now owed) × Sized c (now slots) × Sound c (now nogoods) × Before c j st × (j + 2 * p ≤ count c + 1)) ⌝ }
+    ensures { λ r. ⌜ (let c = courseAt starts ends nets loads s in Reaches c c j st (j + 2 * p) front owed nogoods r) ⌝ }
 {
     let went = search::step(
         starts,
@@ -352,10 +344,9 @@ fn known_to(
     here: State,
     p: usize,
 ) -> usize
-    requires { ⌜ (let c = courseOf (now starts) (now ends) (now nets) (now loads) s in
+    requires { ⌜ (let c = courseNow starts ends nets loads s in
         Lent c (now owed) × Sized c (now slots) × Sound c (now nogoods) × AtRest c j here × (j + 1 + 2 * p ≤ count c + 1)) ⌝ }
-    ensures { λ r. ⌜ (let c = courseOf (now (starts .entry)) (now (ends .entry)) (now (nets .entry)) (now (loads .entry)) s in
-        Knows (Tries c (Later c j) j here (now (owed .entry))) (Trusted c (j + 1 + 2 * p) (now (known .exit)) r)
+    ensures { λ r. ⌜ (let c = courseAt starts ends nets loads s in Knows (Tries c (Later c j) j here (now (owed .entry))) (Trusted c (j + 1 + 2 * p) (now (known .exit)) r)
         (now (owed .entry)) (now (owed .exit)) (Sound c (now (nogoods .exit))) (Front c (j + 1 + 2 * p) (now (known .exit)) r)) ⌝ }
 {
     let first = search::place(
@@ -439,13 +430,10 @@ fn try_to(
     x: usize,
     less: u32,
 ) -> Went
-    requires { ⌜ (let c = courseOf (now starts) (now ends) (now nets) (now loads) s in
-        let d = courseOf (now starts) (now ends) (now nets) (paid (now loads) x less) s in
+    requires { ⌜ (let c = courseNow starts ends nets loads s in let d = paying c x less in
         Sized c (now slots) × Lent d (now owed) × Sized d (now slots) × Sound c (now nogoods) × Before d j st × (j + 2 * p ≤ count c + 1) × (x ≤ count c)) ⌝ }
-    ensures { λ r. ⌜ (let c = courseOf (now (starts .entry)) (now (ends .entry)) (now (nets .entry)) (now (loads .entry)) s in
-        let d = courseOf (now (starts .entry)) (now (ends .entry)) (now (nets .entry)) (paid (now (loads .entry)) x less) s in
-        Reached (Completable d (count d - j) j st (now (owed .entry))) (Any d (j + 2 * p) (now (front .exit)) (r .n)) (r .yes)
-        (now (owed .entry)) (now (owed .exit)) (Sound c (now (nogoods .exit))) (Front d (j + 2 * p) (now (front .exit)) (r .n))
+    ensures { λ r. ⌜ (let c = courseAt starts ends nets loads s in let d = paying c x less in
+        Reaches c d j st (j + 2 * p) front owed nogoods r
         × (now (loads .exit) ≡ now (loads .entry))) ⌝ }
 {
     if x == 0 {
@@ -508,11 +496,9 @@ fn try_on(
     x: usize,
     less: u32,
 ) -> bool
-    requires { ⌜ (let c = courseOf (now starts) (now ends) (now nets) (now loads) s in
-        let d = courseOf (now starts) (now ends) (now nets) (paid (now loads) x less) s in
+    requires { ⌜ (let c = courseNow starts ends nets loads s in let d = paying c x less in
         Sized c (now slots) × Sized d (now slots) × Sound c (now nogoods) × (j ≤ count c + 1) × (x ≤ count c) × Front d j (now front) f × Front d j (now known) g) ⌝ }
-    ensures { λ r. ⌜ (let c = courseOf (now (starts .entry)) (now (ends .entry)) (now (nets .entry)) (now (loads .entry)) s in
-        let d = courseOf (now (starts .entry)) (now (ends .entry)) (now (nets .entry)) (paid (now (loads .entry)) x less) s in
+    ensures { λ r. ⌜ (let c = courseAt starts ends nets loads s in let d = paying c x less in
         ToldIf (Trusted d j (now (known .entry)) g) (Any d j (now (front .entry)) f) r (Sound c (now (nogoods .exit)))
         × (now (loads .exit) ≡ now (loads .entry))) ⌝ }
 {
@@ -579,13 +565,10 @@ fn asks_beside(
     x: usize,
     less: u32,
 ) -> bool
-    requires { ⌜ (let c = courseOf (now starts) (now ends) (now nets) (now loads) s in
-        let d = courseOf (now starts) (now ends) (now nets) (paid (now loads) x less) s in
+    requires { ⌜ (let c = courseNow starts ends nets loads s in let d = paying c x less in
         Lent c (now owed) × Lent d (now owed) × Sized c (now slots) × Sized d (now slots) × AtRest c j here × Before d (j + 1) next × (x ≤ count c) × Sound c (now nogoods)) ⌝ }
-    ensures { λ r. ⌜ (let c = courseOf (now (starts .entry)) (now (ends .entry)) (now (nets .entry)) (now (loads .entry)) s in
-        let d = courseOf (now (starts .entry)) (now (ends .entry)) (now (nets .entry)) (paid (now (loads .entry)) x less) s in
-        FoundIf (Tries c (Later c j) j here (now (owed .entry))) (Later d j next (now (owed .entry))) r
-        (now (owed .entry)) (now (owed .exit)) (Sound c (now (nogoods .exit)))
+    ensures { λ r. ⌜ (let c = courseAt starts ends nets loads s in let d = paying c x less in
+        FindsIf c (Tries c (Later c j) j here (now (owed .entry))) (Later d j next (now (owed .entry))) r owed nogoods
         × (now (loads .exit) ≡ now (loads .entry))) ⌝ }
 {
     let p = pairs_to(j, x);
@@ -668,13 +651,10 @@ pub fn completes_beside(
     x: usize,
     less: u32,
 ) -> bool
-    requires { ⌜ (let c = courseOf (now starts) (now ends) (now nets) (now loads) s in
-        let d = courseOf (now starts) (now ends) (now nets) (paid (now loads) x less) s in
+    requires { ⌜ (let c = courseNow starts ends nets loads s in let d = paying c x less in
         Lent c (now owed) × Lent d (now owed) × AtRest c j here × Before d (j + 1) next × (x ≤ count c) × Sound c (now nogoods)) ⌝ }
-    ensures { λ r. ⌜ (let c = courseOf (now (starts .entry)) (now (ends .entry)) (now (nets .entry)) (now (loads .entry)) s in
-        let d = courseOf (now (starts .entry)) (now (ends .entry)) (now (nets .entry)) (paid (now (loads .entry)) x less) s in
-        FoundIf (Tries c (Later c j) j here (now (owed .entry))) (Later d j next (now (owed .entry))) r
-        (now (owed .entry)) (now (owed .exit)) (Sound c (now (nogoods .exit)))
+    ensures { λ r. ⌜ (let c = courseAt starts ends nets loads s in let d = paying c x less in
+        FindsIf c (Tries c (Later c j) j here (now (owed .entry))) (Later d j next (now (owed .entry))) r owed nogoods
         × (now (loads .exit) ≡ now (loads .entry))) ⌝ }
 {
     let k = starts.len();

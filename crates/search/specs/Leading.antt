@@ -6,6 +6,7 @@ use mathlib.Core.Bool.{Bool, true, false}
 use mathlib.Core.List.{List}
 use Prim.Native.Nat.{ℕ, _+_, _≤_, _<_}
 use lib.ListN.{length}
+use denote.Ref.{now}
 use Rattle.recording.specs.Weeks.{weekOf}
 use Rattle.rules.specs.ReadingRules.{leastNet}
 use Rattle.rules.specs.declared.Kind.{Kind}
@@ -17,7 +18,7 @@ use Rattle.completion.specs.Better.{AtRest}
 use Rattle.steps.specs.Steps.{standingFor}
 use Rattle.nogoods.specs.Table.{debtsAtMost, debtsOf}
 use Rattle.fronts.specs.Front.{entryAt, stateIn, owedIn}
-use Rattle.search.specs.Search.{Later, Sound, Slots}
+use Rattle.search.specs.Search.{Loan, Later, Sound, Slots}
 use Rattle.search.specs.declared.Went.{Went}
 
 module _ (c : Course) (j : ℕ) where
@@ -60,9 +61,14 @@ pub record Led (P A A′ : Type 0) (r : Bool) (owed owed′ : List ℕ) (S W : T
   pub well : W
 
 -- the same of the front before the rest of index i, with n states before
-abbrev pub Leads : Course → (List ℕ → Type 0) → ℕ → ℕ → List ℕ → List ℕ → List ℕ → List ℕ → List ℕ → Went → Type 0
-Leads c P i n front front′ owed owed′ nogoods′ r =
-    Led (P owed) (Any c i front n) (Any c i front′ (r .n)) (r .yes) owed owed′ (Sound c nogoods′) (Front c i front′ (r .n))
+abbrev pub Leads : Course → (List ℕ → Type 0) → ℕ → ℕ → Loan → Loan → Loan → Went → Type 0
+Leads c P i n front owed nogoods r =
+    Led (P (now (owed .entry))) (Any c i (now (front .entry)) n) (Any c i (now (front .exit)) (r .n)) (r .yes) (now (owed .entry)) (now (owed .exit))
+    (Sound c (now (nogoods .exit))) (Front c i (now (front .exit)) (r .n))
+
+-- a slice of which only what it is left with matters
+abbrev pub left : Loan → Loan
+left slice = record { entry = slice .exit; exit = slice .exit }
 
 -- a rest of index j is read as of a kind
 abbrev pub ReadAs : (c : Course) → (State → List ℕ → Type 0) → ℕ → State → ℕ → Kind → List ℕ → Type 0

@@ -5,9 +5,12 @@ use mathlib.Core.Bool.{Bool, true, false}
 use mathlib.Core.List.{List}
 use Prim.Native.Nat.{ℕ, _+_, _-_, _≤_, _<_}
 use lib.ListN.{length}
+use denote.Ref.{RefT, now}
+use denote.Triple.Both.{Both}
 use Rattle.recording.specs.Rests.{longRestsAtMost}
 use Rattle.recording.specs.Operations.{totalAtMost}
 use Rattle.recording.specs.Weeks.{weekOf}
+use Rattle.reading.specs.Items.{paid}
 use Rattle.completion.specs.declared.State.{State}
 use Rattle.completion.specs.Completable.{Course, at, count, Tries, Completable, Lies, Stands}
 use Rattle.completion.specs.Better.{Small}
@@ -20,8 +23,30 @@ pub record Found (P : Type 0) (r : Bool) (owed owed′ : List ℕ) (S : Type 0) 
   pub same : owed′ ≡ owed
   pub sound : S
 
+-- ---- what a function is lent
+-- a slice, as it is passed; and the same at the function's entry and exit
+abbrev pub Slice : Type 0
+Slice = RefT (List ℕ)
+
+abbrev pub Loan : Type 0
+Loan = Both Slice Slice
+
+-- the long rests with their loads, where the judged end is s
 abbrev pub courseOf : List ℕ → List ℕ → List ℕ → List ℕ → ℕ → Course
 courseOf starts ends nets loads s = record { starts = starts; ends = ends; nets = nets; loads = loads; judged = s }
+
+abbrev pub courseNow : Slice → Slice → Slice → Slice → ℕ → Course
+courseNow starts ends nets loads s = courseOf (now starts) (now ends) (now nets) (now loads) s
+
+abbrev pub courseAt : Loan → Loan → Loan → Loan → ℕ → Course
+courseAt starts ends nets loads s = courseNow (starts .entry) (ends .entry) (nets .entry) (loads .entry) s
+
+-- the same with other loads; and where the rest of number x has some minutes more load
+abbrev pub withLoads : Course → List ℕ → Course
+withLoads c loads = record { starts = c .starts; ends = c .ends; nets = c .nets; loads = loads; judged = c .judged }
+
+abbrev pub paying : Course → ℕ → ℕ → Course
+paying c x less = withLoads c (paid (c .loads) x less)
 
 module _ (c : Course) where
   -- what is asked of the rests after that of index j
@@ -60,3 +85,7 @@ module _ (c : Course) where
     pub small : Small st
     pub ended : st .ended ≤ c .judged
     pub reached : 0 < j → weekOf (at (c .starts) (j - 1)) ≤ st .week
+
+-- r says whether P holds, where the debts and the nogoods are lent
+abbrev pub Finds : Course → Type 0 → Bool → Loan → Loan → Type 0
+Finds c P r owed nogoods = Found P r (now (owed .entry)) (now (owed .exit)) (Sound c (now (nogoods .exit)))

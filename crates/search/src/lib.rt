@@ -18,7 +18,7 @@ ghost use Rattle.reading.specs.Items.{loadAtMost};
 ghost use Rattle.completion.specs.Completable.{at, count, lengthAt, Pays, Closes, ReadDaily, ReadWeekly, Counted, Reads, Tries, Completable};
 ghost use Rattle.completion.specs.Better.{AtRest};
 ghost use Rattle.steps.specs.Steps.{Says, standingFor, debtBy};
-ghost use Rattle.search.specs.Search.{courseOf, Later, Slots, Before};
+ghost use Rattle.search.specs.Search.{courseNow, courseAt, Later, Slots, Before};
 ghost use Rattle.search.specs.Leading.{Given, Leads, ReadAs, TakenAs};
 
 // Whether a question was answered yes; and how many states the next front has.
@@ -38,10 +38,8 @@ fn closes(
     st: State,
     n: usize,
 ) -> bool
-    requires { ⌜ (let c = courseOf (now starts) (now ends) (now nets) (now loads) s in
-        Slots c (count c) n (now owed) × Before c (count c) st) ⌝ }
-    ensures { λ r. ⌜ (let c = courseOf (now (starts .entry)) (now (ends .entry)) (now (nets .entry)) (now (loads .entry)) s in
-        Says (Closes c st (now (owed .entry))) r) ⌝ }
+    requires { ⌜ (let c = courseNow starts ends nets loads s in Slots c (count c) n (now owed) × Before c (count c) st) ⌝ }
+    ensures { λ r. ⌜ (let c = courseAt starts ends nets loads s in Says (Closes c st (now (owed .entry))) r) ⌝ }
 {
     if st.ended + reading::WEEKLY_GAP < s {
         return false;
@@ -72,10 +70,8 @@ pub fn place(
     m: usize,
     n: usize,
 ) -> Went
-    requires { ⌜ (let c = courseOf (now starts) (now ends) (now nets) (now loads) s in
-        Given c j m (now owed) (now nogoods) j (now next) n × AtRest c j here) ⌝ }
-    ensures { λ r. ⌜ (let c = courseOf (now (starts .entry)) (now (ends .entry)) (now (nets .entry)) (now (loads .entry)) s in
-        Leads c (λ o. Tries c (Later c j) j here o) j n (now (next .entry)) (now (next .exit)) (now (owed .entry)) (now (owed .exit)) (now (nogoods .exit)) r) ⌝ }
+    requires { ⌜ (let c = courseNow starts ends nets loads s in Given c j m (now owed) (now nogoods) j (now next) n × AtRest c j here) ⌝ }
+    ensures { λ r. ⌜ (let c = courseAt starts ends nets loads s in Leads c (λ o. Tries c (Later c j) j here o) j n next owed nogoods r) ⌝ }
 {
     let put = fronts::put(next, n, owed, m, here);
     let n = put.n;
@@ -124,10 +120,8 @@ pub fn step(
     m: usize,
     n: usize,
 ) -> Went
-    requires { ⌜ (let c = courseOf (now starts) (now ends) (now nets) (now loads) s in
-        Given c j m (now owed) (now nogoods) j (now next) n × Before c j st) ⌝ }
-    ensures { λ r. ⌜ (let c = courseOf (now (starts .entry)) (now (ends .entry)) (now (nets .entry)) (now (loads .entry)) s in
-        Leads c (λ o. Completable c (count c - j) j st o) j n (now (next .entry)) (now (next .exit)) (now (owed .entry)) (now (owed .exit)) (now (nogoods .exit)) r) ⌝ }
+    requires { ⌜ (let c = courseNow starts ends nets loads s in Given c j m (now owed) (now nogoods) j (now next) n × Before c j st) ⌝ }
+    ensures { λ r. ⌜ (let c = courseAt starts ends nets loads s in Leads c (λ o. Completable c (count c - j) j st o) j n next owed nogoods r) ⌝ }
 {
     if j == starts.len() {
         let yes = closes(starts, ends, nets, loads, s, owed, st, m);
@@ -175,10 +169,9 @@ fn daily(
     m: usize,
     n: usize,
 ) -> Went
-    requires { ⌜ (let c = courseOf (now starts) (now ends) (now nets) (now loads) s in
+    requires { ⌜ (let c = courseNow starts ends nets loads s in
         Given c j m (now owed) (now nogoods) (j + 1) (now next) n × AtRest c j here × (leastNet Daily + load ≤ lengthAt c j)) ⌝ }
-    ensures { λ r. ⌜ (let c = courseOf (now (starts .entry)) (now (ends .entry)) (now (nets .entry)) (now (loads .entry)) s in
-        Leads c (λ o. ReadDaily c (Later c j) j here load o) (j + 1) n (now (next .entry)) (now (next .exit)) (now (owed .entry)) (now (owed .exit)) (now (nogoods .exit)) r) ⌝ }
+    ensures { λ r. ⌜ (let c = courseAt starts ends nets loads s in Leads c (λ o. ReadDaily c (Later c j) j here load o) (j + 1) n next owed nogoods r) ⌝ }
 {
     let short = steps::is_short(ends[j] - starts[j], nets[j], load);
     let after = steps::after_daily(here, short);
@@ -218,10 +211,9 @@ fn count_in(
     m: usize,
     n: usize,
 ) -> Went
-    requires { ⌜ (let c = courseOf (now starts) (now ends) (now nets) (now loads) s in
+    requires { ⌜ (let c = courseNow starts ends nets loads s in
         Given c j m (now owed) (now nogoods) (j + 1) (now next) n × (j < count c) × Before c (j + 1) after × (reductionOf (Weekly standing) ≤ loadAtMost) × (w < 255)) ⌝ }
-    ensures { λ r. ⌜ (let c = courseOf (now (starts .entry)) (now (ends .entry)) (now (nets .entry)) (now (loads .entry)) s in
-        Leads c (λ o. Later c j after (set o j (debtBy standing w))) (j + 1) n (now (next .entry)) (now (next .exit)) (now (owed .entry)) (now (owed .exit)) (now (nogoods .exit)) r) ⌝ }
+    ensures { λ r. ⌜ (let c = courseAt starts ends nets loads s in Leads c (λ o. Later c j after (set o j (debtBy standing w))) (j + 1) n next owed nogoods r) ⌝ }
 {
     let debt = owed[m];
     owed[m] = steps::outstanding(steps::debt_of(standing, w), s);
@@ -261,12 +253,10 @@ fn in_week(
     m: usize,
     n: usize,
 ) -> Went
-    requires { ⌜ (let c = courseOf (now starts) (now ends) (now nets) (now loads) s in
-        Given c j m (now owed) (now nogoods) (j + 1) (now next) n × AtRest c j here
+    requires { ⌜ (let c = courseNow starts ends nets loads s in Given c j m (now owed) (now nogoods) (j + 1) (now next) n × AtRest c j here
         × (standing ≡ standingFor (lengthAt c j) load) × (leastNet (Weekly Regular) + load ≤ lengthAt c j)
         × (at (now starts) j < weekStart (w + 1)) × (weekStart w < at (now ends) j)) ⌝ }
-    ensures { λ r. ⌜ (let c = courseOf (now (starts .entry)) (now (ends .entry)) (now (nets .entry)) (now (loads .entry)) s in
-        Leads c (λ o. Counted c (Later c j) j here w load o) (j + 1) n (now (next .entry)) (now (next .exit)) (now (owed .entry)) (now (owed .exit)) (now (nogoods .exit)) r) ⌝ }
+    ensures { λ r. ⌜ (let c = courseAt starts ends nets loads s in Leads c (λ o. Counted c (Later c j) j here w load o) (j + 1) n next owed nogoods r) ⌝ }
 {
     let Brought::To(there) = steps::advance(starts, ends, j + 1, here, w) else {
         return Went { yes: false, n: n };
@@ -308,11 +298,9 @@ fn weekly(
     m: usize,
     n: usize,
 ) -> Went
-    requires { ⌜ (let c = courseOf (now starts) (now ends) (now nets) (now loads) s in
-        Given c j m (now owed) (now nogoods) (j + 1) (now next) n × AtRest c j here
+    requires { ⌜ (let c = courseNow starts ends nets loads s in Given c j m (now owed) (now nogoods) (j + 1) (now next) n × AtRest c j here
         × (standing ≡ standingFor (lengthAt c j) load) × (leastNet (Weekly Regular) + load ≤ lengthAt c j)) ⌝ }
-    ensures { λ r. ⌜ (let c = courseOf (now (starts .entry)) (now (ends .entry)) (now (nets .entry)) (now (loads .entry)) s in
-        Leads c (λ o. ReadWeekly c (Later c j) j here load o) (j + 1) n (now (next .entry)) (now (next .exit)) (now (owed .entry)) (now (owed .exit)) (now (nogoods .exit)) r) ⌝ }
+    ensures { λ r. ⌜ (let c = courseAt starts ends nets loads s in Leads c (λ o. ReadWeekly c (Later c j) j here load o) (j + 1) n next owed nogoods r) ⌝ }
 {
     let end = ends[j];
     let mut w = starts[j] / recording::WEEK_MINUTES;
@@ -364,10 +352,8 @@ fn read_as(
     m: usize,
     n: usize,
 ) -> Went
-    requires { ⌜ (let c = courseOf (now starts) (now ends) (now nets) (now loads) s in
-        Given c j m (now owed) (now nogoods) (j + 1) (now next) n × AtRest c j here × TakenAs c j load (rest .kind)) ⌝ }
-    ensures { λ r. ⌜ (let c = courseOf (now (starts .entry)) (now (ends .entry)) (now (nets .entry)) (now (loads .entry)) s in
-        Leads c (λ o. ReadAs c (Later c j) j here load (rest .kind) o) (j + 1) n (now (next .entry)) (now (next .exit)) (now (owed .entry)) (now (owed .exit)) (now (nogoods .exit)) r) ⌝ }
+    requires { ⌜ (let c = courseNow starts ends nets loads s in Given c j m (now owed) (now nogoods) (j + 1) (now next) n × AtRest c j here × TakenAs c j load (rest .kind)) ⌝ }
+    ensures { λ r. ⌜ (let c = courseAt starts ends nets loads s in Leads c (λ o. ReadAs c (Later c j) j here load (rest .kind) o) (j + 1) n next owed nogoods r) ⌝ }
 {
     let kind = rest.kind;
     match kind {
@@ -421,10 +407,8 @@ fn choose(
     m: usize,
     n: usize,
 ) -> Went
-    requires { ⌜ (let c = courseOf (now starts) (now ends) (now nets) (now loads) s in
-        Given c j m (now owed) (now nogoods) (j + 1) (now next) n × AtRest c j here × (load ≤ totalAtMost)) ⌝ }
-    ensures { λ r. ⌜ (let c = courseOf (now (starts .entry)) (now (ends .entry)) (now (nets .entry)) (now (loads .entry)) s in
-        Leads c (λ o. Reads c (Later c j) j here load o) (j + 1) n (now (next .entry)) (now (next .exit)) (now (owed .entry)) (now (owed .exit)) (now (nogoods .exit)) r) ⌝ }
+    requires { ⌜ (let c = courseNow starts ends nets loads s in Given c j m (now owed) (now nogoods) (j + 1) (now next) n × AtRest c j here × (load ≤ totalAtMost)) ⌝ }
+    ensures { λ r. ⌜ (let c = courseAt starts ends nets loads s in Leads c (λ o. Reads c (Later c j) j here load o) (j + 1) n next owed nogoods r) ⌝ }
 {
     let start = starts[j];
     let end = ends[j];
@@ -508,11 +492,9 @@ pub fn pay(
     m: usize,
     n: usize,
 ) -> Went
-    requires { ⌜ (let c = courseOf (now starts) (now ends) (now nets) (now loads) s in
-        Given c j m (now owed) (now nogoods) (j + 1) (now next) n × AtRest c j here × (i ≤ m) × (load ≤ totalAtMost)) ⌝ }
-    ensures { λ r. ⌜ (let c = courseOf (now (starts .entry)) (now (ends .entry)) (now (nets .entry)) (now (loads .entry)) s in
-        Leads c (λ o. Pays (Reads c (Later c j) j here) (lengthAt c j) (j - i) i load o) (j + 1) n
-        (now (next .entry)) (now (next .exit)) (now (owed .entry)) (now (owed .exit)) (now (nogoods .exit)) r) ⌝ }
+    requires { ⌜ (let c = courseNow starts ends nets loads s in Given c j m (now owed) (now nogoods) (j + 1) (now next) n × AtRest c j here × (i ≤ m) × (load ≤ totalAtMost)) ⌝ }
+    ensures { λ r. ⌜ (let c = courseAt starts ends nets loads s in Leads c (λ o. Pays (Reads c (Later c j) j here) (lengthAt c j) (j - i) i load o) (j + 1) n
+        next owed nogoods r) ⌝ }
 {
     let d = steps::debtor(owed, m, i, load, ends[j] - starts[j]);
     if d == m {

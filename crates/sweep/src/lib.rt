@@ -8,8 +8,8 @@ ghost use lib.ListN.{length};
 ghost use Rattle.completion.specs.States.{startState};
 ghost use Rattle.completion.specs.Completable.{count, restWeek, Completable};
 ghost use Rattle.fronts.specs.Front.{entryAt};
-ghost use Rattle.search.specs.Search.{courseOf, Found, Sound, Sized, Slots, Lent, Before};
-ghost use Rattle.search.specs.Leading.{Can, Any, Well, Front, Leads};
+ghost use Rattle.search.specs.Search.{courseNow, courseAt, Finds, Sound, Sized, Slots, Lent, Before};
+ghost use Rattle.search.specs.Leading.{Can, Any, Well, Front, Leads, left};
 ghost use Rattle.sweep.specs.Sweep.{Passes, Told};
 
 // What a sweep answers: yes or no; and where it is no, the rest near which no state was left. Nothing is promised of that place.
@@ -33,11 +33,9 @@ fn visit(
     e: usize,
     n: usize,
 ) -> Went
-    requires { ⌜ (let c = courseOf (now starts) (now ends) (now nets) (now loads) s in
-        Sized c (now owed) × Sound c (now nogoods) × (j < count c) × (entryAt (e + 1) ≤ length (now front))
+    requires { ⌜ (let c = courseNow starts ends nets loads s in Sized c (now owed) × Sound c (now nogoods) × (j < count c) × (entryAt (e + 1) ≤ length (now front))
         × Well c j (now front) (entryAt e) × Front c (j + 1) (now next) n) ⌝ }
-    ensures { λ r. ⌜ (let c = courseOf (now (starts .entry)) (now (ends .entry)) (now (nets .entry)) (now (loads .entry)) s in
-        Leads c (λ o. Can c j (now (front .entry)) (entryAt e)) (j + 1) n (now (next .entry)) (now (next .exit)) (now (owed .exit)) (now (owed .exit)) (now (nogoods .exit)) r) ⌝ }
+    ensures { λ r. ⌜ (let c = courseAt starts ends nets loads s in Leads c (λ o. Can c j (now (front .entry)) (entryAt e)) (j + 1) n next (left owed) nogoods r) ⌝ }
 {
     let p = nogoods::ENTRY_WORDS * e;
     fronts::owed_in(front, p, owed);
@@ -75,10 +73,8 @@ pub fn sweep_rest(
     j: usize,
     f: usize,
 ) -> Went
-    requires { ⌜ (let c = courseOf (now starts) (now ends) (now nets) (now loads) s in
-        Sized c (now owed) × Sound c (now nogoods) × (j < count c) × Front c j (now front) f) ⌝ }
-    ensures { λ r. ⌜ (let c = courseOf (now (starts .entry)) (now (ends .entry)) (now (nets .entry)) (now (loads .entry)) s in
-        Passes c j (now (front .entry)) f (j + 1) (now (next .exit)) (now (nogoods .exit)) r) ⌝ }
+    requires { ⌜ (let c = courseNow starts ends nets loads s in Sized c (now owed) × Sound c (now nogoods) × (j < count c) × Front c j (now front) f) ⌝ }
+    ensures { λ r. ⌜ (let c = courseAt starts ends nets loads s in Passes c j front f (j + 1) next nogoods r) ⌝ }
 {
     let mut n = 0;
     let mut e = 0;
@@ -120,10 +116,8 @@ fn sweep_two(
     j: usize,
     f: usize,
 ) -> Went
-    requires { ⌜ (let c = courseOf (now starts) (now ends) (now nets) (now loads) s in
-        Sized c (now owed) × Sound c (now nogoods) × (j < count c) × Front c j (now front) f) ⌝ }
-    ensures { λ r. ⌜ (let c = courseOf (now (starts .entry)) (now (ends .entry)) (now (nets .entry)) (now (loads .entry)) s in
-        Passes c j (now (front .entry)) f (j + 2) (now (front .exit)) (now (nogoods .exit)) r) ⌝ }
+    requires { ⌜ (let c = courseNow starts ends nets loads s in Sized c (now owed) × Sound c (now nogoods) × (j < count c) × Front c j (now front) f) ⌝ }
+    ensures { λ r. ⌜ (let c = courseAt starts ends nets loads s in Passes c j front f (j + 2) front nogoods r) ⌝ }
 {
     let there = sweep_rest(
         starts,
@@ -173,10 +167,8 @@ pub fn sweep_on(
     j: usize,
     f: usize,
 ) -> Swept
-    requires { ⌜ (let c = courseOf (now starts) (now ends) (now nets) (now loads) s in
-        Sized c (now owed) × Sound c (now nogoods) × (j ≤ count c + 1) × Front c j (now front) f) ⌝ }
-    ensures { λ r. ⌜ (let c = courseOf (now (starts .entry)) (now (ends .entry)) (now (nets .entry)) (now (loads .entry)) s in
-        Told (Any c j (now (front .entry)) f) (r .yes) (Sound c (now (nogoods .exit)))) ⌝ }
+    requires { ⌜ (let c = courseNow starts ends nets loads s in Sized c (now owed) × Sound c (now nogoods) × (j ≤ count c + 1) × Front c j (now front) f) ⌝ }
+    ensures { λ r. ⌜ (let c = courseAt starts ends nets loads s in Told (Any c j (now (front .entry)) f) (r .yes) (Sound c (now (nogoods .exit)))) ⌝ }
 {
     let mut i = j;
     let mut n = f;
@@ -221,10 +213,8 @@ pub fn sweep_pairs(
     f: usize,
     p: usize,
 ) -> Went
-    requires { ⌜ (let c = courseOf (now starts) (now ends) (now nets) (now loads) s in
-        Sized c (now owed) × Sound c (now nogoods) × (j + 2 * p ≤ count c + 1) × Front c j (now front) f) ⌝ }
-    ensures { λ r. ⌜ (let c = courseOf (now (starts .entry)) (now (ends .entry)) (now (nets .entry)) (now (loads .entry)) s in
-        Passes c j (now (front .entry)) f (j + 2 * p) (now (front .exit)) (now (nogoods .exit)) r) ⌝ }
+    requires { ⌜ (let c = courseNow starts ends nets loads s in Sized c (now owed) × Sound c (now nogoods) × (j + 2 * p ≤ count c + 1) × Front c j (now front) f) ⌝ }
+    ensures { λ r. ⌜ (let c = courseAt starts ends nets loads s in Passes c j front f (j + 2 * p) front nogoods r) ⌝ }
 {
     let mut i = j;
     let mut n = f;
@@ -269,10 +259,8 @@ fn solve(
     st: State,
     n: usize,
 ) -> Swept
-    requires { ⌜ (let c = courseOf (now starts) (now ends) (now nets) (now loads) s in
-        Slots c j n (now owed) × Sound c (now nogoods) × Before c j st) ⌝ }
-    ensures { λ r. ⌜ (let c = courseOf (now (starts .entry)) (now (ends .entry)) (now (nets .entry)) (now (loads .entry)) s in
-        Found (Completable c (count c - j) j st (now (owed .entry))) (r .yes) (now (owed .entry)) (now (owed .exit)) (Sound c (now (nogoods .exit)))) ⌝ }
+    requires { ⌜ (let c = courseNow starts ends nets loads s in Slots c j n (now owed) × Sound c (now nogoods) × Before c j st) ⌝ }
+    ensures { λ r. ⌜ (let c = courseAt starts ends nets loads s in Finds c (Completable c (count c - j) j st (now (owed .entry))) (r .yes) owed nogoods) ⌝ }
 {
     let went = search::step(
         starts,
@@ -322,10 +310,8 @@ fn completes(
     j: usize,
     st: State,
 ) -> Swept
-    requires { ⌜ (let c = courseOf (now starts) (now ends) (now nets) (now loads) s in
-        Lent c (now owed) × Before c j st) ⌝ }
-    ensures { λ r. ⌜ (let c = courseOf (now (starts .entry)) (now (ends .entry)) (now (nets .entry)) (now (loads .entry)) s in
-        Found (Completable c (count c - j) j st (now (owed .entry))) (r .yes) (now (owed .entry)) (now (owed .exit)) (Sound c (now (nogoods .exit)))) ⌝ }
+    requires { ⌜ (let c = courseNow starts ends nets loads s in Lent c (now owed) × Before c j st) ⌝ }
+    ensures { λ r. ⌜ (let c = courseAt starts ends nets loads s in Finds c (Completable c (count c - j) j st (now (owed .entry))) (r .yes) owed nogoods) ⌝ }
 {
     nogoods::clear(nogoods, starts.len());
     solve(
@@ -356,10 +342,8 @@ pub fn possible(
     front: &mut [u32],
     other: &mut [u32],
 ) -> Swept
-    requires { ⌜ (let c = courseOf (now starts) (now ends) (now nets) (now loads) s in
-        Lent c (now owed)) ⌝ }
-    ensures { λ r. ⌜ (let c = courseOf (now (starts .entry)) (now (ends .entry)) (now (nets .entry)) (now (loads .entry)) s in
-        Found (Completable c (count c) 0 (startState (restWeek c 0)) (now (owed .entry))) (r .yes) (now (owed .entry)) (now (owed .exit)) (Sound c (now (nogoods .exit)))) ⌝ }
+    requires { ⌜ (let c = courseNow starts ends nets loads s in Lent c (now owed)) ⌝ }
+    ensures { λ r. ⌜ (let c = courseAt starts ends nets loads s in Finds c (Completable c (count c) 0 (startState (restWeek c 0)) (now (owed .entry))) (r .yes) owed nogoods) ⌝ }
 {
     let rest = reading::rest_week(starts, ends, starts.len(), 0);
     completes(

@@ -7,8 +7,7 @@ use native.Mathlib.Omega.{arith}
 use borrow.Author.Tests.{not-true, not-false}
 use denote.Ref.{now}
 use Rattle.reading.specs.Items.{paid}
-use Rattle.search.specs.Search.{courseOf, Lent}
-use Rattle.first_reading.proofs.Choosing.{with-loads}
+use Rattle.search.specs.Search.{courseOf, Lent, withLoads}
 use Rattle.first_reading.proofs.Placing.{if-no, if-carry, limited, limited-with, lent-of, before-with, room-with, with-carrier}
 use Rattle.first_reading.proofs.goes_with.Statement.{statement}
 use Rattle.first_reading.proofs.goes_with.Tie as tie
@@ -47,7 +46,7 @@ completes-beside-requires c κs =
     let k = courseOf (now (s .args .starts)) (now (s .args .ends)) (now (s .args .nets)) (now (s .args .loads)) (s .args .s) in
     let y = at-carries .carries .ensures .yes (not-false _ (at-if1 .if1 .left)) in (
       s .pre .0,
-      subst (λ (d : ℕ). Lent (with-loads k (paid (now (s .args .loads)) (s .args .x) d)) (now (s .args .owed))) (sym (at-reduction .reduction .ensures))
+      subst (λ (d : ℕ). Lent (withLoads k (paid (now (s .args .loads)) (s .args .x) d)) (now (s .args .owed))) (sym (at-reduction .reduction .ensures))
           (lent-of (limited-with k (s .args .j) (limited (s .pre .0)) (s .args .x) (s .pre .4) (y .fits)) refl (s .pre .0) refl),
       s .pre .1,
       before-with k (paid (now (s .args .loads)) (s .args .x) (at-reduction .reduction .result)) (s .pre .2),

@@ -13,11 +13,10 @@ use Rattle.reading.specs.Items.{paid}
 use Rattle.completion.specs.declared.State.{State}
 use Rattle.completion.specs.States.{afterWeekly}
 use Rattle.completion.specs.Completable.{at, restWeek, lengthAt}
-use Rattle.search.specs.Search.{courseOf}
+use Rattle.search.specs.Search.{courseOf, withLoads}
 use Rattle.search.proofs.Slots.{brought, before-weekly, to-counted}
 use Rattle.merging.proofs.Merging.{paid-none}
 use Rattle.first_reading.specs.Choices.{withEntry, Limited}
-use Rattle.first_reading.proofs.Choosing.{with-loads}
 use Rattle.first_reading.proofs.Placing.{before-here, before-with, limited-with, broken-not-to, to-same, counted-state}
 use Rattle.first_reading.proofs.put_weekly.Statement.{statement}
 use Rattle.first_reading.proofs.put_weekly.Tie as tie
@@ -126,7 +125,7 @@ returns-3 c =
     let we : w % byteValues ≡ w = omega (arith, h .upto, low, s .pre .0 .judged) in
     let xe : x % byteValues ≡ x = omega (arith, at-if1 .if1 .left, s .pre .0 .few) in
     record {
-      limited = subst (λ (l : List ℕ). Limited (with-loads k l)) (sym p) (limited-with k j (s .pre .0) x (at-if1 .if1 .left) (h .room));
+      limited = subst (λ (l : List ℕ). Limited (withLoads k l)) (sym p) (limited-with k j (s .pre .0) x (at-if1 .if1 .left) (h .room));
       before =
           before-with k (at-add-load .add-load .last .0)
           (before-weekly k (s .pre .0 .lies) j w (s .args .here) (at-rest-week .rest-week .result) (leb (regularMinutes + load) (lengthAt k j))

@@ -10,10 +10,9 @@ use denote.Ref.{now}
 use Rattle.rules.specs.Reading.{entryBytes}
 use Rattle.reading.specs.Items.{Zeros}
 use Rattle.completion.specs.States.{startState}
-use Rattle.search.specs.Search.{courseOf, Sound, Lent, Before}
+use Rattle.search.specs.Search.{courseOf, Sound, Lent, Before, withLoads}
 use Rattle.search.proofs.Slots.{before-start}
 use Rattle.first_reading.specs.First.{Least, restsOnly}
-use Rattle.first_reading.proofs.Choosing.{with-loads}
 use Rattle.first_reading.proofs.Placing.{Progress, progress-start, progress-on, progress-end}
 use Rattle.first_reading.proofs.write_entries.Statement.{statement}
 use Rattle.first_reading.proofs.write_entries.Tie as tie
@@ -90,7 +89,7 @@ loop-again c =
       e .before,
       at-place .place .kept .1 .1 .1 .1 .1 .1 .1 .1 .1 .1 .1 .0 ∙ i .8,
       λ f l.
-          progress-on (with-loads k (at-loop .loop .loads)) (with-loads k (at-place .place .last .1 .1 .1 .0)) f
+          progress-on (withLoads k (at-loop .loop .loads)) (withLoads k (at-place .place .last .1 .1 .1 .0)) f
           (at-loop .loop .reading) (at-place .place .last .1 .1 .1 .1 .1 .1 .1 .1 .1 .1 .1 .0) (at-loop .loop .j) (at-loop .loop .st) (at-place .place .result)
           (i .8) (at-loop-test .loop-test .taken) (e .placed) (i .9 f l),
       e .sound,
@@ -127,7 +126,7 @@ returns c =
     let s = (c .before .before .before .before .before .before .before .before .before .before .before .before .before .before .before) in
     let k = courseOf (now (s .args .starts)) (now (s .args .ends)) (now (s .args .nets)) (now (s .args .loads)) (s .args .s) in
     let i = c .before .loop .inv in
-    λ f l. progress-end (with-loads k (c .before .loop .loads)) f (c .before .loop .reading) (c .before .loop .j) (c .before .loop .st) (i .8) (c .loop-test .left) (i .9 f l)
+    λ f l. progress-end (withLoads k (c .before .loop .loads)) f (c .before .loop .reading) (c .before .loop .j) (c .before .loop .st) (i .8) (c .loop-test .left) (i .9 f l)
 
 pub write-entries-spec : {M : Type 1} → statement M
 write-entries-spec =
