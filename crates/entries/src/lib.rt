@@ -1,6 +1,6 @@
 // The entry of a reading: the three bytes of a long rest, in the caller's own slice.
 ghost use mathlib.Core.Path.{_≡_};
-ghost use Rattle.rules.specs.Operations.{entryAt, entryPart, entryRefusal};
+ghost use Rattle.rules.specs.Operations.{entryAt, entryInReading, entryPart, entryRefusal};
 
 pub const ENTRY_BYTES: usize = 3;
 
@@ -11,6 +11,7 @@ const NO_ENTRY: u32 = 7;
 
 // The three bytes of the entry of a number, in the caller's reading; empty on a refusal.
 pub fn entry(reading: &[u8], number: usize) -> &[u8]
+    ensures { λ r. ⌜ entryInReading (entryAt (now (reading .entry)) number) number (reading .entry .ptr) (r .ptr) ⌝ }
     ensures { λ r. ⌜ now r ≡ entryPart (entryAt (now (reading .entry)) number) ⌝ }
 {
     if reading.len() % ENTRY_BYTES != 0 {

@@ -32,7 +32,8 @@ use Rattle.fixed.specs.Account.{dayAfter, dayWith, weekWith, weekNext, b
 use Rattle.fixed.proofs.Driving.{upTo, up-to-within, up-to-past, up-to-all, up-to-judged, driving-between, driving-snoc, length-more, driving-same}
 use Rattle.fixed.proofs.Spell.{drivenFrom, drivenBy, rule1-rest, driven-after-rest, rule1-busy, driven-after-busy}
 use Rattle.fixed.proofs.DayEnds.{span, lastEnd, dayStart, daysDone, days-are, day-within, judged-rest, rests-rest, judged-busy, LongBefore, long-before, ShortBefore, short-before}
-use Rattle.fixed.proofs.Rules.{extendedIn, none-extended, weekBefore, count-one, driving-rest, up-to-rest, extended-rest, rule2-rest, rule3-rest, rule4-rest, rule5-rest, running, extended-busy, rule2-busy, rule5-busy, rule3-busy, rule4-busy}
+use Rattle.fixed.proofs.Rules.{extendedIn, none-extended, weekBefore, count-one, driving-rest, up-to-rest, extended-rest, rule2-rest, rule3-rest, rule4-rest, rule5-rest, running}
+use Rattle.fixed.proofs.Rules.{extended-busy, rule2-busy, rule5-busy, rule3-busy, rule4-busy}
 
 -- ---- the smaller of two broken rules: each is 0 or past the rules that are read before it
 abbrev pub Past : ℕ → ℕ → Type 0
@@ -317,7 +318,12 @@ module _ (xs : List ℕ) (s : Account) (k : Right xs s) (a : ℕ) where
   day-right = rw (k .from, k .now) (at (leb longRestMinutes (length xs - judgedEnd xs)) refl)
     where
       at : (b : Bool) → leb longRestMinutes (length xs - judgedEnd xs) ≡ b
-          → DayRight (xs ++ suc a ∷ []) (dayWith (suc a) (pick b (record { start = length xs; driving = 0; extended = pick (leb (s .week .end) (s .day .start + weekMinutes)) (s .day .extended) 0 }) (s .day)))
+          → DayRight (xs ++ suc a ∷ []) (dayWith (suc a) (pick b (record {
+            start = length xs;
+            driving = 0;
+            extended = pick (leb (s .week .end) (s .day .start + weekMinutes))
+                (s .day .extended) 0;
+          }) (s .day)))
       at true t = rw (← k .now) (long-day t)
       at false t = short-day t
 

@@ -21,7 +21,8 @@ use Rattle.recording.proofs.Walks.{judged-within}
 use Rattle.rules.specs.Fixed.{dayAtMost, ordinaryDay, extendedDays, extended, rule2, weekAtMost, rule3, fortnightAtMost, rule4, dayLength, endsInTime, rule5}
 use Rattle.rules.proofs.FixedPrefix.{prefix2, prefix3, prefix4, prefix5}
 use Rattle.fixed.proofs.Driving.{upTo, up-to-within, up-to-past, up-to-all, up-to-mono, up-to-judged, driving-between, driving-snoc, length-more, driving-same, driving-on}
-use Rattle.fixed.proofs.DayEnds.{span, Past, dayStart, daysDone, days-are, done-are, day-within, days-rest, judged-rest, judged-busy, LongBefore, long-before, ShortBefore, short-before, days-busy}
+use Rattle.fixed.proofs.DayEnds.{span, Past, dayStart, daysDone, days-are, done-are, day-within, days-rest, judged-rest, judged-busy, LongBefore, long-before, ShortBefore}
+use Rattle.fixed.proofs.DayEnds.{short-before, days-busy}
 
 -- ---- counting
 count-append : (f : Span → Bool) (xs ys : List Span) → countOf f (xs ++ ys) ≡ countOf f xs + countOf f ys
@@ -239,11 +240,13 @@ module _ (xs : List ℕ) (a : ℕ) where
       omega (arith, extended-busy w, count-over (extended (drivingIn xs) w))
 
   pub rule2-busy : rule2 (drivingIn (xs ++ suc a ∷ [])) (weeksOf (xs ++ suc a ∷ [])) (days (xs ++ suc a ∷ []))
-      ≡ rule2 (drivingIn xs) (weeksOf xs) (days xs) and (leb (drivingIn (xs ++ suc a ∷ []) running) dayAtMost and leb (extendedIn (xs ++ suc a ∷ []) (weekOf (dayStart (xs ++ suc a ∷ [])))) extendedDays)
+      ≡ rule2 (drivingIn xs) (weeksOf xs) (days xs) and (leb (drivingIn (xs ++ suc a ∷ []) running) dayAtMost and leb (extendedIn (xs ++ suc a ∷ []) (weekOf (dayStart
+      (xs ++ suc a ∷ [])))) extendedDays)
   rule2-busy = same-test _ _ there back
     where
       there : rule2 (drivingIn (xs ++ suc a ∷ [])) (weeksOf (xs ++ suc a ∷ [])) (days (xs ++ suc a ∷ [])) ≡ true
-          → rule2 (drivingIn xs) (weeksOf xs) (days xs) and (leb (drivingIn (xs ++ suc a ∷ []) running) dayAtMost and leb (extendedIn (xs ++ suc a ∷ []) (weekOf (dayStart (xs ++ suc a ∷ [])))) extendedDays) ≡ true
+          → rule2 (drivingIn xs) (weeksOf xs) (days xs) and (leb (drivingIn (xs ++ suc a ∷ []) running) dayAtMost and leb (extendedIn (xs ++ suc a ∷ []) (weekOf (dayStart
+          (xs ++ suc a ∷ [])))) extendedDays) ≡ true
       there t =
           and-both _ _ (prefix2 xs (suc a ∷ []) t)
           (and-both _ _ (le-leb _ dayAtMost (day-all (xs ++ suc a ∷ []) t running runs))
@@ -256,10 +259,12 @@ module _ (xs : List ℕ) (a : ℕ) where
 
       week-of : (w : ℕ) (b : Bool) → eqb (weekOf (dayStart (xs ++ suc a ∷ []))) w ≡ b → rule2 (drivingIn xs) (weeksOf xs) (days xs) ≡ true
           → leb (extendedIn (xs ++ suc a ∷ []) (weekOf (dayStart (xs ++ suc a ∷ [])))) extendedDays ≡ true → extendedIn (xs ++ suc a ∷ []) w ≤ extendedDays
-      week-of w true e t v = let q : weekOf (dayStart (xs ++ suc a ∷ [])) ≡ w = eqb-true _ w e in rw q at (leb-true (extendedIn (xs ++ suc a ∷ []) (weekOf (dayStart (xs ++ suc a ∷ [])))) extendedDays v)
+      week-of w true e t v = let q : weekOf (dayStart (xs ++ suc a ∷ [])) ≡ w = eqb-true _ w e in rw q at (leb-true (extendedIn (xs ++ suc a ∷ []) (weekOf (dayStart
+          (xs ++ suc a ∷ [])))) extendedDays v)
       week-of w false e t v = le-trans (other-week w (λ q. eqb-false _ w e q)) (extended-all xs t w)
 
-      back : rule2 (drivingIn xs) (weeksOf xs) (days xs) and (leb (drivingIn (xs ++ suc a ∷ []) running) dayAtMost and leb (extendedIn (xs ++ suc a ∷ []) (weekOf (dayStart (xs ++ suc a ∷ [])))) extendedDays) ≡ true
+      back : rule2 (drivingIn xs) (weeksOf xs) (days xs) and (leb (drivingIn (xs ++ suc a ∷ []) running) dayAtMost and leb (extendedIn (xs ++ suc a ∷ []) (weekOf (dayStart
+          (xs ++ suc a ∷ [])))) extendedDays) ≡ true
           → rule2 (drivingIn (xs ++ suc a ∷ [])) (weeksOf (xs ++ suc a ∷ [])) (days (xs ++ suc a ∷ [])) ≡ true
       back t =
           let t1 = and-left _ _ t in

@@ -119,23 +119,23 @@ pub fn rested_for(n: u32, d: Driven) -> Driven
     }
 }
 
-// Rules 2 and 5: the day that runs after a rest of n minutes that ended now, in the week that ends at `end`.
-pub fn day_after(n: u32, now: u32, end: u32, d: Day) -> Day
+// Rules 2 and 5: the day that runs after a rest of n minutes that ended at a minute, in the week that ends at `end`.
+pub fn day_after(n: u32, minute: u32, end: u32, d: Day) -> Day
     requires { ⌜ d .start ≤ totalAtMost ⌝ }
-    ensures { λ r. ⌜ r ≡ dayAfter n now end d ⌝ }
+    ensures { λ r. ⌜ r ≡ dayAfter n minute end d ⌝ }
 {
     if n < recording::LONG_REST {
         return d;
     }
     if end <= d.start + recording::WEEK_MINUTES {
         return Day {
-            start: now,
+            start: minute,
             driving: 0,
             extended: d.extended,
         };
     }
     Day {
-        start: now,
+        start: minute,
         driving: 0,
         extended: 0,
     }
@@ -147,7 +147,7 @@ pub fn driving_of(activity: u32, n: u32) -> u32
 {
     match activity {
         3 => n,
-        _ => 0,
+        0 | 1 | 2 | _ => 0,
     }
 }
 
@@ -201,11 +201,11 @@ pub fn week_more(k: u32, w: Week) -> Week
     }
 }
 
-pub fn week_next(now: u32, w: Week) -> Week
+pub fn week_next(minute: u32, w: Week) -> Week
     requires { ⌜ w .end ≤ totalAtMost + totalAtMost ⌝ }
-    ensures { λ r. ⌜ r ≡ weekNext now w ⌝ }
+    ensures { λ r. ⌜ r ≡ weekNext minute w ⌝ }
 {
-    if now == w.end {
+    if minute == w.end {
         return Week {
             end: w.end + recording::WEEK_MINUTES,
             driving: 0,
@@ -216,9 +216,9 @@ pub fn week_next(now: u32, w: Week) -> Week
 }
 
 // The smallest rule that is broken at the minute that ends now, or 0.
-pub fn broken_at(now: u32, d: Driven, y: Day, w: Week) -> u32
+pub fn broken_at(minute: u32, d: Driven, y: Day, w: Week) -> u32
     requires { ⌜ (y .start ≤ totalAtMost) × (w .last ≤ totalAtMost) × (w .driving ≤ totalAtMost) ⌝ }
-    ensures { λ r. ⌜ r ≡ brokenAt now d y w ⌝ }
+    ensures { λ r. ⌜ r ≡ brokenAt minute d y w ⌝ }
 {
     if SPELL < d.sum {
         return 1;
@@ -235,7 +235,7 @@ pub fn broken_at(now: u32, d: Driven, y: Day, w: Week) -> u32
     if FORTNIGHT < w.last + w.driving {
         return 4;
     }
-    if y.start + DAY_LENGTH < now {
+    if y.start + DAY_LENGTH < minute {
         return 5;
     }
     0
@@ -258,14 +258,17 @@ pub fn smaller_of(a: u32, b: u32) -> u32
 }
 
 // The first breach, where the minute that ends now breaks the rule b or, with 0, none.
-pub fn first_break(f: Break, now: u32, b: u32) -> Break
-    ensures { λ r. ⌜ r ≡ firstBreak f now b ⌝ }
+pub fn first_break(f: Break, minute: u32, b: u32) -> Break
+    ensures { λ r. ⌜ r ≡ firstBreak f minute b ⌝ }
 {
     if f.rule == 0 {
         if b == 0 {
             return f;
         }
-        return Break { at: now, rule: b };
+        return Break {
+            at: minute,
+            rule: b,
+        };
     }
     f
 }
@@ -291,7 +294,7 @@ pub fn part_after(s: Account, activity: u32, n: u32) -> Account
             rule: s.rule,
             first: first,
         },
-        _ => {
+        1 | 2 | 3 | _ => {
             let rest = s.now - s.from;
             let k = driving_of(activity, n);
             let d = driven_more(k, rested_for(rest, driven));
@@ -333,14 +336,14 @@ pub fn lesser(a: u32, b: u32) -> u32
     b
 }
 
-// How many of n minutes after `now` are in the week that ends at `end`, and one where there is none.
-pub fn in_week(now: u32, end: u32, n: u32) -> u32
-    ensures { λ r. ⌜ r ≡ inWeek now end n ⌝ }
+// How many of n minutes after a minute are in the week that ends at `end`, and one where there is none.
+pub fn in_week(minute: u32, end: u32, n: u32) -> u32
+    ensures { λ r. ⌜ r ≡ inWeek minute end n ⌝ }
 {
-    if end <= now {
+    if end <= minute {
         return lesser(n, 1);
     }
-    lesser(n, end - now)
+    lesser(n, end - minute)
 }
 
 // The next part of a run of n minutes: those of one week, halved until they change nothing that is broken or one is left.

@@ -78,7 +78,8 @@ pub extern "C" fn desk_weigh(words: &[u32]) -> u64
 #[no_mangle]
 pub extern "C" fn desk_list_rests(words: &[u32], starts: &mut [u32], ends: &mut [u32]) -> u64
     ensures { λ r. ⌜ r ≡ codeOf itself (counted (listed (now (words .entry)) (min (length (now (starts .entry))) (length (now (ends .entry)))))) ⌝ }
-    ensures { λ r. ⌜ now (starts .exit) ≡ filled (eachOf (λ (s : Span). s .start) (listed (now (words .entry)) (min (length (now (starts .entry))) (length (now (ends .entry)))))) (now (starts .entry)) ⌝ }
+    ensures { λ r. ⌜ now (starts .exit) ≡ filled (eachOf (λ (s : Span). s .start) (listed (now (words .entry)) (min (length (now (starts .entry))) (length (now (ends .entry)))))) (now
+        (starts .entry)) ⌝ }
     ensures { λ r. ⌜ now (ends .exit) ≡ filled (eachOf (λ (s : Span). s .end) (listed (now (words .entry)) (min (length (now (starts .entry))) (length (now (ends .entry)))))) (now (ends .entry)) ⌝ }
 {
     count_code(recording::list_rests(words, starts, ends))

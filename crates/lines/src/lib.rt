@@ -127,7 +127,7 @@ fn run_minutes(line: &[u8], activity: u32) -> u32
         0 => number_after(b"(rest ", line),
         1 => number_after(b"(avail ", line),
         2 => number_after(b"(work ", line),
-        _ => number_after(b"(drive ", line),
+        3 | _ => number_after(b"(drive ", line),
     }
 }
 

@@ -24,7 +24,8 @@ activity-in n a h = omega arith
 pub minutes-append : (vs ws : List ℕ) → minutesOf (vs ++ ws) ≡ minutesOf vs ++ minutesOf ws
 unfolding minutesOf
 minutes-append [] ws = refl
-minutes-append (v ∷ vs) ws = ap (λ (l : List ℕ). replicate (minutesIn v) (activityIn v) ++ l) (minutes-append vs ws) ∙ sym (append-assoc (replicate (minutesIn v) (activityIn v)) (minutesOf vs) (minutesOf ws))
+minutes-append (v ∷ vs) ws = ap (λ (l : List ℕ). replicate (minutesIn v) (activityIn v) ++ l) (minutes-append vs ws) ∙ sym (append-assoc (replicate (minutesIn v) (activityIn v))
+    (minutesOf vs) (minutesOf ws))
 
 -- a total that is not refused is the number of minutes, within the limit
 pub record Total (t : ℕ) (ws : List ℕ) (n : ℕ) : Type 0 where

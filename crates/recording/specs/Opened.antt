@@ -8,5 +8,6 @@ use Rattle.recording.specs.Weeks.{touches, restOnly, inside}
 use Rattle.recording.specs.Operations.{faultOf, totalFrom, measured, listed}
 
 unfoldable pub opened : Unit {0}
-unfolding _and_ _or_ allOf anyOf allBelow countOf keep minutesOf drivingTime closedFrom closedRests endFrom judgedEnd openRest rests longRests latestEndFrom latestEnd daysFrom days drivingIn touches restOnly inside faultOf totalFrom measured listed
+unfolding _and_ _or_ allOf anyOf allBelow countOf keep minutesOf drivingTime closedFrom closedRests endFrom judgedEnd openRest rests longRests latestEndFrom latestEnd daysFrom days drivingIn
+    touches restOnly inside faultOf totalFrom measured listed
 opened = tt

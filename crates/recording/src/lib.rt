@@ -98,7 +98,7 @@ pub fn ends_rest(p: Place, activity: u32, n: u32) -> bool
     }
     match activity {
         0 => false,
-        _ => LONG_REST <= p.now - p.from,
+        1 | 2 | 3 | _ => LONG_REST <= p.now - p.from,
     }
 }
 
@@ -117,7 +117,7 @@ pub fn after_run(p: Place, activity: u32, n: u32) -> Place
             from: p.from,
             count: p.count,
         },
-        _ => {
+        1 | 2 | 3 | _ => {
             if LONG_REST <= p.now - p.from {
                 return Place {
                     now: next,

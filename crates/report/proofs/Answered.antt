@@ -84,13 +84,16 @@ module _ (ws : List ℕ) (size : ℕ) (fits : entryBytes * longRestsAtMost ≤ s
   refused-text {n} e = at (measured ws) refl
     where
       at : (a : Answer Measure) → measured ws ≡ a → verdictText ws ≡ refusalPage n
-      at (refused m) q = let z : _≡_ {A = Answer Outcome} (refused n) (refused m) = e ∙ ap outcome (judged-refused ws (length (blank size)) q) in let y : m ≡ n = cc in text-refused ws q ∙ ap refusalPage y
-      at (answered k) q = let z : _≡_ {A = Answer Outcome} (refused n) (answered (outcomeOf (verdict (minutesOf ws)))) = e ∙ ap outcome (judged-is ws (length (blank size)) room q) in let y : _≡_ {A = ℕ} 0 1 = cc in absurd (omega arith)
+      at (refused m) q = let z : _≡_ {A = Answer Outcome} (refused n) (refused m) = e ∙ ap outcome (judged-refused ws (length (blank size)) q) in let y : m ≡ n = cc in text-refused ws q
+          ∙ ap refusalPage y
+      at (answered k) q = let z : _≡_ {A = Answer Outcome} (refused n) (answered (outcomeOf (verdict (minutesOf ws)))) = e ∙ ap outcome (judged-is ws (length
+          (blank size)) room q) in let y : _≡_ {A = ℕ} 0 1 = cc in absurd (omega arith)
 
   pub passed-text : {n : ℕ} {new : List ℕ} → answered (passed n) ≡ outcome (judged ws (length (blank size))) → new ≡ readingAfter (judged ws (length (blank size))) (blank size) → Passing ws n new
   passed-text {n} {new} e b = at (measured ws) refl
     where
-      by : {k : Measure} → measured ws ≡ answered k → (v : Verdict) → verdict (minutesOf ws) ≡ v → answered (passed n) ≡ answered (outcomeOf v) → new ≡ readingAfter (answered v) (blank size) → Passing ws n new
+      by : {k : Measure} → measured ws ≡ answered k → (v : Verdict) → verdict (minutesOf ws) ≡ v → answered (passed n) ≡ answered (outcomeOf v) → new ≡ readingAfter (answered v) (blank size)
+          → Passing ws n new
       by q (pass r) p e b =
           let z : n ≡ length r = cc in
           let t : take n new ≡ r = ap (take n) b ∙ take-at r (drop (length r) (blank size)) n (sym z) in
@@ -103,7 +106,8 @@ module _ (ws : List ℕ) (size : ℕ) (fits : entryBytes * longRestsAtMost ≤ s
       by q (breach m a) p e b = let z : _≡_ {A = ℕ} 0 1 = cc in absurd (omega arith)
 
       at : (a : Answer Measure) → measured ws ≡ a → Passing ws n new
-      at (refused m) q = let z : _≡_ {A = Answer Outcome} (answered (passed n)) (refused m) = e ∙ ap outcome (judged-refused ws (length (blank size)) q) in let y : _≡_ {A = ℕ} 0 1 = cc in absurd (omega arith)
+      at (refused m) q = let z : _≡_ {A = Answer Outcome} (answered (passed n)) (refused m) = e ∙ ap outcome (judged-refused ws (length
+          (blank size)) q) in let y : _≡_ {A = ℕ} 0 1 = cc in absurd (omega arith)
       at (answered k) q =
           by q (verdict (minutesOf ws)) refl (e ∙ ap outcome (judged-is ws (length (blank size)) room q))
           (b ∙ ap (λ (j : Answer Verdict). readingAfter j (blank size)) (judged-is ws (length (blank size)) room q))
@@ -119,7 +123,8 @@ module _ (ws : List ℕ) (size : ℕ) (fits : entryBytes * longRestsAtMost ≤ s
           record { within = measured-is ws q .within; text = text-is ws q p ∙ (λ i. pageOf (minutesOf ws) (breach (f i) (g i))) }
 
       at : (x : Answer Measure) → measured ws ≡ x → Breaching ws m a
-      at (refused n) q = let z : _≡_ {A = Answer Outcome} (answered (breached m a)) (refused n) = e ∙ ap outcome (judged-refused ws (length (blank size)) q) in let y : _≡_ {A = ℕ} 0 1 = cc in absurd (omega arith)
+      at (refused n) q = let z : _≡_ {A = Answer Outcome} (answered (breached m a)) (refused n) = e ∙ ap outcome (judged-refused ws (length
+          (blank size)) q) in let y : _≡_ {A = ℕ} 0 1 = cc in absurd (omega arith)
       at (answered k) q = by q (verdict (minutesOf ws)) refl (e ∙ ap outcome (judged-is ws (length (blank size)) room q))
 
 pub verdict-size : (ws : List ℕ) → length (verdictText ws) ≤ pageAtMost

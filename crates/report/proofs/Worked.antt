@@ -14,7 +14,8 @@ use Rattle.rules.proofs.Breach.{verdict-pass}
 use Rattle.rules.proofs.OnlyDaily.{allDaily, daily-first}
 use Rattle.lines.specs.Form.{runName, digitAt, decimal, lineText, textOfLines, runsThen, weeksThenEnd, textOf}
 use Rattle.lines.specs.Reading.{same, numberFrom, numberAfter, runOr, lineOf, linesFrom, stageAfter, stageFrom, isText, wordsOf, textRead}
-use Rattle.report.specs.Printed.{asLine, closed, verdictName, minutesName, judgedName, readingName, dailyName, refusedName, numberText, numbered, spanText, dailyText, restText, restsText, inputRead, deskText}
+use Rattle.report.specs.Printed.{asLine, closed, verdictName, minutesName, judgedName, readingName, dailyName, refusedName, numberText, numbered, spanText, dailyText, restText}
+use Rattle.report.specs.Printed.{restsText, inputRead, deskText}
 use Rattle.report.proofs.Answered.{text-is, desk-words, desk-over}
 
 abbrev paperWords : List ℕ

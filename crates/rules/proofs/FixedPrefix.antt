@@ -20,7 +20,8 @@ use Rattle.recording.proofs.TestLaws.{and-left, and-right, and-both, below-at, 
 use Rattle.recording.proofs.Walks.{judged-mono}
 use Rattle.recording.proofs.LongRests.{Ordered, none, next, restsPast, rests-split, past-ordered}
 use Rattle.rules.specs.declared.Driven.{Driven}
-use Rattle.rules.specs.Fixed.{cleared, rested, drove, keepsSpell, spellAtMost, rule1, dayAtMost, extendedDays, extended, rule2, weekAtMost, rule3, fortnightAtMost, rule4, dayLength, endsInTime, rule5, fixedTest}
+use Rattle.rules.specs.Fixed.{cleared, rested, drove, keepsSpell, spellAtMost, rule1, dayAtMost, extendedDays, extended, rule2, weekAtMost, rule3, fortnightAtMost, rule4, dayLength}
+use Rattle.rules.specs.Fixed.{endsInTime, rule5, fixedTest}
 use Rattle.rules.proofs.RuleLaws.{FixedRules, fixed-rules, rules-fixed}
 
 -- ---- days: each day of the stretch begins as one of the whole does, in turn, and ends no later

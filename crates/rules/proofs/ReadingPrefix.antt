@@ -17,7 +17,8 @@ use Rattle.recording.specs.declared.Span.{Span}
 use Rattle.recording.proofs.TestLaws.{and-left, and-right, and-both, or-cases, or-left, or-right, or-else, is-false, all-left, all-right, below-at, at-below}
 use Rattle.recording.proofs.LongRests.{Ordered, none, next}
 use Rattle.rules.specs.Reading.{Entry, minutes, dailyKind, weeklyKind, asRead, isWeekly, isRegular, reductionOf, compensationOf, entryBytes, entryOf, entriesFrom, upTo, restrictFrom}
-use Rattle.rules.specs.ReadingRules.{formedDaily, formedWeekly, formed, longEnough, rule7, deadline, endOf, byDeadline, settles, compensated, shortened, rule9From, weeklyGap, inGap, rule10From, ofKind, countedIn, enoughIn, rule11}
+use Rattle.rules.specs.ReadingRules.{formedDaily, formedWeekly, formed, longEnough, rule7, deadline, endOf, byDeadline, settles, compensated, shortened, rule9From, weeklyGap, inGap}
+use Rattle.rules.specs.ReadingRules.{rule10From, ofKind, countedIn, enoughIn, rule11}
 use Rattle.rules.specs.declared.Kind.{Kind}
 use Rattle.rules.specs.declared.Kind.the-variants.{Daily, Weekly}
 use Rattle.rules.specs.declared.Standing.the-variants.{Regular, Reduced}

@@ -31,11 +31,11 @@ abbrev pub clears : ℕ → Driven → Bool
 clears n d = leb fullBreak n or (leb secondPart n and d .split)
 
 -- "A rest of 15 or more is a first part, unless it clears the sum"
-abbrev pub splits : ℕ → Driven → Bool
-splits n d = leb firstPart n
+abbrev pub splits : ℕ → Bool
+splits n = leb firstPart n
 
 unfoldable pub rested : ℕ → Driven → Driven
-rested n d = pick (clears n d) cleared (record { sum = d .sum; split = splits n d or d .split })
+rested n d = pick (clears n d) cleared (record { sum = d .sum; split = splits n or d .split })
 
 unfoldable pub drove : ℕ → Driven → Driven
 drove a d = record { sum = one (isDriving a) + d .sum; split = d .split }

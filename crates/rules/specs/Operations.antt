@@ -1,8 +1,9 @@
 -- Document 01, "Operations": both tests, the verdict, and the entry of a reading.
 -- Assumes nothing.
 use mathlib.Core.Bool.{Bool, not}
+use mathlib.Core.Path.{_≡_}
 use mathlib.Core.List.{List, []}
-use Prim.Native.Nat.{ℕ, _-_, _*_, _/_, _%_}
+use Prim.Native.Nat.{ℕ, _+_, _-_, _*_, _/_, _%_}
 use lib.Dec.{ltb, eqb}
 use lib.ListN.{length, take, drop}
 use Rattle.recording.specs.Tests.{_or_}
@@ -68,3 +69,8 @@ entryPart (answered part) = part
 abbrev pub entryRefusal : Answer (List ℕ) → ℕ
 entryRefusal (refused n) = n
 entryRefusal (answered part) = 0
+
+-- "the three bytes themselves in the caller's reading": in its memory, from 3 × (number − 1) bytes on. A place is a block of memory and an offset in it.
+abbrev pub entryInReading : Answer (List ℕ) → ℕ → ℕ × ℕ → ℕ × ℕ → Type 0
+entryInReading (refused n) number reading part = Unit {0}
+entryInReading (answered bytes) number reading part = (part .0 ≡ reading .0) × (part .1 ≡ reading .1 + entryBytes * (number - 1))

@@ -149,7 +149,8 @@ unfolding plain lineText
 plain-line line.Recording = refl
 plain-line line.Week = refl
 plain-line line.Closing = refl
-plain-line (line.Run w) = plain-append (runName (activityIn w) ++ decimal (minutesIn w)) closingLine (plain-append (runName (activityIn w)) (decimal (minutesIn w)) (plain-name (activityIn w)) (plain-decimal (minutesIn w))) refl
+plain-line (line.Run w) = plain-append (runName (activityIn w) ++ decimal (minutesIn w)) closingLine (plain-append (runName (activityIn w)) (decimal (minutesIn w)) (plain-name
+    (activityIn w)) (plain-decimal (minutesIn w))) refl
 plain-line line.Other = refl
 
 lines-next : (l xs t : List ℕ) → plain xs ≡ true → linesFrom l (xs ++ lineEnd ∷ t) ≡ lineOf (l ++ xs) ∷ linesIn t

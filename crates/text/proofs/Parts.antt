@@ -253,7 +253,8 @@ module _ {words start text : List ℕ} {from at left a n i : ℕ} (w : Writing w
 
     pub fetch-on : EachSome words → Writing words start from text at left (activityIn (getD words i 0)) (r .minutes) (i + r .words)
     fetch-on e =
-        let t : leftText left a n (drop i words) ≡ leftText left (activityIn (getD words i 0)) (r .minutes) (drop (i + r .words) words) = ap (λ (ms : List ℕ). textOfLines (linesLeft left ms)) fetched in
+        let t : leftText left a n (drop i words) ≡ leftText left (activityIn (getD words i 0)) (r .minutes) (drop (i + r .words) words) = ap (λ (ms : List ℕ). textOfLines
+        (linesLeft left ms)) fetched in
         let s : startsWith (activityIn (getD words i 0)) (minutesOf (drop (i + r .words) words)) ≡ false =
         ap (λ (l : List ℕ). startsWith (activityIn (getD words i 0)) (minutesOf l)) (sym (ap (λ (k : ℕ). drop k (drop i words)) (sym (there .words)) ∙ drop-drop (r .words) i words))
         ∙ same-apart (activityIn (getD words i 0)) (each-drop i e) in

@@ -1,5 +1,5 @@
 -- One word of the walk over the words in front. Assumes nothing.
-use mathlib.Core.Path.{_≡_}
+use mathlib.Core.Path.{_≡_, sym, _∙_}
 use mathlib.Core.Bool.{Bool, true, false}
 use mathlib.Core.List.{List, [], _∷_}
 use Prim.Native.Nat.{ℕ, suc, _+_, _≤_, _<_}
@@ -8,10 +8,17 @@ use native.Mathlib.Omega.{arith}
 use lib.Dec.{eqb}
 use lib.ListN.{length, drop, getD, length-append, length-replicate}
 use lib.Seq.{drop-cons, drop-length}
-use borrow.Author.Tests.{eq-eqb, ne-eqb}
+use borrow.Author.Tests.{eqb-true, eqb-false, eq-eqb, ne-eqb}
 use Rattle.recording.specs.Tests.{pick}
 use Rattle.recording.specs.Words.{minutesIn, activityIn, minutesOf}
 use Rattle.text.specs.Passes.{sameWords, sameMinutes}
+
+-- a word of an activity, or of another
+pub same-code : {r : Bool} {a b : ℕ} → r ≡ eqb a b → r ≡ true → b ≡ a
+same-code {r} {a} {b} e t = sym (eqb-true a b (sym e ∙ t))
+
+pub other-code : {r : Bool} {a b : ℕ} → r ≡ eqb a b → r ≡ false → b ≡ a → ⊥
+other-code {r} {a} {b} e f q = eqb-false a b (sym e ∙ f) (sym q)
 
 module _ (a : ℕ) (ws : List ℕ) (i : ℕ) (h : i < length ws) where
   pub words-other : (activityIn (getD ws i 0) ≡ a → ⊥) → sameWords a (drop i ws) ≡ 0

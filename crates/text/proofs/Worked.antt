@@ -54,7 +54,8 @@ pub record Worked : Type 0 where
   no-minutes : textWritten (w 4 ∷ r 0 ∷ []) 0 ≡ refused 1
 
 pub worked : Worked
-unfolding opened runName digitAt decimal lineText textOfLines runsThen weeksThenEnd same numberFrom numberAfter runOr lineOf linesFrom stageAfter stageFrom isText wordsOf textRead joinedTo joined weeksWithin weeksOf textWritten
+unfolding opened runName digitAt decimal lineText textOfLines runsThen weeksThenEnd same numberFrom numberAfter runOr lineOf linesFrom stageAfter stageFrom isText wordsOf textRead joinedTo
+    joined weeksWithin weeksOf textWritten
 worked = record {
   paper = refl;
   empty = refl;

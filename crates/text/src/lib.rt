@@ -2,11 +2,12 @@
 ghost use mathlib.Core.Path.{_≡_};
 ghost use mathlib.Core.List.{[]};
 ghost use Prim.Native.Nat.{_+_, _≤_, _<_, min};
+ghost use lib.Dec.{eqb};
 ghost use lib.ListN.{length, set};
 ghost use lib.Seq.{sets};
 ghost use Rattle.recording.specs.Tests.{pick};
 ghost use Rattle.recording.specs.Answers.{counted, filled};
-ghost use Rattle.recording.specs.Words.{activities, wordOf, minutesOf};
+ghost use Rattle.recording.specs.Words.{activities, activityIn, wordOf, minutesOf};
 ghost use Rattle.recording.specs.Operations.{totalAtMost, written};
 ghost use Rattle.lines.specs.Form.{runName, digitAt, decimal, textOfLines};
 ghost use Rattle.lines.specs.Reading.{linesIn, wordsOf, textRead};
@@ -136,7 +137,7 @@ fn put_name(text: &mut [u8], at: usize, activity: u32) -> usize
         0 => put_all(text, at, b"(rest "),
         1 => put_all(text, at, b"(avail "),
         2 => put_all(text, at, b"(work "),
-        _ => put_all(text, at, b"(drive "),
+        3 | _ => put_all(text, at, b"(drive "),
     }
 }
 
@@ -173,6 +174,19 @@ fn smaller(a: u32, b: u32) -> u32
     b
 }
 
+// Whether a word has this activity.
+fn has_activity(word: u32, activity: u32) -> bool
+    ensures { λ r. ⌜ r ≡ eqb activity (activityIn word) ⌝ }
+{
+    let code = word % 4;
+    match code {
+        0 => activity == 0,
+        1 => activity == 1,
+        2 => activity == 2,
+        3 | _ => activity == 3,
+    }
+}
+
 // The words in front that have this activity.
 fn words_ahead(words: &[u32], activity: u32) -> Ahead
     requires { ⌜ length (minutesOf (now words)) ≤ totalAtMost ⌝ }
@@ -182,7 +196,7 @@ fn words_ahead(words: &[u32], activity: u32) -> Ahead
     let mut i = 0;
     while i < words.len() {
         let word = words[i];
-        if word % 4 != activity {
+        if !has_activity(word, activity) {
             return Ahead { words: i, minutes };
         }
         minutes += word / 4;

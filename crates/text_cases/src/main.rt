@@ -115,10 +115,12 @@ fn damaged() {
 fn too_many() {
     read(b"(recording\n(week\n(rest 1)\n(work 1)\n(rest 1)\n(work 1)\n(rest 1)\n)\n)\n");
     read(
-        b"(recording\n(week\n(rest 10080)\n)\n(week\n(rest 10080)\n)\n(week\n(rest 10080)\n)\n(week\n(rest 10080)\n)\n(week\n(rest 10080)\n)\n(week\n(rest 10080)\n)\n(week\n(rest 10080)\n)\n(week\n(rest 10080)\n)\n(week\n(rest 10080)\n)\n(week\n(rest 10080)\n)\n(week\n(rest 10080)\n)\n(week\n(rest 10080)\n)\n)\n",
+        b"(recording\n(week\n(rest 10080)\n)\n(week\n(rest 10080)\n)\n(week\n(rest 10080)\n)\n(week\n(rest 10080)\n)\n(week\n(rest 10080)\n)\n(week\n(rest 10080)\n)\n(week\n(rest
+            10080)\n)\n(week\n(rest 10080)\n)\n(week\n(rest 10080)\n)\n(week\n(rest 10080)\n)\n(week\n(rest 10080)\n)\n(week\n(rest 10080)\n)\n)\n",
     );
     read(
-        b"(recording\n(week\n(rest 10080)\n)\n(week\n(rest 10080)\n)\n(week\n(rest 10080)\n)\n(week\n(rest 10080)\n)\n(week\n(rest 10080)\n)\n(week\n(rest 10080)\n)\n(week\n(rest 10080)\n)\n(week\n(rest 10080)\n)\n(week\n(rest 10080)\n)\n(week\n(rest 10080)\n)\n(week\n(rest 10080)\n)\n(week\n(rest 10080)\n)\n(week\n(rest 10080)\n)\n)\n",
+        b"(recording\n(week\n(rest 10080)\n)\n(week\n(rest 10080)\n)\n(week\n(rest 10080)\n)\n(week\n(rest 10080)\n)\n(week\n(rest 10080)\n)\n(week\n(rest 10080)\n)\n(week\n(rest
+            10080)\n)\n(week\n(rest 10080)\n)\n(week\n(rest 10080)\n)\n(week\n(rest 10080)\n)\n(week\n(rest 10080)\n)\n(week\n(rest 10080)\n)\n(week\n(rest 10080)\n)\n)\n",
     );
 }
 

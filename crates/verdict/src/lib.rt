@@ -359,7 +359,7 @@ fn next_active(words: &[u32], x: u32, bound: u32) -> u32
         i += 1;
         match activity {
             0 => {}
-            _ => {
+            1 | 2 | 3 | _ => {
                 if first <= at {
                     if bound <= first {
                         return bound;

@@ -1,5 +1,5 @@
 -- `entries::entry` meets its contract. Assumes nothing.
-use mathlib.Core.Path.{_≡_}
+use mathlib.Core.Path.{_≡_, refl}
 use mathlib.Core.List.{List}
 use native.Mathlib.Omega.{arith}
 use borrow.Author.Needs.{needs}
@@ -14,15 +14,15 @@ use Rattle.entries.proofs.entry.Tie as tie
 
 returns : tie.Need-returns
 unfolding entryAt _or_
-returns c = simp (ne-eqb _ _ (c .before .if1 .taken))
+returns c = simp (ne-eqb _ _ (c .before .if1 .taken)) (tt, refl)
 
 returns-2 : tie.Need-returns-2
 unfolding entryAt _or_
-returns-2 c = simp (eq-eqb _ _ (c .before .before .if1 .left), eq-eqb _ _ (c .before .if2 .taken))
+returns-2 c = simp (eq-eqb _ _ (c .before .before .if1 .left), eq-eqb _ _ (c .before .if2 .taken)) (tt, refl)
 
 returns-3 : tie.Need-returns-3
 unfolding entryAt _or_
-returns-3 c = simp (eq-eqb _ _ (c .before .before .before .if1 .left), ne-eqb _ _ (c .before .before .if2 .left), lt-ltb _ _ (c .before .if3 .taken))
+returns-3 c = simp (eq-eqb _ _ (c .before .before .before .if1 .left), ne-eqb _ _ (c .before .before .if2 .left), lt-ltb _ _ (c .before .if3 .taken)) (tt, refl)
 
 -- from a place to three bytes on are three bytes
 three-from : (reading : List ℕ) (at : ℕ) → take (at + entryBytes - at) (drop at reading) ≡ take entryBytes (drop at reading)
@@ -32,7 +32,7 @@ returns-4 : tie.Need-returns-4
 unfolding entryAt _or_
 returns-4 c =
     simp (eq-eqb _ _ (c .before .before .before .if1 .left), ne-eqb _ _ (c .before .before .if2 .left), le-ltb _ _ (c .before .if3 .left))
-    (three-from _ (entryBytes * ((c .before .before .before .before) .args .number - 1)))
+    ((refl, omega arith), three-from _ (entryBytes * ((c .before .before .before .before) .args .number - 1)))
 
 pub entry-spec : {M : Type 1} → statement M
 entry-spec =

@@ -20,19 +20,50 @@ returns-3 c = simp (le-leb _ _ (c .before .before .before .before .if1 .left), l
 
 returns-4 : tie.Need-returns-4
 unfolding brokenAt _and_
-returns-4 c = simp (le-leb _ _ (c .before .before .before .before .before .before .if1 .left), le-leb _ _ (c .before .before .before .before .if2 .left), le-leb _ _ (c .before .before .if3 .left), lt-leb _ _ (c .if4 .taken))
+returns-4 c = simp (
+  le-leb _ _ (c .before .before .before .before .before .before .if1 .left),
+  le-leb _ _ (c .before .before .before .before .if2 .left),
+  le-leb _ _
+      (c .before .before .if3 .left),
+  lt-leb _ _ (c .if4 .taken),
+)
 
 returns-5 : tie.Need-returns-5
 unfolding brokenAt _and_
-returns-5 c = simp (le-leb _ _ (c .before .before .before .before .before .before .before .before .if1 .left), le-leb _ _ (c .before .before .before .before .before .before .if2 .left), le-leb _ _ (c .before .before .before .before .if3 .left), le-leb _ _ (c .before .before .if4 .left), lt-leb _ _ (c .if5 .taken))
+returns-5 c = simp (
+  le-leb _ _ (c .before .before .before .before .before .before .before .before .if1 .left),
+  le-leb _ _
+      (c .before .before .before .before .before .before .if2 .left),
+  le-leb _ _ (c .before .before .before .before .if3 .left),
+  le-leb _ _ (c .before .before .if4 .left),
+  lt-leb _ _ (c .if5 .taken),
+)
 
 returns-6 : tie.Need-returns-6
 unfolding brokenAt _and_
-returns-6 c = simp (le-leb _ _ (c .before .before .before .before .before .before .before .before .before .before .if1 .left), le-leb _ _ (c .before .before .before .before .before .before .before .before .if2 .left), le-leb _ _ (c .before .before .before .before .before .before .if3 .left), le-leb _ _ (c .before .before .before .before .if4 .left), le-leb _ _ (c .before .before .if5 .left), lt-leb _ _ (c .if6 .taken))
+returns-6 c = simp (
+  le-leb _ _ (c .before .before .before .before .before .before .before .before .before .before .if1 .left),
+  le-leb _ _
+      (c .before .before .before .before .before .before .before .before .if2 .left),
+  le-leb _ _ (c .before .before .before .before .before .before .if3 .left),
+  le-leb _ _
+      (c .before .before .before .before .if4 .left),
+  le-leb _ _ (c .before .before .if5 .left),
+  lt-leb _ _ (c .if6 .taken),
+)
 
 returns-7 : tie.Need-returns-7
 unfolding brokenAt _and_
-returns-7 c = simp (le-leb _ _ (c .before .before .before .before .before .before .before .before .before .before .if1 .left), le-leb _ _ (c .before .before .before .before .before .before .before .before .if2 .left), le-leb _ _ (c .before .before .before .before .before .before .if3 .left), le-leb _ _ (c .before .before .before .before .if4 .left), le-leb _ _ (c .before .before .if5 .left), le-leb _ _ (c .if6 .left))
+returns-7 c = simp (
+  le-leb _ _ (c .before .before .before .before .before .before .before .before .before .before .if1 .left),
+  le-leb _ _
+      (c .before .before .before .before .before .before .before .before .if2 .left),
+  le-leb _ _ (c .before .before .before .before .before .before .if3 .left),
+  le-leb _ _
+      (c .before .before .before .before .if4 .left),
+  le-leb _ _ (c .before .before .if5 .left),
+  le-leb _ _ (c .if6 .left),
+)
 
 pub broken-at-spec : {M : Type 1} → statement M
 broken-at-spec =

@@ -20,13 +20,25 @@ part-after-requires : tie.Need-part-after-requires Inv-loop μ-loop
 part-after-requires c κs = ((c .before .before .before .before) .pre .0, omega (arith, (c .before .before .before .before) .pre .1, c .before .loop .inv .1))
 
 returns : tie.Need-returns Inv-loop μ-loop
-returns c = record { some = c .before .before .before .before .loop .inv .0; within = c .before .before .before .before .loop .inv .1; ran = part-ran ((c .before .before .before .before .before .before .before) .pre .0) (c .before .before .before .before .loop .inv .0) (omega (arith, c .before .before .before .before .loop .inv .2, c .before .before .before .loop-test .taken)) (c .before .before .part-after .ensures) (sym (c .before .same-breaches .ensures) ∙ c .if1 .taken) }
+returns c = record {
+  some = c .before .before .before .before .loop .inv .0;
+  within = c .before .before .before .before .loop .inv .1;
+  ran = part-ran
+      ((c .before .before .before .before .before .before .before) .pre .0) (c .before .before .before .before .loop .inv .0) (omega
+      (arith, c .before .before .before .before .loop .inv .2, c .before .before .before .loop-test .taken)) (c .before .before .part-after .ensures) (sym (c .before .same-breaches .ensures)
+      ∙ c .if1 .taken);
+}
 
 part-after-requires-2 : tie.Need-part-after-requires-2 Inv-loop μ-loop
 part-after-requires-2 c κs = ((c .before .before .before .before) .pre .0, omega (arith, (c .before .before .before .before) .pre .1, (c .before .before .before .before) .pre .2))
 
 returns-2 : tie.Need-returns-2 Inv-loop μ-loop
-returns-2 c = record { some = omega arith; within = omega (arith, (c .before .before .before .before .before) .pre .2); ran = minute-ran ((c .before .before .before .before .before) .pre .0) (c .part-after2 .ensures) }
+returns-2 c = record {
+  some = omega arith;
+  within = omega (arith, (c .before .before .before .before .before) .pre .2);
+  ran = minute-ran ((c .before .before .before .before .before) .pre .0)
+      (c .part-after2 .ensures);
+}
 
 pub next-part-spec : {M : Type 1} → statement M
 next-part-spec =

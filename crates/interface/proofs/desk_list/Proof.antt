@@ -68,7 +68,8 @@ module _ {M : Type 1} (𝓤 : URA M) (H : Heap 𝓤) (A : Atoms 𝓤) (mem : Mem
   abbrev Coding : Contract 𝓤
   Coding = tripleOf 𝓤 H A count-code.signature (count-code.spec 𝓤 H A mem run)
 
-module _ {M : Type 1} (𝓤 : URA M) (H : Heap 𝓤) (A : Atoms 𝓤) (W : Given 𝓤 H A) (mem : Memory → SProp 𝓤) (run : Routine → Fun 𝓤) (κ₀ κ₁ : Lft) (q₀ q₁ : Share) (ws : RefT (List ℕ)) (x : RefT (List Span)) where
+module _ {M : Type 1} (𝓤 : URA M) (H : Heap 𝓤) (A : Atoms 𝓤) (W : Given 𝓤 H A) (mem : Memory → SProp 𝓤) (run : Routine → Fun 𝓤) (κ₀ κ₁ : Lft) (q₀ q₁ : Share) (ws : RefT (List ℕ)) (x : RefT
+    (List Span)) where
   abbrev wv : Val
   wv = sliceVal (ws .ptr) (length (ws .now))
 
@@ -98,7 +99,8 @@ module _ {M : Type 1} (𝓤 : URA M) (H : Heap 𝓤) (A : Atoms 𝓤) (W : Given
   abbrev to-listing : Listing 𝓤 H A mem run .Ghost
   to-listing = (((κ₀, (κ₁, tt)), (q₀, (q₁, tt)), tt, a, vals), tt)
 
-  goes-listing : ent 𝓤 (sep 𝓤 (sep 𝓤 (A .lft κ₀ q₀) (sep 𝓤 (A .lft κ₁ q₁) (emp 𝓤))) (sem 𝓤 H A (owns (ShrSlice (named 0) κ₀ u32 ∷ MutSlice (named 1) κ₁ T.the-row ∷ []) a vals))) (Listing 𝓤 H A mem run .pre to-listing)
+  goes-listing : ent 𝓤 (sep 𝓤 (sep 𝓤 (A .lft κ₀ q₀) (sep 𝓤 (A .lft κ₁ q₁) (emp 𝓤))) (sem 𝓤 H A (owns (ShrSlice (named 0) κ₀ u32 ∷ MutSlice (named 1) κ₁ T.the-row ∷ []) a vals)))
+      (Listing 𝓤 H A mem run .pre to-listing)
   goes-listing = qed W ((‵ (flft κ₀ q₀) ⊛ ‵ (flft κ₁ q₁) ⊛ ‵ ftrue) ∷ ‵ (owns (ShrSlice (named 0) κ₀ u32 ∷ MutSlice (named 1) κ₁ T.the-row ∷ []) a vals) ∷ []) ∵ join ! $ frame ! $ done !
 
   -- the call of `count_code`
@@ -119,7 +121,8 @@ module _ {M : Type 1} (𝓤 : URA M) (H : Heap 𝓤) (A : Atoms 𝓤) (W : Given
       suffices ! _ (assoc∗ 𝓤 (onExit 𝓤 H A top.ended stayed (κ₀, (κ₁, tt)) (q₀, (q₁, tt)) vals v n a (tt, (zs, tt))) (fact 𝓤 (n ≡ codeOf itself (counted due))) (fact 𝓤 (zs ≡ filled due (x .now)))) $
       says ! g $ says ! e $ frame ! $ nothing ! $ move ! (1 ∷ 0 ∷ []) $ fjoin ! $ nothing ! $ fjoin ! $ frame ! $ done !
 
-  module _ (C : Calls 𝓤 H) (Λ : Loops 𝓤 H) (fm : FmC 𝓤 H (W .laws) C) (known-listing : Triple 𝓤 (C #listing·list-long-rests) (Listing 𝓤 H A mem run)) (known-code : Triple 𝓤 (C #interface·count-code) (Coding 𝓤 H A mem run)) where
+  module _ (C : Calls 𝓤 H) (Λ : Loops 𝓤 H) (fm : FmC 𝓤 H (W .laws) C) (known-listing : Triple 𝓤 (C #listing·list-long-rests) (Listing 𝓤 H A mem run)) (known-code : Triple 𝓤
+      (C #interface·count-code) (Coding 𝓤 H A mem run)) where
     walk : Room u32 (length (ws .now)) → Room T.the-row (length (x .now)) → ent 𝓤 (onEntry 𝓤 H A top.signature (κ₀, (κ₁, tt)) (q₀, (q₁, tt)) a vals) (WpFn 𝓤 H C Λ code.function (wv ∷ sl ∷ []) Post)
     walk room₀ room₁ =
         qed W ((‵ (flft κ₀ q₀) ⊛ ‵ (flft κ₁ q₁) ⊛ ‵ ftrue) ∷ ‵ (owns (ShrSlice (named 0) κ₀ u32 ∷ MutSlice (named 1) κ₁ T.the-row ∷ []) a vals) ∷ []) ∵ enter ! C Λ code.function (wv ∷ sl ∷ []) _ $
@@ -127,12 +130,15 @@ module _ {M : Type 1} (𝓤 : URA M) (H : Heap 𝓤) (A : Atoms 𝓤) (W : Given
         pass1 ! (init ! 8 refl (tt, (tt, (record { fits = room₀ .0 }, tt)))) $ pass1 ! (init ! 6 refl (tt, (tt, (record { fits = room₁ .0 }, tt)))) $ pass0 ! $
         -- [_5; …; _0; …; the tokens; what the slices own]: local j stands at 2 · (5 − j)
         assigns ! (addr ! (from ! (fld ! refl (hop ! (look-in ! 6 (sub ! 0 refl (whole !))) (stop !))))) (from ! (stop !)) (init ! 2 refl (tt, tt)) $
-        assigns ! (agg ! (and-then ! (load ! (from ! (stop !)) (look ! 2 refl)) (and-then ! (load ! (from ! (fld ! refl (stop !))) (look-in ! 6 (sub ! 1 refl (whole !)))) (no-more !)))) (from ! (stop !)) (init ! 0 refl (tt, (tt, (record { fits = room₁ .0 }, tt)))) $
+        assigns ! (agg ! (and-then ! (load ! (from ! (stop !)) (look ! 2 refl)) (and-then ! (load ! (from ! (fld ! refl (stop !))) (look-in ! 6 (sub ! 1 refl (whole !)))) (no-more !))))
+        (from ! (stop !)) (init ! 0 refl (tt, (tt, (record { fits = room₁ .0 }, tt)))) $
         move ! (12 ∷ 13 ∷ []) $ use2 W (raw (Listing 𝓤 H A mem run .pre to-listing)) goes-listing $
         calls-at ! fm (Listing 𝓤 H A mem run) known-listing to-listing (and-then ! (load ! (from ! (stop !)) (look ! 9 refl)) (and-then ! (load ! (from ! (stop !)) (look ! 1 refl)) (no-more !))) (λ u.
-        use1 W (later (some (λ (r : Filling). ((‵ (flft κ₀ q₀) ⊛ ‵ (flft κ₁ q₁) ⊛ ‵ ftrue) ⊛ ‵ (E.the-row .own r (u ∷ []))) ⊛ raw (ensured 𝓤 H A list-long-rests.ended (list-long-rests.clauses 𝓤 H A mem run) (κ₀, (κ₁, tt)) a tt r)))) (id⊢ 𝓤 _) $ await ! tt $ pick ! (λ r.
+        use1 W (later (some (λ (r : Filling). ((‵ (flft κ₀ q₀) ⊛ ‵ (flft κ₁ q₁) ⊛ ‵ ftrue) ⊛ ‵ (E.the-row .own r (u ∷ []))) ⊛ raw (ensured 𝓤 H A list-long-rests.ended
+        (list-long-rests.clauses 𝓤 H A mem run) (κ₀, (κ₁, tt)) a tt r)))) (id⊢ 𝓤 _) $ await ! tt $ pick ! (λ r.
         -- what `list_long_rests` ensures, at some last list
-        split ! $ move ! (1 ∷ []) $ use1 W (some (λ (zs : Unit {0} × (List Span × Unit {0})). ‵ (lasts list-long-rests.ended (κ₀, (κ₁, tt)) a zs) ⊛ raw (fact 𝓤 (written r ≡ counted due)) ⊛ raw (fact 𝓤 (zs .1 .0 ≡ filled due (x .now))))) (id⊢ 𝓤 _) $ pick ! (λ zs.
+        split ! $ move ! (1 ∷ []) $ use1 W (some (λ (zs : Unit {0} × (List Span × Unit {0})). ‵ (lasts list-long-rests.ended (κ₀, (κ₁, tt)) a zs) ⊛ raw (fact 𝓤
+        (written r ≡ counted due)) ⊛ raw (fact 𝓤 (zs .1 .0 ≡ filled due (x .now))))) (id⊢ 𝓤 _) $ pick ! (λ zs.
         split ! $ move ! (1 ∷ []) $ split ! $ heard ! (written r ≡ counted due) (λ answer. heard ! (zs .1 .0 ≡ filled due (x .now)) (λ content.
         fsplit ! $ drop ! $ fsplit ! $ fsplit ! $ move ! (1 ∷ []) $ feqL ! (λ l. move ! (1 ∷ []) $ drop ! $
         -- [the last list; the tokens and the answer; _5; …]
@@ -141,13 +147,15 @@ module _ {M : Type 1} (𝓤 : URA M) (H : Heap 𝓤) (A : Atoms 𝓤) (W : Given
         land ! (from ! (stop !)) (init ! 7 refl (EL.lawful E.the-type E′.the-laws 𝓤 H A W tt .typed r _ is .0)) $
         use1 W (raw (Coding 𝓤 H A mem run .pre (to-code r u))) (goes-code r u) $
         calls-at ! fm (Coding 𝓤 H A mem run) known-code (to-code r u) (and-then ! (load ! (from ! (stop !)) (look ! 7 refl)) (no-more !)) (λ v.
-        use1 W (later (some (λ (n : ℕ). (‵ ftrue ⊛ ‵ (u64 .own n (v ∷ []))) ⊛ raw (ensured 𝓤 H A count-code.ended (count-code.clauses 𝓤 H A mem run) tt (r, tt) tt n)))) (id⊢ 𝓤 _) $ await ! tt $ pick ! (λ n.
+        use1 W (later (some (λ (n : ℕ). (‵ ftrue ⊛ ‵ (u64 .own n (v ∷ []))) ⊛ raw (ensured 𝓤 H A count-code.ended (count-code.clauses 𝓤 H A mem run) tt (r, tt) tt n))))
+        (id⊢ 𝓤 _) $ await ! tt $ pick ! (λ n.
         split ! $ move ! (1 ∷ []) $ use1 W (raw (fact 𝓤 (n ≡ codeOf itself (written r)))) (code-said r n) $ heard ! (n ≡ codeOf itself (written r)) (λ number. split ! $ drop ! $
         -- [what the number owns; the tokens; the last list; _5; …]
         peeks ! u64 (Is u64) (shows 𝓤 H A u64) n (v ∷ []) (λ fits.
         land ! (from ! (stop !)) (init ! 13 refl (uint-lawful 𝓤 H A W w64 .typed n _ fits .0)) $
         returns ! (look ! 13 refl) $ forget ! 3 refl $ forget ! 5 refl $ forget ! 7 refl $ forget ! 9 refl $ forget ! 11 refl $ forget ! 13 refl $
-        move ! (13 ∷ 14 ∷ []) $ free1 ! $ move ! (11 ∷ 12 ∷ []) $ free1 ! $ move ! (9 ∷ 10 ∷ []) $ free1 ! $ move ! (7 ∷ 8 ∷ []) $ free1 ! $ move ! (5 ∷ 6 ∷ []) $ free1 ! $ move ! (3 ∷ 4 ∷ []) $ free1 ! $ free0 ! $
+        move ! (13 ∷ 14 ∷ []) $ free1 ! $ move ! (11 ∷ 12 ∷ []) $ free1 ! $ move ! (9 ∷ 10 ∷ []) $ free1 ! $ move ! (7 ∷ 8 ∷ []) $ free1 ! $ move ! (5 ∷ 6 ∷ []) $ free1 ! $ move !
+        (3 ∷ 4 ∷ []) $ free1 ! $ free0 ! $
         keep ! (1 ∷ 2 ∷ 0 ∷ []) $ by ! (exits (zs .1 .0) n v (number ∙ ap (codeOf itself) answer) content l))))))))))))))))))
 
 module _ {M : Type 1} (𝓤 : URA M) (H : Heap 𝓤) (A : Atoms 𝓤) (W : Given 𝓤 H A) (mem : Memory → SProp 𝓤) (run : Routine → Fun 𝓤) where
@@ -155,13 +163,21 @@ module _ {M : Type 1} (𝓤 : URA M) (H : Heap 𝓤) (A : Atoms 𝓤) (W : Given
       → Walks 𝓤 H A top.ended stayed (WpFn 𝓤 H C Λ code.function) (top.clauses 𝓤 H A mem run)
   desk-list-walks C Λ fm known-listing known-code = walked 𝓤 H A top.ended stayed (top.clauses 𝓤 H A mem run) (WpFn 𝓤 H C Λ code.function)
       (λ κs. (slice-vals, (slice-vals, tt))) (λ κs. (shr-slice-tells (named 0) (κs .0) u32, (mut-slice-tells (named 1) (κs .1 .0) T.the-row, tt)))
-      (λ κs qs bounds a g are. via 𝓤 _ (fst∗ 𝓤 _ (emp 𝓤)) (walk 𝓤 H A W mem run (κs .0) (κs .1 .0) (qs .0) (qs .1 .0) (a .0) (a .1 .0) C Λ fm known-listing known-code (are .0 .0 .1) (are .1 .0 .0 .1)))
+      (λ κs qs bounds a g are. via 𝓤 _ (fst∗ 𝓤 _ (emp 𝓤)) (walk 𝓤 H A W mem run (κs .0) (κs .1 .0) (qs .0) (qs .1 .0) (a .0) (a .1 .0) C Λ fm known-listing known-code (are .0 .0 .1)
+      (are .1 .0 .0 .1)))
 
 desk-list-meets : {M : Type 1} (𝓤 : URA M) (H : Heap 𝓤) (A : Atoms 𝓤) → Given 𝓤 H A → (mem : Memory → SProp 𝓤) (run : Routine → Fun 𝓤) (𝓣 : Tables 𝓤 H)
     → Triple 𝓤 (𝓣 .C #listing·list-long-rests) (Listing 𝓤 H A mem run) → Triple 𝓤 (𝓣 .C #interface·count-code) (Coding 𝓤 H A mem run)
     → Meets 𝓤 H A top.signature (WpFn 𝓤 H (𝓣 .C) (𝓣 .Λ) code.function) (top.spec 𝓤 H A mem run)
 desk-list-meets 𝓤 H A W mem run 𝓣 known-listing known-code =
-    walk-meets 𝓤 H A top.ended stayed W (goes-dropped 𝓤 H A W 2 (shrSliceOf (0 ∷ []) tt (plain (λ _. u32))) yes (λ κs x f. refl), (goes-gave-slice 𝓤 H A W 2 1 tt (plain (λ _. T.the-row)), tt)) (top.clauses 𝓤 H A mem run)
+    walk-meets 𝓤 H A top.ended stayed W (
+      goes-dropped 𝓤 H A W 2 (shrSliceOf (0 ∷ []) tt (plain (λ _. u32))) yes (λ κs x f. refl),
+      (
+        goes-gave-slice 𝓤 H A W 2 1 tt (plain
+            (λ _. T.the-row)),
+        tt,
+      ),
+    ) (top.clauses 𝓤 H A mem run)
     (WpFn 𝓤 H (𝓣 .C) (𝓣 .Λ) code.function) (WpFn-mono 𝓤 H (W .laws) 𝓣 code.function) (desk-list-walks 𝓤 H A W mem run (𝓣 .C) (𝓣 .Λ) (fmOf 𝓤 H (W .laws) 𝓣) known-listing known-code)
 
 pub desk-list-spec : {M : Type 1} → stated.statement M

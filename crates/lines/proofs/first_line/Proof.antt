@@ -11,13 +11,18 @@ returns : tie.Need-returns
 returns c = first-open ((c .before .before .before) .args .text .now) (c .before .line-length .ensures) (c .if1 .taken) ((c .before .before .before) .pre)
 
 slice-aggregate-line-of : tie.Need-slice-aggregate-line-of
-slice-aggregate-line-of c = sym (length-take-le (c .before .before .line-length .result) ((c .before .before .before .before) .args .text .now) (omega (arith, line-within ((c .before .before .before .before) .args .text .now))))
+slice-aggregate-line-of c = sym (length-take-le (c .before .before .line-length .result) ((c .before .before .before .before) .args .text .now) (omega (
+  arith,
+  line-within
+      ((c .before .before .before .before) .args .text .now),
+)))
 
 add-t4 : tie.Need-add-t4
 add-t4 c = omega (arith, c .before .before .before .line-length .ensures, line-within ((c .before .before .before .before .before) .args .text .now))
 
 returns-2 : tie.Need-returns-2
-returns-2 c = first-cut ((c .before .before .before .before .before) .args .text .now) (c .before .before .before .line-length .ensures) (c .before .before .if1 .left) (c .line-of .ensures) (omega arith)
+returns-2 c = first-cut ((c .before .before .before .before .before) .args .text .now) (c .before .before .before .line-length .ensures) (c .before .before .if1 .left) (c .line-of .ensures)
+    (omega arith)
 
 pub first-line-spec : {M : Type 1} → statement M
 first-line-spec =

@@ -28,8 +28,10 @@ use prog.Wp.{Heap, Out, Env, afterSeq, afterBlock, afterTurn, Calls, Loops, Wp, 
 use ghost.Atoms.{Atoms, sem}
 use contract.Monad.{Fun, fact}
 use contract.Running.{givenOf, tables, tablesOf}
-use types.Kit.{Given, Item, ‵, raw, _⊛_, some, later, ⋆, runs, anyQ, atRet, Sq, _$_, _∵_, !, qed, by, move, drop, use0, use1, use2, split, join, pick, rewrite, fsplit, fjoin, suffices, frame, await, done}
-use types.Run.{look, init, store, store-raw, forget, stop, hop, fld, from, load, lit, of-opd, bin, and-then, no-more, assigns, assigns-last, land, first, blocks, stays, leaves-loop, returns, enter, alloc1, alloc0, params1, pass1, pass0, free1, free0, exec, Below, again, loops}
+use types.Kit.{Given, Item, ‵, raw, _⊛_, some, later, ⋆, runs, anyQ, atRet, Sq, _$_, _∵_, !, qed, by, move, drop, use0, use1, use2, split, join, pick, rewrite, fsplit, fjoin, suffices}
+use types.Kit.{frame, await, done}
+use types.Run.{look, init, store, store-raw, forget, stop, hop, fld, from, load, lit, of-opd, bin, and-then, no-more, assigns, assigns-last, land, first, blocks, stays, leaves-loop, returns}
+use types.Run.{enter, alloc1, alloc0, params1, pass1, pass0, free1, free0, exec, Below, again, loops}
 use types.Part.{whole, sub, look-in}
 use sound.WpLaws.{FmC, fmOf, WpFn-mono}
 use denote.RattleType.{owns}
@@ -124,7 +126,8 @@ module _ {M : Type 1} (𝓤 : URA M) (H : Heap 𝓤) (A : Atoms 𝓤) (mem : Mem
   abbrev AnswerOf : Contract 𝓤
   AnswerOf = tripleOf 𝓤 H A answer-of.signature (answer-of.spec 𝓤 H A mem run)
 
-module _ {M : Type 1} (𝓤 : URA M) (H : Heap 𝓤) (A : Atoms 𝓤) (W : Given 𝓤 H A) (mem : Memory → SProp 𝓤) (run : Routine → Fun 𝓤) (κ₀ κ₁ : Lft) (q₀ q₁ : Share) (ws : RefT (List ℕ)) (b o : ℕ) (γ : GName) (ys : List Span) (room : Room T.the-row (length ys)) where
+module _ {M : Type 1} (𝓤 : URA M) (H : Heap 𝓤) (A : Atoms 𝓤) (W : Given 𝓤 H A) (mem : Memory → SProp 𝓤) (run : Routine → Fun 𝓤) (κ₀ κ₁ : Lft) (q₀ q₁ : Share) (ws : RefT (List ℕ)) (b o : ℕ)
+    (γ : GName) (ys : List Span) (room : Room T.the-row (length ys)) where
   abbrev x : List Span → RefT (List Span)
   x l = record { ptr = (b, o); name = γ; now = l }
 
@@ -208,7 +211,11 @@ module _ {M : Type 1} (𝓤 : URA M) (H : Heap 𝓤) (A : Atoms 𝓤) (W : Given
         suffices ! _ (assoc∗ 𝓤 (onExit 𝓤 H A top.ended stayed (κ₀, (κ₁, tt)) (q₀, (q₁, tt)) vals u r a (tt, (zs k, tt))) (fact 𝓤 (written r ≡ counted due)) (fact 𝓤 (zs k ≡ filled due ys))) $
         says ! (list-filled ys finds) $ says ! (ap written e ∙ finds .answer) $
         move ! (4 ∷ []) $ split ! $ move ! (5 ∷ 1 ∷ []) $ join ! $ move ! (1 ∷ 0 ∷ []) $ join ! $ frame ! $
-        move ! (1 ∷ 2 ∷ []) $ fjoin ! $ pureI ! (at-slice T.the-row (x (zs k)) (sl ∷ [])) (tt, (tt, tt)) (ap (λ (m : ℕ). sliceVal (b, o) m ∷ []) (sym (stored-length k (spanIn f) ys)), subst (Room T.the-row) (sym (stored-length k (spanIn f) ys)) room) $ fjoin ! $
+        move ! (1 ∷ 2 ∷ []) $ fjoin ! $ pureI ! (at-slice T.the-row (x (zs k)) (sl ∷ [])) (tt, (tt, tt)) (
+          ap (λ (m : ℕ). sliceVal (b, o) m ∷ []) (sym (stored-length k (spanIn f) ys)),
+          subst
+              (Room T.the-row) (sym (stored-length k (spanIn f) ys)) room,
+        ) $ fjoin ! $
         nothing ! $ move ! (1 ∷ 0 ∷ []) $ fjoin ! $ nothing ! $ fjoin ! $ frame ! $ done !
 
     abbrev Upto : Type 0
@@ -220,7 +227,8 @@ module _ {M : Type 1} (𝓤 : URA M) (H : Heap 𝓤) (A : Atoms 𝓤) (W : Given
     Nearer-wf : WellFounded Nearer
     Nearer-wf = InvImage·wf (λ (i : Upto). k - i .0) (Nat·lt-wfRel .wf)
 
-    module _ (𝓣 : Tables 𝓤 H) (known-span : Triple 𝓤 (𝓣 .C #listing·span-at) (SpanAt 𝓤 H A mem run)) (known-answer : Triple 𝓤 (𝓣 .C #listing·answer-of) (AnswerOf 𝓤 H A mem run)) (l₀ l₁ l₂ l₃ l₄ l₅ l₆ l₇ l₈ l₉ l₁₀ : ℕ) where
+    module _ (𝓣 : Tables 𝓤 H) (known-span : Triple 𝓤 (𝓣 .C #listing·span-at) (SpanAt 𝓤 H A mem run)) (known-answer : Triple 𝓤 (𝓣 .C #listing·answer-of) (AnswerOf 𝓤 H A mem run))
+        (l₀ l₁ l₂ l₃ l₄ l₅ l₆ l₇ l₈ l₉ l₁₀ : ℕ) where
       abbrev C : Calls 𝓤 H
       C = 𝓣 .C
 
@@ -259,8 +267,10 @@ module _ {M : Type 1} (𝓤 : URA M) (H : Heap 𝓤) (A : Atoms 𝓤) (W : Given
           rewrite ! 11 (λ (t : Bool). ‵ (fat fullShare tyBool l₇ 0 (vbool t))) test refl $ stays ! (load ! (from ! (stop !)) (look ! 11 refl)) $
           -- the record
           use0 W (raw (SpanAt 𝓤 H A mem run .pre (to-span (i .0)))) (goes-span (i .0) (below (i .0) k longRestsAtMost less (finds .few)) (fits (i .0) k (i .1) (finds .few))) $
-          calls-at ! fm (SpanAt 𝓤 H A mem run) known-span (to-span (i .0)) (and-then ! (load ! (from ! (stop !)) (look ! 20 refl)) (and-then ! (load ! (from ! (stop !)) (look ! 16 refl)) (no-more !))) (λ u.
-          use1 W (later (some (λ (s : Span). (‵ ftrue ⊛ ‵ (T.the-row .own s (u ∷ []))) ⊛ raw (ensured 𝓤 H A span-at.ended (span-at.clauses 𝓤 H A mem run) tt (f, (i .0, tt)) tt s)))) (id⊢ 𝓤 _) $ await ! tt $ pick ! (λ s.
+          calls-at ! fm (SpanAt 𝓤 H A mem run) known-span (to-span (i .0)) (and-then ! (load ! (from ! (stop !)) (look ! 20 refl)) (and-then ! (load ! (from ! (stop !)) (look ! 16 refl))
+          (no-more !))) (λ u.
+          use1 W (later (some (λ (s : Span). (‵ ftrue ⊛ ‵ (T.the-row .own s (u ∷ []))) ⊛ raw (ensured 𝓤 H A span-at.ended (span-at.clauses 𝓤 H A mem run) tt (f, (i .0, tt)) tt s))))
+          (id⊢ 𝓤 _) $ await ! tt $ pick ! (λ s.
           split ! $ move ! (1 ∷ []) $ use1 W (raw (fact 𝓤 (s ≡ spanIn f (i .0)))) (span-said (i .0) s) $ heard ! (s ≡ spanIn f (i .0)) (λ e. split ! $ drop ! $
           peeks ! T.the-row (Is T.the-row) (shows 𝓤 H A T.the-row) s (u ∷ []) (λ is.
           land ! (from ! (stop !)) (init ! 10 refl (LL.lawful T.the-type T′.the-laws 𝓤 H A W .typed s _ is .0)) $
@@ -274,7 +284,8 @@ module _ {M : Type 1} (𝓤 : URA M) (H : Heap 𝓤) (A : Atoms 𝓤) (W : Given
           move ! (1 ∷ []) $ drop ! $ move ! (0 ∷ 2 ∷ 1 ∷ []) $ elem-put ! T.the-row fullShare (zs (i .0)) (i .0) s (u ∷ []) b o in₀ $
           rewrite ! 0 (λ (m : Span). ‵ (row T.the-row fullShare (set (zs (i .0)) (i .0) m) b o)) e refl $
           -- i = i + 1
-          assigns-last ! (bin ! (load ! (from ! (stop !)) (look ! 15 refl)) (lit ! tt) (record { fits = fits (i .0 + 1) k (add-one-le less) (finds .few) })) (from ! (stop !)) (store ! 15 refl (tt, record { fits = fits (i .0 + 1) k (add-one-le less) (finds .few) })) $
+          assigns-last ! (bin ! (load ! (from ! (stop !)) (look ! 15 refl)) (lit ! tt) (record { fits = fits (i .0 + 1) k (add-one-le less) (finds .few) })) (from ! (stop !))
+          (store ! 15 refl (tt, record { fits = fits (i .0 + 1) k (add-one-le less) (finds .few) })) $
           forget ! 11 refl $ forget ! 9 refl $ forget ! 7 refl $ forget ! 5 refl $ rewrite ! 0 (λ (m : ℕ). ‵ (row T.the-row fullShare (zs m) b o)) (sym (one-more (i .0))) refl $
           again ! Nearer At i (i .0 + 1, add-one-le less) (add-one-dec k (i .0) less))))))
         where
@@ -295,12 +306,15 @@ module _ {M : Type 1} (𝓤 : URA M) (H : Heap 𝓤) (A : Atoms 𝓤) (W : Given
           -- [obs; the borrow; the list's token; the words'; _10; …]
           use0 W (raw (AnswerOf 𝓤 H A mem run .pre to-answer)) goes-answer $
           calls-at ! fm (AnswerOf 𝓤 H A mem run) known-answer to-answer (and-then ! (load ! (from ! (stop !)) (look ! 19 refl)) (no-more !)) (λ u.
-          use1 W (later (some (λ (r : Filling). (‵ ftrue ⊛ ‵ (E.the-row .own r (u ∷ []))) ⊛ raw (ensured 𝓤 H A answer-of.ended (answer-of.clauses 𝓤 H A mem run) tt (f, tt) tt r)))) (id⊢ 𝓤 _) $ await ! tt $ pick ! (λ r.
+          use1 W (later (some (λ (r : Filling). (‵ ftrue ⊛ ‵ (E.the-row .own r (u ∷ []))) ⊛ raw (ensured 𝓤 H A answer-of.ended (answer-of.clauses 𝓤 H A mem run) tt (f, tt) tt r))))
+          (id⊢ 𝓤 _) $ await ! tt $ pick ! (λ r.
           split ! $ move ! (1 ∷ []) $ use1 W (raw (fact 𝓤 (r ≡ f .answer))) (answer-said r) $ heard ! (r ≡ f .answer) (λ e. split ! $ drop ! $
           peeks ! E.the-row (Is E.the-row) (shows 𝓤 H A E.the-row) r (u ∷ []) (λ is.
           land ! (from ! (stop !)) (init ! 25 refl (EL.lawful E.the-type E′.the-laws 𝓤 H A W tt .typed r _ is .0)) $
           returns ! (look ! 25 refl) $ forget ! 25 refl $ forget ! 23 refl $ forget ! 21 refl $ forget ! 19 refl $ forget ! 17 refl $ forget ! 15 refl $ forget ! 13 refl $ forget ! 11 refl $
-          move ! (25 ∷ 26 ∷ []) $ free1 ! $ move ! (23 ∷ 24 ∷ []) $ free1 ! $ move ! (21 ∷ 22 ∷ []) $ free1 ! $ move ! (19 ∷ 20 ∷ []) $ free1 ! $ move ! (17 ∷ 18 ∷ []) $ free1 ! $ move ! (15 ∷ 16 ∷ []) $ free1 ! $ move ! (13 ∷ 14 ∷ []) $ free1 ! $ move ! (11 ∷ 12 ∷ []) $ free1 ! $ move ! (9 ∷ 10 ∷ []) $ free1 ! $ move ! (7 ∷ 8 ∷ []) $ free1 ! $ move ! (5 ∷ 6 ∷ []) $ free1 ! $ free0 ! $ by ! (exits r u e)))))
+          move ! (25 ∷ 26 ∷ []) $ free1 ! $ move ! (23 ∷ 24 ∷ []) $ free1 ! $ move ! (21 ∷ 22 ∷ []) $ free1 ! $ move ! (19 ∷ 20 ∷ []) $ free1 ! $ move ! (17 ∷ 18 ∷ []) $ free1 ! $ move !
+          (15 ∷ 16 ∷ []) $ free1 ! $ move ! (13 ∷ 14 ∷ []) $ free1 ! $ move ! (11 ∷ 12 ∷ []) $ free1 ! $ move ! (9 ∷ 10 ∷ []) $ free1 ! $ move ! (7 ∷ 8 ∷ []) $ free1 ! $ move !
+          (5 ∷ 6 ∷ []) $ free1 ! $ free0 ! $ by ! (exits r u e)))))
 
       turn-at : (i : Upto) (t : Bool) → ltb (i .0) k ≡ t → Sq W (At i) (runs C Λ En part.turn-1 (anyQ (Turned i)))
       turn-at i true test = more i test (ltb→lt (i .0) k (subst Holds (sym test) tt))
@@ -310,25 +324,39 @@ module _ {M : Type 1} (𝓤 : URA M) (H : Heap 𝓤) (A : Atoms 𝓤) (W : Given
       turns i = turn-at i (ltb (i .0) k) refl
 
       -- from where f lies in its local, up to the loop
-      opened : Sq W ((‵ (flft κ₀ q₀) ⊛ ‵ ftrue) ∷ (‵ (flft κ₁ q₁) ⊛ ‵ ftrue) ∷ ‵ (fsep (MutSlice (named 1) κ₁ T.the-row .own (x ys) (sl ∷ [])) ftrue) ∷ above (‵ (froom word l₅ 0) ∷ ‵ (fdies word l₅) ∷ ‵ (froom word l₄ 0) ∷ ‵ (fdies word l₄) ∷ under)) (runs C Λ En part.t-3 (atRet En Post))
+      opened : Sq W ((‵ (flft κ₀ q₀) ⊛ ‵ ftrue) ∷ (‵ (flft κ₁ q₁) ⊛ ‵ ftrue) ∷ ‵ (fsep (MutSlice (named 1) κ₁ T.the-row .own (x ys) (sl ∷ [])) ftrue) ∷ above (‵ (froom word l₅ 0) ∷ ‵
+          (fdies word l₅) ∷ ‵ (froom word l₄ 0) ∷ ‵ (fdies word l₄) ∷ under)) (runs C Λ En part.t-3 (atRet En Post))
       opened =
-          assigns ! (of-opd ! (load ! (from ! (fld ! refl (stop !))) (look-in ! 17 (sub ! 1 refl (whole !))))) (from ! (stop !)) (init ! 15 refl (tt, record { fits = fits k k (le-refl k) (finds .few) })) $
+          assigns ! (of-opd ! (load ! (from ! (fld ! refl (stop !))) (look-in ! 17 (sub ! 1 refl (whole !))))) (from ! (stop !)) (init ! 15 refl (
+            tt,
+            record {
+              fits = fits k k (le-refl k)
+                  (finds .few);
+            },
+          )) $
           assigns ! (of-opd ! (lit ! tt)) (from ! (stop !)) (init ! 13 refl (tt, record { fits = lit< tt })) $
           -- the list is opened
           move ! (2 ∷ []) $ fsplit ! $ fsplit ! $ drop ! $ fsplit ! $ move ! (4 ∷ []) $ split ! $ move ! (2 ∷ 3 ∷ 0 ∷ []) $ opens-slice ! tt T.the-row ys b o $
           move ! (4 ∷ 5 ∷ []) $ drop ! $ drop ! $ first ! $ blocks ! $ loops ! 𝓣 Nearer Nearer-wf At turns (0, zero-le)
 
-  module _ (𝓣 : Tables 𝓤 H) (known-scan : Triple 𝓤 (𝓣 .C #listing·scan-of) (ScanOf 𝓤 H A mem run)) (known-span : Triple 𝓤 (𝓣 .C #listing·span-at) (SpanAt 𝓤 H A mem run)) (known-answer : Triple 𝓤 (𝓣 .C #listing·answer-of) (AnswerOf 𝓤 H A mem run)) where
+  module _ (𝓣 : Tables 𝓤 H) (known-scan : Triple 𝓤 (𝓣 .C #listing·scan-of) (ScanOf 𝓤 H A mem run)) (known-span : Triple 𝓤 (𝓣 .C #listing·span-at) (SpanAt 𝓤 H A mem run))
+      (known-answer : Triple 𝓤 (𝓣 .C #listing·answer-of) (AnswerOf 𝓤 H A mem run)) where
     walk : Room u32 (length (ws .now)) → ent 𝓤 (onEntry 𝓤 H A top.signature (κ₀, (κ₁, tt)) (q₀, (q₁, tt)) a vals) (WpFn 𝓤 H (𝓣 .C) (𝓣 .Λ) code.function (wv ∷ sl ∷ []) Post)
     walk room₁ =
-        qed W ((‵ (flft κ₀ q₀) ⊛ ‵ (flft κ₁ q₁) ⊛ ‵ ftrue) ∷ ‵ (owns (ShrSlice (named 0) κ₀ u32 ∷ MutSlice (named 1) κ₁ T.the-row ∷ []) a vals) ∷ []) ∵ enter ! (𝓣 .C) (𝓣 .Λ) code.function (wv ∷ sl ∷ []) _ $
-        alloc1 ! (λ l₀. alloc1 ! (λ l₁. alloc1 ! (λ l₂. alloc1 ! (λ l₃. alloc1 ! (λ l₄. alloc1 ! (λ l₅. alloc1 ! (λ l₆. alloc1 ! (λ l₇. alloc1 ! (λ l₈. alloc1 ! (λ l₉. alloc1 ! (λ l₁₀. alloc0 ! $ params1 ! $
+        qed W ((‵ (flft κ₀ q₀) ⊛ ‵ (flft κ₁ q₁) ⊛ ‵ ftrue) ∷ ‵ (owns (ShrSlice (named 0) κ₀ u32 ∷ MutSlice (named 1) κ₁ T.the-row ∷ []) a vals) ∷ []) ∵ enter ! (𝓣 .C) (𝓣 .Λ) code.function
+        (wv ∷ sl ∷ []) _ $
+        alloc1 ! (λ l₀. alloc1 ! (λ l₁. alloc1 ! (λ l₂. alloc1 ! (λ l₃. alloc1 ! (λ l₄. alloc1 ! (λ l₅. alloc1 ! (λ l₆. alloc1 ! (λ l₇. alloc1 ! (λ l₈. alloc1 ! (λ l₉. alloc1 !
+        (λ l₁₀. alloc0 ! $ params1 ! $
         pass1 ! (init ! 18 refl (tt, (tt, (record { fits = room₁ .0 }, tt)))) $ pass1 ! (init ! 16 refl (tt, (tt, (record { fits = room .0 }, tt)))) $ pass0 ! $
         assigns ! (of-opd ! (load ! (from ! (fld ! refl (stop !))) (look-in ! 16 (sub ! 1 refl (whole !))))) (from ! (stop !)) (init ! 8 refl (tt, record { fits = room .0 })) $
         move ! (23 ∷ []) $ fsplit ! $ move ! (24 ∷ []) $ split ! $ move ! (0 ∷ 2 ∷ []) $ use2 W (raw (ScanOf 𝓤 H A mem run .pre to-scan)) goes-scan $
         -- [what `scan_of` asks; the list's token; what the list owns; _10; …]
-        calls-at ! (fmOf 𝓤 H (W .laws) 𝓣) (ScanOf 𝓤 H A mem run) known-scan to-scan (and-then ! (load ! (from ! (stop !)) (look ! 21 refl)) (and-then ! (load ! (from ! (stop !)) (look ! 11 refl)) (no-more !))) (λ u.
-        use1 W (later (some (λ (f : Found). ((‵ (flft κ₀ q₀) ⊛ ‵ ftrue) ⊛ ‵ (F.the-row .own f (u ∷ []))) ⊛ raw (ensured 𝓤 H A scan-of.ended (scan-of.clauses 𝓤 H A mem run) (κ₀, tt) (ws, (length ys, tt)) tt f)))) (id⊢ 𝓤 _) $ await ! tt $ pick ! (λ f.
+        calls-at ! (fmOf 𝓤 H (W .laws) 𝓣) (ScanOf 𝓤 H A mem run) known-scan to-scan (and-then ! (load ! (from ! (stop !)) (look ! 21 refl)) (and-then ! (load ! (from ! (stop !))
+        (look ! 11 refl)) (no-more !))) (λ u.
+        use1 W (later (some (λ (f : Found). ((‵ (flft κ₀ q₀) ⊛ ‵ ftrue) ⊛ ‵ (F.the-row .own f (u ∷ []))) ⊛ raw (ensured 𝓤 H A scan-of.ended (scan-of.clauses 𝓤 H A mem run) (κ₀, tt) (
+          ws,
+          (length ys, tt),
+        ) tt f)))) (id⊢ 𝓤 _) $ await ! tt $ pick ! (λ f.
         split ! $ move ! (1 ∷ []) $ use1 W (raw (fact 𝓤 (Finds (ws .now) (length ys) f))) (scan-said f) $ heard ! (Finds (ws .now) (length ys) f) (λ finds. split ! $ move ! (1 ∷ []) $
         -- [what f owns; the words' token; the list's token; what the list owns; _10; …]
         peeks ! F.the-row (Is F.the-row) (shows 𝓤 H A F.the-row) f (u ∷ []) (λ is.
@@ -340,18 +368,21 @@ module _ {M : Type 1} (𝓤 : URA M) (H : Heap 𝓤) (A : Atoms 𝓤) (W : Given
         f-is f u is = subst (λ (vs : List Val). Is F.the-row f vs) (F′.lowers .val-is f _ is) is
 
 module _ {M : Type 1} (𝓤 : URA M) (H : Heap 𝓤) (A : Atoms 𝓤) (W : Given 𝓤 H A) (mem : Memory → SProp 𝓤) (run : Routine → Fun 𝓤) where
-  list-long-rests-walks : (𝓣 : Tables 𝓤 H) → Triple 𝓤 (𝓣 .C #listing·scan-of) (ScanOf 𝓤 H A mem run) → Triple 𝓤 (𝓣 .C #listing·span-at) (SpanAt 𝓤 H A mem run) → Triple 𝓤 (𝓣 .C #listing·answer-of) (AnswerOf 𝓤 H A mem run)
+  list-long-rests-walks : (𝓣 : Tables 𝓤 H) → Triple 𝓤 (𝓣 .C #listing·scan-of) (ScanOf 𝓤 H A mem run) → Triple 𝓤 (𝓣 .C #listing·span-at) (SpanAt 𝓤 H A mem run) → Triple 𝓤
+      (𝓣 .C #listing·answer-of) (AnswerOf 𝓤 H A mem run)
       → Walks 𝓤 H A top.ended stayed (WpFn 𝓤 H (𝓣 .C) (𝓣 .Λ) code.function) (top.clauses 𝓤 H A mem run)
   list-long-rests-walks 𝓣 known-scan known-span known-answer = walked 𝓤 H A top.ended stayed (top.clauses 𝓤 H A mem run) (WpFn 𝓤 H (𝓣 .C) (𝓣 .Λ) code.function)
       (λ κs. (slice-vals, (slice-vals, tt))) (λ κs. (shr-slice-tells (named 0) (κs .0) u32, (mut-slice-tells (named 1) (κs .1 .0) T.the-row, tt)))
       (λ κs qs bounds a g are. via 𝓤 _ (fst∗ 𝓤 _ (emp 𝓤))
-      (walk 𝓤 H A W mem run (κs .0) (κs .1 .0) (qs .0) (qs .1 .0) (a .0) (a .1 .0 .ptr .0) (a .1 .0 .ptr .1) (a .1 .0 .name) (a .1 .0 .now) (are .1 .0 .0 .1) 𝓣 known-scan known-span known-answer (are .0 .0 .1)))
+      (walk 𝓤 H A W mem run (κs .0) (κs .1 .0) (qs .0) (qs .1 .0) (a .0) (a .1 .0 .ptr .0) (a .1 .0 .ptr .1) (a .1 .0 .name) (a .1 .0 .now)
+      (are .1 .0 .0 .1) 𝓣 known-scan known-span known-answer (are .0 .0 .1)))
 
 list-long-rests-meets : {M : Type 1} (𝓤 : URA M) (H : Heap 𝓤) (A : Atoms 𝓤) (W : Given 𝓤 H A) (mem : Memory → SProp 𝓤) (run : Routine → Fun 𝓤) (𝓣 : Tables 𝓤 H)
     → Triple 𝓤 (𝓣 .C #listing·scan-of) (ScanOf 𝓤 H A mem run) → Triple 𝓤 (𝓣 .C #listing·span-at) (SpanAt 𝓤 H A mem run) → Triple 𝓤 (𝓣 .C #listing·answer-of) (AnswerOf 𝓤 H A mem run)
     → Meets 𝓤 H A top.signature (WpFn 𝓤 H (𝓣 .C) (𝓣 .Λ) code.function) (top.spec 𝓤 H A mem run)
 list-long-rests-meets 𝓤 H A W mem run 𝓣 known-scan known-span known-answer =
-    walk-meets 𝓤 H A top.ended stayed W (goes-dropped 𝓤 H A W 2 (shrSliceOf (0 ∷ []) tt (plain (λ _. u32))) yes (λ κs x f. refl), (goes-slice 𝓤 H A W 2 1 tt (plain (λ _. T.the-row)), tt)) (top.clauses 𝓤 H A mem run)
+    walk-meets 𝓤 H A top.ended stayed W (goes-dropped 𝓤 H A W 2 (shrSliceOf (0 ∷ []) tt (plain (λ _. u32))) yes (λ κs x f. refl), (goes-slice 𝓤 H A W 2 1 tt (plain (λ _. T.the-row)), tt))
+    (top.clauses 𝓤 H A mem run)
     (WpFn 𝓤 H (𝓣 .C) (𝓣 .Λ) code.function) (WpFn-mono 𝓤 H (W .laws) 𝓣 code.function) (list-long-rests-walks 𝓤 H A W mem run 𝓣 known-scan known-span known-answer)
 
 pub list-long-rests-spec : {M : Type 1} → stated.statement M

@@ -14,10 +14,12 @@ returns-2 : tie.Need-returns-2
 returns-2 c = scan-short _ _ _ _ (measured-there _ (c .before .before .before .before .before .weigh .ensures) (c .before .before .before .weighing .given .1)) (omega arith)
 
 scan-requires : tie.Need-scan-requires
-scan-requires c κs = measured-is _ (measured-there _ (c .before .before .before .before .before .before .before .weigh .ensures) (c .before .before .before .before .before .weighing .given .1)) .within
+scan-requires c κs = measured-is _ (measured-there _ (c .before .before .before .before .before .before .before .weigh .ensures)
+    (c .before .before .before .before .before .weighing .given .1)) .within
 
 returns-3 : tie.Need-returns-3
-returns-3 c = scan-done _ _ _ _ _ (measured-there _ (c .before .before .before .before .before .before .before .before .before .before .weigh .ensures) (c .before .before .before .before .before .before .before .before .weighing .given .1)) (omega arith) (omega arith) (le-refl _) (le-refl _) (c .before .before .scan .ensures)
+returns-3 c = scan-done _ _ _ _ _ (measured-there _ (c .before .before .before .before .before .before .before .before .before .before .weigh .ensures)
+    (c .before .before .before .before .before .before .before .before .weighing .given .1)) (omega arith) (omega arith) (le-refl _) (le-refl _) (c .before .before .scan .ensures)
 
 pub scan-of-spec : {M : Type 1} → statement M
 scan-of-spec =

@@ -16,10 +16,12 @@ returns-3 : tie.Need-returns-3
 returns-3 c = list-short _ _ _ (measured-there _ (c .before .before .before .before .before .weigh .ensures) (c .before .before .before .weighing .given .1)) (omega arith)
 
 scan-requires : tie.Need-scan-requires
-scan-requires c κs = measured-is _ (measured-there _ (c .before .before .before .before .before .before .before .weigh .ensures) (c .before .before .before .before .before .weighing .given .1)) .within
+scan-requires c κs = measured-is _ (measured-there _ (c .before .before .before .before .before .before .before .weigh .ensures)
+    (c .before .before .before .before .before .weighing .given .1)) .within
 
 returns-4 : tie.Need-returns-4
-returns-4 c = list-done _ _ _ (measured-there _ (c .before .before .before .before .before .before .before .before .before .before .before .before .weigh .ensures) (c .before .before .before .before .before .before .before .before .before .before .weighing .given .1)) (omega arith) (omega arith) (c .before .before .before .before .scan .ensures)
+returns-4 c = list-done _ _ _ (measured-there _ (c .before .before .before .before .before .before .before .before .before .before .before .before .weigh .ensures)
+    (c .before .before .before .before .before .before .before .before .before .before .weighing .given .1)) (omega arith) (omega arith) (c .before .before .before .before .scan .ensures)
 
 pub list-rests-spec : {M : Type 1} → statement M
 list-rests-spec =

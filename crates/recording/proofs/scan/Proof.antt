@@ -19,13 +19,22 @@ abbrev μ-loop : tie.MeasureT-loop
 μ-loop words starts₀ ends₀ p₀ i₀ starts ends p i = length words - i
 
 after-run-requires : tie.Need-after-run-requires Inv-loop μ-loop
-after-run-requires c κs = (c .before .before .before .before .before .before .before .before .before .before .before .loop .inv .0 .from, c .before .before .before .before .before .before .before .before .before .before .before .loop .inv .0 .count, run-room (c .before .before .before .before .before .before .before .before .before .before .before .loop .inv .0) (omega arith))
+after-run-requires c κs = (
+  c .before .before .before .before .before .before .before .before .before .before .before .loop .inv .0 .from,
+  c .before .before .before .before .before .before
+      .before .before .before .before .before .loop .inv .0 .count,
+  run-room (c .before .before .before .before .before .before .before .before .before .before .before .loop .inv .0) (omega arith),
+)
 
 loop-again : tie.Need-loop-again Inv-loop μ-loop
 loop-again c = (
   rw (c .after-run .ensures) (walk-on (c .before .before .before .before .before .before .before .before .before .before .before .before .loop .inv .0) (omega arith)),
-  c .before .before .before .before .before .before .before .before .before .before .before .before .loop .inv .1 ∙ write-on (c .before .before .before .before .before .before .before .before .before .before .before .before .loop .inv .0) (omega arith) (λ s. s .start) _ (c .after-run .ensures) (c .before .before .before .before .before .before .before .before .before .ends-rest .ensures) (c .before .before .before .before .before .before .before .put-if .ensures),
-  c .before .before .before .before .before .before .before .before .before .before .before .before .loop .inv .2 ∙ write-on (c .before .before .before .before .before .before .before .before .before .before .before .before .loop .inv .0) (omega arith) (λ s. s .end) _ (c .after-run .ensures) (c .before .before .before .before .before .before .before .before .before .ends-rest .ensures) (c .before .before .before .put-if2 .ensures),
+  c .before .before .before .before .before .before .before .before .before .before .before .before .loop .inv .1 ∙ write-on
+      (c .before .before .before .before .before .before .before .before .before .before .before .before .loop .inv .0) (omega arith) (λ s. s .start) _ (c .after-run .ensures)
+      (c .before .before .before .before .before .before .before .before .before .ends-rest .ensures) (c .before .before .before .before .before .before .before .put-if .ensures),
+  c .before .before .before .before .before .before .before .before .before .before .before .before .loop .inv .2 ∙ write-on
+      (c .before .before .before .before .before .before .before .before .before .before .before .before .loop .inv .0) (omega arith) (λ s. s .end) _ (c .after-run .ensures)
+      (c .before .before .before .before .before .before .before .before .before .ends-rest .ensures) (c .before .before .before .put-if2 .ensures),
 )
 
 kept : tie.Need-same-length Inv-loop μ-loop

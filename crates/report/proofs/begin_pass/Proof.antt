@@ -6,13 +6,26 @@ use Rattle.report.proofs.begin_pass.Statement.{statement}
 use Rattle.report.proofs.begin_pass.Tie as tie
 
 put-numbered-requires-2 : tie.Need-put-numbered-requires-2
-put-numbered-requires-2 c κs = omega (arith, c .before .before .before .before .before .before .before .before .before .put-all .ensures .next-is, c .before .before .before .before .put-numbered .ensures .1)
+put-numbered-requires-2 c κs = omega (
+  arith,
+  c .before .before .before .before .before .before .before .before .before .put-all .ensures .next-is,
+  c .before .before .before .before
+      .put-numbered .ensures .1,
+)
 
 put-all-requires-2 : tie.Need-put-all-requires-2
-put-all-requires-2 c κs = omega (arith, c .before .before .before .before .before .before .before .before .before .before .before .before .before .before .put-all .ensures .next-is, c .before .before .before .before .before .before .before .before .before .put-numbered .ensures .1, c .before .before .before .before .put-numbered2 .ensures .1)
+put-all-requires-2 c κs = omega (
+  arith,
+  c .before .before .before .before .before .before .before .before .before .before .before .before .before .before .put-all .ensures .next-is,
+  c
+      .before .before .before .before .before .before .before .before .before .put-numbered .ensures .1,
+  c .before .before .before .before .put-numbered2 .ensures .1,
+)
 
 returns : tie.Need-returns
-returns c = put-then (put-then (put-then (c .before .before .before .before .before .before .before .before .before .before .before .before .before .before .before .before .before .put-all .ensures) (c .before .before .before .before .before .before .before .before .before .before .before .before .put-numbered .ensures .0)) (c .before .before .before .before .before .before .before .put-numbered2 .ensures .0)) (c .before .before .put-all2 .ensures)
+returns c = put-then (put-then (put-then (c .before .before .before .before .before .before .before .before .before .before .before .before .before .before .before .before .before .put-all
+    .ensures) (c .before .before .before .before .before .before .before .before .before .before .before .before .put-numbered .ensures .0))
+    (c .before .before .before .before .before .before .before .put-numbered2 .ensures .0)) (c .before .before .put-all2 .ensures)
 
 pub begin-pass-spec : {M : Type 1} → statement M
 begin-pass-spec =

@@ -6,16 +6,22 @@ use Rattle.report.proofs.print_desk.Statement.{statement}
 use Rattle.report.proofs.print_desk.Tie as tie
 
 array-share-prefix-page : tie.Need-array-share-prefix-page
-array-share-prefix-page c = front-fits (deskText ((c .before .before .before .before .before) .args .text .now)) (desk-size ((c .before .before .before .before .before) .args .text .now)) (c .before .desk-page .ensures)
+array-share-prefix-page c = front-fits (deskText ((c .before .before .before .before .before) .args .text .now)) (desk-size ((c .before .before .before .before .before) .args .text .now))
+    (c .before .desk-page .ensures)
 
 slice-aggregate-hand-over : tie.Need-slice-aggregate-hand-over
-slice-aggregate-hand-over c = front-size (deskText ((c .before .before .before .before .before .before) .args .text .now)) (desk-size ((c .before .before .before .before .before .before) .args .text .now)) (c .before .before .desk-page .ensures)
+slice-aggregate-hand-over c = front-size (deskText ((c .before .before .before .before .before .before) .args .text .now)) (desk-size
+    ((c .before .before .before .before .before .before) .args .text .now)) (c .before .before .desk-page .ensures)
 
 hand-over-requires : tie.Need-hand-over-requires
-hand-over-requires c κs = front-short (deskText ((c .before .before .before .before .before .before .before) .args .text .now)) (desk-size ((c .before .before .before .before .before .before .before) .args .text .now)) (c .before .before .before .desk-page .ensures)
+hand-over-requires c κs = front-short (deskText ((c .before .before .before .before .before .before .before) .args .text .now)) (desk-size
+    ((c .before .before .before .before .before .before .before) .args .text .now)) (c .before .before .before .desk-page .ensures)
 
 returns : tie.Need-returns
-returns c = let k = front-handed (deskText ((c .before .before .before .before .before .before .before .before .before .before) .args .text .now)) (desk-size ((c .before .before .before .before .before .before .before .before .before .before) .args .text .now)) (c .before .before .before .before .before .before .desk-page .ensures) ((c .before .before .before .before .before .before .before .before .before .before) .args .out .now) (c .before .before .hand-over .ensures .0) (c .before .before .hand-over .ensures .1) in (k .answer, k .content)
+returns c = let k = front-handed (deskText ((c .before .before .before .before .before .before .before .before .before .before) .args .text .now)) (desk-size
+    ((c .before .before .before .before .before .before .before .before .before .before) .args .text .now)) (c .before .before .before .before .before .before .desk-page .ensures)
+    ((c .before .before .before .before .before .before .before .before .before .before) .args .out .now) (c .before .before .hand-over .ensures .0)
+    (c .before .before .hand-over .ensures .1) in (k .answer, k .content)
 
 pub print-desk-spec : {M : Type 1} → statement M
 print-desk-spec =

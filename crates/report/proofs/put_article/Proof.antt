@@ -27,7 +27,15 @@ returns-5 c = rw (c .before .before .before .before .before .match .keys5) (c .b
 
 returns-6 : tie.Need-returns-6
 unfolding articleText
-returns-6 c = rw (ne-eqb _ _ (c .before .before .before .before .before .match .rest .0 .0 .0 .0 .1), ne-eqb _ _ (c .before .before .before .before .before .match .rest .0 .0 .0 .1), ne-eqb _ _ (c .before .before .before .before .before .match .rest .0 .0 .1), ne-eqb _ _ (c .before .before .before .before .before .match .rest .0 .1), ne-eqb _ _ (c .before .before .before .before .before .match .rest .1)) (c .before .before .put-all6 .ensures)
+returns-6 c = rw (
+  ne-eqb _ _ (c .before .before .before .before .before .match .rest .0 .0 .0 .0 .1),
+  ne-eqb _ _
+      (c .before .before .before .before .before .match .rest .0 .0 .0 .1),
+  ne-eqb _ _ (c .before .before .before .before .before .match .rest .0 .0 .1),
+  ne-eqb _ _
+      (c .before .before .before .before .before .match .rest .0 .1),
+  ne-eqb _ _ (c .before .before .before .before .before .match .rest .1),
+) (c .before .before .put-all6 .ensures)
 
 pub put-article-spec : {M : Type 1} → statement M
 put-article-spec =

@@ -8,7 +8,11 @@ use Rattle.report.proofs.put_daily.Statement.{statement}
 use Rattle.report.proofs.put_daily.Tie as tie
 
 put-all-requires : tie.Need-put-all-requires
-put-all-requires c κs = omega (arith, span-short dailyName ((c .before .before .before .before .before .before .before .before) .args .start) ((c .before .before .before .before .before .before .before .before) .args .end))
+put-all-requires c κs = omega (
+  arith,
+  span-short dailyName ((c .before .before .before .before .before .before .before .before) .args .start)
+      ((c .before .before .before .before .before .before .before .before) .args .end),
+)
 
 returns : tie.Need-returns
 unfolding dailyText

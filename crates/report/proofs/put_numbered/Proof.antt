@@ -12,7 +12,15 @@ put-all-requires-2 c κs = omega (arith, number-short ((c .before .before .befor
 
 returns : tie.Need-returns
 unfolding numbered
-returns c = (put-then (put-then (c .before .before .before .before .before .before .before .before .before .before .before .put-all .ensures) (c .before .before .before .before .before .before .before .put-spaced .ensures)) (c .before .before .put-all2 .ensures), omega (arith, number-short ((c .before .before .before .before .before .before .before .before .before .before .before .before .before .before .before) .args .n)))
+returns c = (
+  put-then (put-then (c .before .before .before .before .before .before .before .before .before .before .before .put-all .ensures)
+      (c .before .before .before .before .before .before .before .put-spaced .ensures)) (c .before .before .put-all2 .ensures),
+  omega (
+    arith,
+    number-short
+        ((c .before .before .before .before .before .before .before .before .before .before .before .before .before .before .before) .args .n),
+  ),
+)
 
 pub put-numbered-spec : {M : Type 1} → statement M
 put-numbered-spec =

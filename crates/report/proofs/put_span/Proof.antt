@@ -12,7 +12,8 @@ put-spaced-requires-2 c κs = omega (arith, number-short ((c .before .before .be
 
 returns : tie.Need-returns
 unfolding spanText
-returns c = put-then (put-then (c .before .before .before .before .before .before .before .before .before .before .put-all .ensures) (c .before .before .before .before .before .before .put-spaced .ensures)) (c .before .before .put-spaced2 .ensures)
+returns c = put-then (put-then (c .before .before .before .before .before .before .before .before .before .before .put-all .ensures)
+    (c .before .before .before .before .before .before .put-spaced .ensures)) (c .before .before .put-spaced2 .ensures)
 
 pub put-span-spec : {M : Type 1} → statement M
 put-span-spec =

@@ -8,17 +8,41 @@ use Rattle.report.proofs.put_weekly.Statement.{statement}
 use Rattle.report.proofs.put_weekly.Tie as tie
 
 put-spaced-requires : tie.Need-put-spaced-requires
-put-spaced-requires c κs = omega (arith, span-short weeklyName ((c .before .before .before .before .before .before .before) .args .start) ((c .before .before .before .before .before .before .before) .args .end))
+put-spaced-requires c κs = omega (
+  arith,
+  span-short weeklyName ((c .before .before .before .before .before .before .before) .args .start)
+      ((c .before .before .before .before .before .before .before) .args .end),
+)
 
 put-spaced-requires-2 : tie.Need-put-spaced-requires-2
-put-spaced-requires-2 c κs = omega (arith, c .before .before .before .before .before .before .before .put-span .ensures .next-is, span-short weeklyName ((c .before .before .before .before .before .before .before .before .before .before .before) .args .start) ((c .before .before .before .before .before .before .before .before .before .before .before) .args .end), number-short ((c .before .before .before .before .before .before .before .before .before .before .before) .args .week))
+put-spaced-requires-2 c κs = omega (
+  arith,
+  c .before .before .before .before .before .before .before .put-span .ensures .next-is,
+  span-short weeklyName
+      ((c .before .before .before .before .before .before .before .before .before .before .before) .args .start)
+      ((c .before .before .before .before .before .before .before .before .before .before .before) .args .end),
+  number-short
+      ((c .before .before .before .before .before .before .before .before .before .before .before) .args .week),
+)
 
 put-all-requires : tie.Need-put-all-requires
-put-all-requires c κs = omega (arith, c .before .before .before .before .before .before .before .before .before .before .before .before .put-span .ensures .next-is, c .before .before .before .before .before .before .before .before .put-spaced .ensures .next-is, span-short weeklyName ((c .before .before .before .before .before .before .before .before .before .before .before .before .before .before .before .before) .args .start) ((c .before .before .before .before .before .before .before .before .before .before .before .before .before .before .before .before) .args .end), number-short ((c .before .before .before .before .before .before .before .before .before .before .before .before .before .before .before .before) .args .week), number-short ((c .before .before .before .before .before .before .before .before .before .before .before .before .before .before .before .before) .args .carrier))
+put-all-requires c κs = omega (
+  arith,
+  c .before .before .before .before .before .before .before .before .before .before .before .before .put-span .ensures .next-is,
+  c .before .before .before
+      .before .before .before .before .before .put-spaced .ensures .next-is,
+  span-short weeklyName ((c .before .before .before .before .before .before .before .before .before .before .before
+      .before .before .before .before .before) .args .start) ((c .before .before .before .before .before .before .before .before .before .before .before .before .before .before .before
+      .before) .args .end),
+  number-short ((c .before .before .before .before .before .before .before .before .before .before .before .before .before .before .before .before) .args .week),
+  number-short ((c .before .before .before .before .before .before .before .before .before .before .before .before .before .before .before .before) .args .carrier),
+)
 
 returns : tie.Need-returns
 unfolding weeklyText
-returns c = put-then (put-then (put-then (c .before .before .before .before .before .before .before .before .before .before .before .before .before .before .before .put-span .ensures) (c .before .before .before .before .before .before .before .before .before .before .before .put-spaced .ensures)) (c .before .before .before .before .before .before .before .put-spaced2 .ensures)) (c .before .before .put-all .ensures)
+returns c = put-then (put-then (put-then (c .before .before .before .before .before .before .before .before .before .before .before .before .before .before .before .put-span .ensures)
+    (c .before .before .before .before .before .before .before .before .before .before .before .put-spaced .ensures))
+    (c .before .before .before .before .before .before .before .put-spaced2 .ensures)) (c .before .before .put-all .ensures)
 
 pub put-weekly-spec : {M : Type 1} → statement M
 put-weekly-spec =

@@ -6,10 +6,16 @@ use Rattle.report.proofs.refusal_page.Statement.{statement}
 use Rattle.report.proofs.refusal_page.Tie as tie
 
 put-all-requires-2 : tie.Need-put-all-requires-2
-put-all-requires-2 c κs = omega (arith, c .before .before .before .before .before .before .before .before .before .put-all .ensures .next-is, c .before .before .before .before .put-numbered .ensures .1)
+put-all-requires-2 c κs = omega (
+  arith,
+  c .before .before .before .before .before .before .before .before .before .put-all .ensures .next-is,
+  c .before .before .before .before .put-numbered
+      .ensures .1,
+)
 
 returns : tie.Need-returns
-returns c = put-then (put-then (c .before .before .before .before .before .before .before .before .before .before .before .before .put-all .ensures) (c .before .before .before .before .before .before .before .put-numbered .ensures .0)) (c .before .before .put-all2 .ensures)
+returns c = put-then (put-then (c .before .before .before .before .before .before .before .before .before .before .before .before .put-all .ensures)
+    (c .before .before .before .before .before .before .before .put-numbered .ensures .0)) (c .before .before .put-all2 .ensures)
 
 pub refusal-page-spec : {M : Type 1} → statement M
 refusal-page-spec =

@@ -19,7 +19,12 @@ returns-3 c = rw (c .before .before .before .before .before .match .keys3) (c .b
 
 returns-4 : tie.Need-returns-4
 unfolding runName
-returns-4 c = rw (ne-eqb _ _ (c .before .before .before .before .before .match .rest .0 .0 .1), ne-eqb _ _ (c .before .before .before .before .before .match .rest .0 .1), ne-eqb _ _ (c .before .before .before .before .before .match .rest .1)) (c .before .before .put-all4 .ensures)
+returns-4 c = rw (
+  ne-eqb _ _ (c .before .before .before .before .before .match .rest .0 .0 .1),
+  ne-eqb _ _ (c .before .before .before .before .before .match .rest .0 .1),
+  ne-eqb _ _
+      (c .before .before .before .before .before .match .rest .1),
+) (c .before .before .put-all4 .ensures)
 
 pub put-name-spec : {M : Type 1} → statement M
 put-name-spec =

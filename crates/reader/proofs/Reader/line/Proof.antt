@@ -101,9 +101,13 @@ module _ {M : Type 1} (𝓤 : URA M) (H : Heap 𝓤) (A : Atoms 𝓤) (W : Given
   apart : d .at < 2 ^ 64 → Asked → ent 𝓤 Entry (LineAt 𝓤 H A mem run .pre to)
   apart fits asked =
       qed W ((‵ (flft κ q) ⊛ ‵ ftrue) ∷ ‵ (owns (B (κ, tt) ∷ S.the-row ∷ []) (d, (p, tt)) (mach ∷ [], (sv ∷ [], tt))) ∷ []) ∵
-      says ! asked $ move ! (1 ∷ []) $ fsplit ! $ use1 W (given (mach ∷ [] ≡ mach ∷ []) (‵ (all-own (D .parts) L (d .text, (d .at, tt))))) (own-open 𝓤 H A W D L (d .text, (d .at, tt)) mach) $ learn ! (λ _. fsplit ! $
+      says ! asked $ move ! (1 ∷ []) $ fsplit ! $ use1 W (given (mach ∷ [] ≡ mach ∷ []) (‵ (all-own (D .parts) L (d .text, (d .at, tt))))) (own-open 𝓤 H A W D L (
+        d .text,
+        (d .at, tt),
+      ) mach) $ learn ! (λ _. fsplit ! $
       -- [what text owns; what at owns; what the state owns; the token]
-      move ! (1 ∷ []) $ drop ! $ move ! (1 ∷ []) $ owned ! usize (Is usize) (uint-makes 𝓤 H A W w64) (d .at) _ (refl, fits) $ fjoin ! $ move ! (1 ∷ 0 ∷ []) $ fjoin ! $ move ! (1 ∷ 0 ∷ []) $ frame ! $ done !)
+      move ! (1 ∷ []) $ drop ! $ move ! (1 ∷ []) $ owned ! usize (Is usize) (uint-makes 𝓤 H A W w64) (d .at) _ (refl, fits) $ fjoin ! $ move ! (1 ∷ 0 ∷ []) $ fjoin ! $ move !
+      (1 ∷ 0 ∷ []) $ frame ! $ done !)
 
   said : (r : Progress) → ent 𝓤 (ensured 𝓤 H A line-at.ended (line-at.clauses 𝓤 H A mem run) (κ, tt) (d .text, (d .at, (p, tt))) tt r) (fact 𝓤 (Told r))
   said r = exE 𝓤 _ (λ ws. snd∗ 𝓤 (sem 𝓤 H A (lasts line-at.ended (κ, tt) (d .text, (d .at, (p, tt))) ws)) (fact 𝓤 (Told r)))
@@ -111,7 +115,10 @@ module _ {M : Type 1} (𝓤 : URA M) (H : Heap 𝓤) (A : Atoms 𝓤) (W : Given
   exits : (r : Progress) (u : Val) → Told r → ent 𝓤 (⋆ 𝓤 H A (‵ (S.the-row .own r (u ∷ [])) ∷ (‵ (flft κ q) ⊛ ‵ ftrue) ∷ [])) (Post u)
   exits r u e =
       qed W (‵ (S.the-row .own r (u ∷ [])) ∷ (‵ (flft κ q) ⊛ ‵ ftrue) ∷ []) ∵
-      suffices ! _ (ends-at 𝓤 H A line.ended stayed (line.clauses 𝓤 H A mem run) W (((κ, tt), (q, tt), tt, (d, (p, tt)), (mach ∷ [], (sv ∷ [], tt))), tt) u r (tt, (tt, tt)) (tt, (tt, tt))) $ says ! e $
+      suffices ! _ (ends-at 𝓤 H A line.ended stayed (line.clauses 𝓤 H A mem run) W (((κ, tt), (q, tt), tt, (d, (p, tt)), (mach ∷ [], (sv ∷ [], tt))), tt) u r (tt, (tt, tt)) (
+        tt,
+        (tt, tt),
+      )) $ says ! e $
       move ! (1 ∷ []) $ frame ! $ nothing ! $ nothing ! $ fjoin ! $ nothing ! $ fjoin ! $ frame ! $ done !
 
   module _ (C : Calls 𝓤 H) (Λ : Loops 𝓤 H) (fm : FmC 𝓤 H (W .laws) C) (known : Triple 𝓤 (C #lines·line-at) (LineAt 𝓤 H A mem run)) where
@@ -122,25 +129,44 @@ module _ {M : Type 1} (𝓤 : URA M) (H : Heap 𝓤) (A : Atoms 𝓤) (W : Given
         assigns ! (of-opd ! (load ! (from ! (fld ! refl (stop !))) (look-in ! 6 (sub ! 0 refl (whole !))))) (from ! (stop !)) (init ! 2 refl (tt, wt .1 .0)) $
         assigns ! (of-opd ! (load ! (from ! (fld ! refl (stop !))) (look-in ! 6 (sub ! 1 refl (whole !))))) (from ! (stop !)) (init ! 0 refl (tt, wt .1 .1 .0)) $
         move ! (10 ∷ []) $ use1 W (raw (LineAt 𝓤 H A mem run .pre to)) (apart (wt .1 .1 .0 .fits) asked) $
-        calls-at ! fm (LineAt 𝓤 H A mem run) known to (and-then ! (load ! (from ! (stop !)) (look ! 3 refl)) (and-then ! (load ! (from ! (stop !)) (look ! 1 refl)) (and-then ! (load ! (from ! (stop !)) (look ! 5 refl)) (no-more !)))) (λ u.
-        use1 W (later (some (λ (r : Progress). ((‵ (flft κ q) ⊛ ‵ ftrue) ⊛ ‵ (S.the-row .own r (u ∷ []))) ⊛ raw (ensured 𝓤 H A line-at.ended (line-at.clauses 𝓤 H A mem run) (κ, tt) (d .text, (d .at, (p, tt))) tt r)))) (id⊢ 𝓤 _) $ await ! tt $ pick ! (λ r.
+        calls-at ! fm (LineAt 𝓤 H A mem run) known to (and-then ! (load ! (from ! (stop !)) (look ! 3 refl)) (and-then ! (load ! (from ! (stop !)) (look ! 1 refl)) (and-then ! (load !
+        (from ! (stop !)) (look ! 5 refl)) (no-more !)))) (λ u.
+        use1 W (later (some (λ (r : Progress). ((‵ (flft κ q) ⊛ ‵ ftrue) ⊛ ‵ (S.the-row .own r (u ∷ []))) ⊛ raw (ensured 𝓤 H A line-at.ended (line-at.clauses 𝓤 H A mem run) (κ, tt) (
+          d .text,
+          (d .at, (p, tt)),
+        ) tt r)))) (id⊢ 𝓤 _) $ await ! tt $ pick ! (λ r.
         split ! $ move ! (1 ∷ []) $ use1 W (raw (fact 𝓤 (Told r))) (said r) $ heard ! (Told r) (λ e. split ! $ move ! (1 ∷ []) $
         -- [the result; the token; _4; …; _0; …]
         peeks ! S.the-row (Is S.the-row) (shows 𝓤 H A S.the-row) r (u ∷ []) (λ is.
         land ! (from ! (stop !)) (init ! 10 refl (LL.lawful S.the-type S′.the-laws 𝓤 H A W .typed r _ is .0)) $
         returns ! (look ! 10 refl) $ forget ! 2 refl $ forget ! 4 refl $ forget ! 6 refl $ forget ! 8 refl $ forget ! 10 refl $
-        move ! (10 ∷ 11 ∷ []) $ free1 ! $ move ! (8 ∷ 9 ∷ []) $ free1 ! $ move ! (6 ∷ 7 ∷ []) $ free1 ! $ move ! (4 ∷ 5 ∷ []) $ free1 ! $ move ! (2 ∷ 3 ∷ []) $ free1 ! $ free0 ! $ by ! (exits r u e))))))))))
+        move ! (10 ∷ 11 ∷ []) $ free1 ! $ move ! (8 ∷ 9 ∷ []) $ free1 ! $ move ! (6 ∷ 7 ∷ []) $ free1 ! $ move ! (4 ∷ 5 ∷ []) $ free1 ! $ move ! (2 ∷ 3 ∷ []) $ free1 ! $ free0 ! $ by !
+        (exits r u e))))))))))
 
 module _ {M : Type 1} (𝓤 : URA M) (H : Heap 𝓤) (A : Atoms 𝓤) (W : Given 𝓤 H A) (mem : Memory → SProp 𝓤) (run : Routine → Fun 𝓤) where
-  line-walks : (C : Calls 𝓤 H) (Λ : Loops 𝓤 H) → FmC 𝓤 H (W .laws) C → Triple 𝓤 (C #lines·line-at) (LineAt 𝓤 H A mem run) → Walks 𝓤 H A line.ended stayed (WpFn 𝓤 H C Λ code.function) (line.clauses 𝓤 H A mem run)
+  line-walks : (C : Calls 𝓤 H) (Λ : Loops 𝓤 H) → FmC 𝓤 H (W .laws) C → Triple 𝓤 (C #lines·line-at) (LineAt 𝓤 H A mem run) → Walks 𝓤 H A line.ended stayed (WpFn 𝓤 H C Λ code.function)
+      (line.clauses 𝓤 H A mem run)
   line-walks C Λ fm known = walked 𝓤 H A line.ended stayed (line.clauses 𝓤 H A mem run) (WpFn 𝓤 H C Λ code.function)
-      (λ κs. (LL.vals (T.the-type (namedLft 1 0 tt κs)) (T′.the-laws (namedLft 1 0 tt κs)), (LL.vals S.the-type S′.the-laws, tt))) (λ κs. (LL.tells (T.the-type (namedLft 1 0 tt κs)) (T′.the-laws (namedLft 1 0 tt κs)), (LL.tells S.the-type S′.the-laws, tt)))
+      (λ κs. (LL.vals (T.the-type (namedLft 1 0 tt κs)) (T′.the-laws (namedLft 1 0 tt κs)), (LL.vals S.the-type S′.the-laws, tt))) (λ κs. (
+        LL.tells (T.the-type (namedLft 1 0 tt κs))
+            (T′.the-laws (namedLft 1 0 tt κs)),
+        (LL.tells S.the-type S′.the-laws, tt),
+      ))
       (λ κs qs bounds a g are. needs 𝓤 ((a .0 .at < length (now (a .0 .text))) × (a .1 .0 .runs ≤ a .0 .at)) _ (λ asked. walk 𝓤 H A W mem run (κs .0) (qs .0) (a .0) (a .1 .0) _ C Λ fm known
-      (LL.lawful (T.the-type (namedLft 1 0 tt κs)) (T′.the-laws (namedLft 1 0 tt κs)) 𝓤 H A W .typed (a .0) _ (are .0) .0) (LL.lawful S.the-type S′.the-laws 𝓤 H A W .typed (a .1 .0) _ (are .1 .0) .0) asked))
+      (LL.lawful (T.the-type (namedLft 1 0 tt κs)) (T′.the-laws (namedLft 1 0 tt κs)) 𝓤 H A W .typed (a .0) _ (are .0) .0) (LL.lawful S.the-type S′.the-laws 𝓤 H A W .typed (a .1 .0) _
+      (are .1 .0) .0) asked))
 
-line-meets : {M : Type 1} (𝓤 : URA M) (H : Heap 𝓤) (A : Atoms 𝓤) (W : Given 𝓤 H A) (mem : Memory → SProp 𝓤) (run : Routine → Fun 𝓤) (𝓣 : Tables 𝓤 H) → Triple 𝓤 (𝓣 .C #lines·line-at) (LineAt 𝓤 H A mem run)
+line-meets : {M : Type 1} (𝓤 : URA M) (H : Heap 𝓤) (A : Atoms 𝓤) (W : Given 𝓤 H A) (mem : Memory → SProp 𝓤) (run : Routine → Fun 𝓤) (𝓣 : Tables 𝓤 H) → Triple 𝓤 (𝓣 .C #lines·line-at)
+    (LineAt 𝓤 H A mem run)
     → Meets 𝓤 H A line.signature (WpFn 𝓤 H (𝓣 .C) (𝓣 .Λ) code.function) (line.spec 𝓤 H A mem run)
-line-meets 𝓤 H A W mem run 𝓣 known = walk-meets 𝓤 H A line.ended stayed W (goes-dropped 𝓤 H A W 1 (plain B) yes (λ κs x f. refl), (goes-dropped 𝓤 H A W 1 (plain (λ _. S.the-row)) yes (λ κs x f. refl), tt)) (line.clauses 𝓤 H A mem run) (WpFn 𝓤 H (𝓣 .C) (𝓣 .Λ) code.function) (WpFn-mono 𝓤 H (W .laws) 𝓣 code.function)
+line-meets 𝓤 H A W mem run 𝓣 known = walk-meets 𝓤 H A line.ended stayed W (
+  goes-dropped 𝓤 H A W 1 (plain B) yes (λ κs x f. refl),
+  (
+    goes-dropped 𝓤 H A W 1 (plain (λ _. S.the-row)) yes
+        (λ κs x f. refl),
+    tt,
+  ),
+) (line.clauses 𝓤 H A mem run) (WpFn 𝓤 H (𝓣 .C) (𝓣 .Λ) code.function) (WpFn-mono 𝓤 H (W .laws) 𝓣 code.function)
     (line-walks 𝓤 H A W mem run (𝓣 .C) (𝓣 .Λ) (fmOf 𝓤 H (W .laws) 𝓣) known)
 
 pub line-spec : {M : Type 1} → stated.statement M
