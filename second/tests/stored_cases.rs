@@ -1,5 +1,5 @@
 //! The stored output of the case program over the verified verdict
-//! (crates/verdict_cases), line by line. The recordings are said again here,
+//! (crates/cases_verdict), line by line. The recordings are said again here,
 //! and this program answers for them.
 
 mod shorthand;
@@ -8,7 +8,7 @@ use second::reading::{self, bytes, entries, Entry};
 use second::verdict::{verdict, Verdict};
 use shorthand::{attempt, days, general_figure, tight_days, tight_weeks, times, words};
 
-const STORED: &str = include_str!("../../crates/verdict_cases/stdout");
+const STORED: &str = include_str!("../../crates/cases_verdict/stdout");
 
 /// The lines so far.
 #[derive(Default)]

@@ -5,7 +5,7 @@ use libc::STDIN_FILENO;
 use libc::STDOUT_FILENO;
 use recording::Filling;
 
-const ENOUGH: usize = report::INPUT_BYTES + 1;
+const ENOUGH: usize = desk_report::INPUT_BYTES + 1;
 
 // What was read: so many bytes in front of the buffer, or an error.
 enum Input {
@@ -38,13 +38,13 @@ fn write_page(page: &[u8]) {
 }
 
 fn answer(text: &[u8]) {
-    let mut page = [0u8; report::PAGE_BYTES];
-    let printed = report::print_desk(text, &mut page);
+    let mut page = [0u8; desk_report::PAGE_BYTES];
+    let printed = desk_report::print_desk(text, &mut page);
     match printed {
         Filling::Refused(_) => (),
         Filling::Written(n) => {
             let count = n as usize;
-            if count <= report::PAGE_BYTES {
+            if count <= desk_report::PAGE_BYTES {
                 write_page(&page[..count]);
             }
         }

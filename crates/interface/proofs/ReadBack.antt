@@ -26,7 +26,7 @@ use Rattle.rules.specs.Reading.{entryBytes, readingSize}
 use Rattle.rules.specs.Verdict.{prefix, firstLawful, breachMinute, articleBy, article, Verdict, verdictBy, verdict}
 use Rattle.rules.specs.Operations.{Outcome, passed, breached, outcomeOf, outcome, fixedTested, readingTested, judged, entryAt}
 use Rattle.rules.proofs.EntryLaws.{first-size}
-use Rattle.lines.specs.Reading.{linesIn, wordsOf, isText, unless, textRead}
+use Rattle.text_lines.specs.Reading.{linesIn, wordsOf, isText, unless, textRead}
 use Rattle.text.specs.Writing.{textOfMinutes, textWritten}
 use Rattle.interface.specs.Codes.{answerUnit, judgedUnit, countUnit, articleUnit, codeOf, itself, measureValue, outcomeValue, entryPlace, entryCode, answerIn, measureIn, outcomeIn}
 

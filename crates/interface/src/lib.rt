@@ -1,8 +1,8 @@
 // The operations for callers in C: numbers and slices of numbers or of records in, one number out.
-use fixed::Tested;
 use recording::Filling;
 use recording::Span;
 use recording::Weighing;
+use rules_fixed::Tested;
 use verdict::Outcome;
 ghost use mathlib.Core.Path.{_≡_};
 ghost use lib.ListN.{length};
@@ -11,9 +11,9 @@ ghost use Rattle.recording.specs.Answers.{counted, filled};
 ghost use Rattle.recording.specs.Operations.{measured, listed, written};
 ghost use Rattle.recording.specs.Scan.{eachOf};
 ghost use Rattle.recording.specs.declared.Span.{Span};
-ghost use Rattle.fixed.specs.Walk.{tested};
+ghost use Rattle.rules_fixed.specs.Walk.{tested};
 ghost use Rattle.rules.specs.Operations.{fixedTested, readingTested, entryAt, entryRefusal, judged, outcome, readingAfter};
-ghost use Rattle.lines.specs.Reading.{textRead};
+ghost use Rattle.text_lines.specs.Reading.{textRead};
 ghost use Rattle.text.specs.Writing.{textWritten};
 ghost use Rattle.verdict.specs.Verdicts.{outcomeBy};
 ghost use Rattle.interface.specs.Codes.{codeOf, itself, measureValue, outcomeValue, entryCode};
@@ -78,8 +78,8 @@ pub extern "C" fn desk_weigh(words: &[u32]) -> u64
 #[no_mangle]
 pub extern "C" fn desk_list_rests(words: &[u32], starts: &mut [u32], ends: &mut [u32]) -> u64
     ensures { λ r. ⌜ r ≡ codeOf itself (counted (listed (now (words .entry)) (min (length (now (starts .entry))) (length (now (ends .entry)))))) ⌝ }
-    ensures { λ r. ⌜ now (starts .exit) ≡ filled (eachOf (λ (s : Span). s .start) (listed (now (words .entry)) (min (length (now (starts .entry))) (length (now (ends .entry)))))) (now
-        (starts .entry)) ⌝ }
+    ensures { λ r. ⌜ now (starts .exit) ≡ filled (eachOf (λ (s : Span). s .start) (listed (now (words .entry)) (min (length (now (starts .entry))) (length (now (ends .entry))))))
+        (now (starts .entry)) ⌝ }
     ensures { λ r. ⌜ now (ends .exit) ≡ filled (eachOf (λ (s : Span). s .end) (listed (now (words .entry)) (min (length (now (starts .entry))) (length (now (ends .entry)))))) (now (ends .entry)) ⌝ }
 {
     count_code(recording::list_rests(words, starts, ends))
@@ -91,7 +91,7 @@ pub extern "C" fn desk_list(words: &[u32], list: &mut [Span]) -> u64
     ensures { λ r. ⌜ r ≡ codeOf itself (counted (listed (now (words .entry)) (length (now (list .entry))))) ⌝ }
     ensures { λ r. ⌜ now (list .exit) ≡ filled (listed (now (words .entry)) (length (now (list .entry)))) (now (list .entry)) ⌝ }
 {
-    count_code(listing::list_long_rests(words, list))
+    count_code(recording_list::list_long_rests(words, list))
 }
 
 // Testing fixed rules for a stretch of m: a refusal's number; or ANSWER and the smallest broken rule, or 0.
@@ -99,7 +99,7 @@ pub extern "C" fn desk_list(words: &[u32], list: &mut [Span]) -> u64
 pub extern "C" fn desk_fixed_test(words: &[u32], m: u32) -> u64
     ensures { λ r. ⌜ r ≡ codeOf itself (fixedTested (now (words .entry)) m) ⌝ }
 {
-    rule_code(fixed::fixed_test(words, m))
+    rule_code(rules_fixed::fixed_test(words, m))
 }
 
 // Testing a reading: a refusal's number; or ANSWER and the smallest broken rule, or 0.
@@ -107,7 +107,7 @@ pub extern "C" fn desk_fixed_test(words: &[u32], m: u32) -> u64
 pub extern "C" fn desk_reading_test(words: &[u32], reading: &[u8]) -> u64
     ensures { λ r. ⌜ r ≡ codeOf itself (readingTested (now (words .entry)) (now (reading .entry))) ⌝ }
 {
-    rule_code(reading::reading_test(words, reading))
+    rule_code(rules_reading::reading_test(words, reading))
 }
 
 // Entry of a reading: a refusal's number; or ANSWER and the place of its three bytes in the reading.
@@ -115,11 +115,11 @@ pub extern "C" fn desk_reading_test(words: &[u32], reading: &[u8]) -> u64
 pub extern "C" fn desk_entry(reading: &[u8], number: usize) -> u64
     ensures { λ r. ⌜ r ≡ entryCode (now (reading .entry)) number ⌝ }
 {
-    let part = entries::entry(reading, number);
+    let part = rules_entries::entry(reading, number);
     if part.len() == 0 {
-        return entries::entry_refusal(reading, number) as u64;
+        return rules_entries::entry_refusal(reading, number) as u64;
     }
-    ANSWER + ((entries::ENTRY_BYTES * (number - 1)) as u64)
+    ANSWER + ((rules_entries::ENTRY_BYTES * (number - 1)) as u64)
 }
 
 // Its companion: 0, or the refusal's number.
@@ -127,7 +127,7 @@ pub extern "C" fn desk_entry(reading: &[u8], number: usize) -> u64
 pub extern "C" fn desk_entry_refusal(reading: &[u8], number: usize) -> u64
     ensures { λ r. ⌜ r ≡ entryRefusal (entryAt (now (reading .entry)) number) ⌝ }
 {
-    entries::entry_refusal(reading, number) as u64
+    rules_entries::entry_refusal(reading, number) as u64
 }
 
 // Reading text: a refusal's number; or ANSWER and the count of words.

@@ -11,10 +11,10 @@ use borrow.Author.Tests.{lt-ltb, le-ltb, leb-true, leb-false}
 use Rattle.recording.specs.Tests.{pick}
 use Rattle.recording.specs.Answers.{Answer, refused, answered, counted, filled}
 use Rattle.recording.specs.Weeks.{weekMinutes}
-use Rattle.lines.specs.Form.{linesOf, textOfLines, textOf, weeksAtMost, Allowed, OfTheForm}
-use Rattle.lines.specs.Reading.{linesIn, isOver, isText, wordsOf, textRead}
-use Rattle.lines.specs.declared.Stage.{Stage}
-use Rattle.lines.specs.declared.Stage.the-variants as stage
+use Rattle.text_lines.specs.Form.{linesOf, textOfLines, textOf, weeksAtMost, Allowed, OfTheForm}
+use Rattle.text_lines.specs.Reading.{linesIn, isOver, isText, wordsOf, textRead}
+use Rattle.text_lines.specs.declared.Stage.{Stage}
+use Rattle.text_lines.specs.declared.Stage.the-variants as stage
 use Rattle.text.proofs.LineText.{lines-good, text-read, lines-written}
 use Rattle.text.proofs.WeekLines.{lines-accepted, accepted-lines, lines-known, lines-good-of, lines-parted, allRuns, lines-words, allowed-few}
 

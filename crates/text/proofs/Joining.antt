@@ -14,8 +14,8 @@ use Rattle.recording.specs.Weeks.{weekMinutes}
 use Rattle.recording.specs.Operations.{totalAtMost}
 use Rattle.recording.proofs.WordLaws.{minutes-in, activity-in, minutes-append}
 use Rattle.recording.proofs.TestLaws.{less-or-not}
-use Rattle.lines.specs.Form.{runAtMost, sumOf, Runs, Week, Weeks, Allowed}
-use Rattle.lines.specs.Form as form
+use Rattle.text_lines.specs.Form.{runAtMost, sumOf, Runs, Week, Weeks, Allowed}
+use Rattle.text_lines.specs.Form as form
 use Rattle.text.specs.Writing.{joinedTo, joined, weeksWithin, weeksOf}
 use Rattle.text.specs.Passes.{EachSome, none, next}
 use Rattle.text.proofs.WeekLines.{one-week, allRuns}

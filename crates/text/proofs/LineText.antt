@@ -10,11 +10,11 @@ use borrow.Author.Tests.{ne-eqb, eqb-true, eqb-false}
 use Rattle.recording.specs.Tests.{pick}
 use Rattle.recording.specs.Words.{activities, wordOf, minutesIn, activityIn, rest, availability, otherWork, driving}
 use Rattle.recording.proofs.WordLaws.{minutes-in, activity-in}
-use Rattle.lines.specs.Form.{lineEnd, recordingLine, weekLine, closingLine, runName, digitZero, base, digitAt, decimal, lineText, textOfLines, Run}
-use Rattle.lines.specs.Reading.{same, numberFrom, numberAfter, runOr, lineOf, linesFrom, linesIn}
-use Rattle.lines.specs.declared.Line.{Line}
-use Rattle.lines.specs.declared.Line.the-variants as line
-use Rattle.lines.proofs.Bytes.{same-is, after-within}
+use Rattle.text_lines.specs.Form.{lineEnd, recordingLine, weekLine, closingLine, runName, digitZero, base, digitAt, decimal, lineText, textOfLines, Run}
+use Rattle.text_lines.specs.Reading.{same, numberFrom, numberAfter, runOr, lineOf, linesFrom, linesIn}
+use Rattle.text_lines.specs.declared.Line.{Line}
+use Rattle.text_lines.specs.declared.Line.the-variants as line
+use Rattle.text_lines.proofs.Bytes.{same-is, after-within}
 use Rattle.text.proofs.Numbers.{number-written, after-read}
 
 -- a line of the form, and a run of the form

@@ -10,8 +10,8 @@ use lib.Seq.{append-snoc}
 use borrow.Author.Tests.{ne-eqb, le-leb, lt-ltb, le-ltb, eqb-true, eqb-false, leb-true, ltb-true}
 use Rattle.recording.specs.Tests.{pick}
 use Rattle.recording.proofs.TestLaws.{less-or-not}
-use Rattle.lines.specs.Form.{closing, closingLine, digitZero, base, digitAt, decimal, runAtMost}
-use Rattle.lines.specs.Reading.{isEmpty, isDigit, withDigit, inRange, numberFrom, numberAfter}
+use Rattle.text_lines.specs.Form.{closing, closingLine, digitZero, base, digitAt, decimal, runAtMost}
+use Rattle.text_lines.specs.Reading.{isEmpty, isDigit, withDigit, inRange, numberFrom, numberAfter}
 
 -- ---- one digit more
 digit-same : (p q m n : ℕ) → (m < p → n < q) → (p ≤ m → q ≤ n) → m / p ≡ n / q → digitAt p m ≡ digitAt q n

@@ -14,13 +14,13 @@ use Rattle.recording.specs.Words.{activities, wordOf, minutesIn, activityIn, mi
 use Rattle.recording.specs.Weeks.{weekMinutes}
 use Rattle.recording.specs.Operations.{totalAtMost}
 use Rattle.recording.proofs.TestLaws.{less-or-not}
-use Rattle.lines.specs.Form.{lineEnd, recordingLine, weekLine, closingLine, lineText, textOfLines, runsThen, weeksThenEnd}
+use Rattle.text_lines.specs.Form.{lineEnd, recordingLine, weekLine, closingLine, lineText, textOfLines, runsThen, weeksThenEnd}
 use Rattle.text.specs.Writing.{joined, weeksWithin, weeksOf, textOfMinutes}
 use Rattle.text.specs.Passes.{Put, roomy, InFront, sameWords, sameMinutes, EachSome, none, next, inWeek, linesLeft, partLines, leftAfter}
-use Rattle.lines.specs.declared.Line.{Line}
-use Rattle.lines.specs.declared.Line.the-variants as line
+use Rattle.text_lines.specs.declared.Line.{Line}
+use Rattle.text_lines.specs.declared.Line.the-variants as line
 use Rattle.text.specs.declared.Ahead.{Ahead}
-use Rattle.lines.proofs.Slices.{part-rest, sets-append}
+use Rattle.text_lines.proofs.Slices.{part-rest, sets-append}
 use Rattle.text.proofs.WordsInFront.{words-on, words-within}
 use Rattle.text.proofs.Puts.{put-same-length, ended, put-then, part-text, pick-short, name-short, number-short}
 use Rattle.text.proofs.Joining.{Coded, no-minute, coded-take, coded-minutes, startsWith, joined-run, weeks-next}

@@ -10,13 +10,13 @@ use borrow.Author.Tests.{ne-eqb, le-leb, lt-ltb, eqb-true, eqb-false, leb-true, 
 use Rattle.recording.specs.Tests.{pick}
 use Rattle.recording.specs.Words.{minutesIn}
 use Rattle.recording.specs.Weeks.{weekMinutes}
-use Rattle.lines.specs.Form.{runsThen, weeksThenEnd, linesOf, weeksAtMost, sumOf, Run, Runs, Week, Weeks, Allowed}
-use Rattle.lines.specs.Form as form
-use Rattle.lines.specs.Reading.{stageAfter, stageFrom, wordsOf}
-use Rattle.lines.specs.declared.Line.{Line}
-use Rattle.lines.specs.declared.Line.the-variants as line
-use Rattle.lines.specs.declared.Stage.{Stage}
-use Rattle.lines.specs.declared.Stage.the-variants as stage
+use Rattle.text_lines.specs.Form.{runsThen, weeksThenEnd, linesOf, weeksAtMost, sumOf, Run, Runs, Week, Weeks, Allowed}
+use Rattle.text_lines.specs.Form as form
+use Rattle.text_lines.specs.Reading.{stageAfter, stageFrom, wordsOf}
+use Rattle.text_lines.specs.declared.Line.{Line}
+use Rattle.text_lines.specs.declared.Line.the-variants as line
+use Rattle.text_lines.specs.declared.Stage.{Stage}
+use Rattle.text_lines.specs.declared.Stage.the-variants as stage
 use Rattle.text.proofs.LineText.{Known, Good, Each, none, next}
 
 -- a run has a minute, so runs are no more than their minutes

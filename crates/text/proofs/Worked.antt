@@ -6,8 +6,8 @@ use lib.ListN.{replicate}
 use Rattle.recording.specs.Answers.{refused, answered, counted, filled}
 use Rattle.recording.specs.Words.{wordOf, rest, otherWork, driving}
 use Rattle.recording.specs.Opened.{opened}
-use Rattle.lines.specs.Form.{closing, closingLine, runName, digitAt, decimal, lineText, lineEnd, recordingLine, weekLine, textOfLines, runsThen, weeksThenEnd, textOf}
-use Rattle.lines.specs.Reading.{same, numberFrom, numberAfter, runOr, lineOf, linesFrom, stageAfter, stageFrom, isText, wordsOf, textRead}
+use Rattle.text_lines.specs.Form.{closing, closingLine, runName, digitAt, decimal, lineText, lineEnd, recordingLine, weekLine, textOfLines, runsThen, weeksThenEnd, textOf}
+use Rattle.text_lines.specs.Reading.{same, numberFrom, numberAfter, runOr, lineOf, linesFrom, stageAfter, stageFrom, isText, wordsOf, textRead}
 use Rattle.text.specs.Writing.{joinedTo, joined, weeksWithin, weeksOf, textWritten}
 
 abbrev r : ℕ → ℕ

@@ -13,8 +13,8 @@ use Rattle.recording.specs.Words.{minutesIn, minutesOf}
 use Rattle.recording.specs.Operations.{totalAtMost, faultOf, unlessFault, totalFrom, measureOf, measured}
 use Rattle.recording.specs.declared.Measure.{Measure}
 use Rattle.recording.proofs.Listing.{measured-is}
-use Rattle.lines.specs.Form.{OfTheForm}
-use Rattle.lines.specs.Reading.{linesIn, isText, wordsOf, textRead}
+use Rattle.text_lines.specs.Form.{OfTheForm}
+use Rattle.text_lines.specs.Reading.{linesIn, isText, wordsOf, textRead}
 use Rattle.text.specs.Writing.{weeksOf, textOfMinutes, textWritten}
 use Rattle.text.specs.Passes.{Put, EachSome, none, next, Writable}
 use Rattle.text.proofs.Joining.{coded-minutes, weeks-allowed, all-minutes}

@@ -10,12 +10,12 @@ use Rattle.recording.specs.Tests.{pick}
 use Rattle.recording.specs.Words.{minutesIn, activityIn, minutesOf}
 use Rattle.recording.specs.Weeks.{weekMinutes}
 use Rattle.recording.specs.Operations.{totalAtMost}
-use Rattle.lines.specs.declared.Line.{Line}
-use Rattle.lines.specs.declared.Line.the-variants as line
+use Rattle.text_lines.specs.declared.Line.{Line}
+use Rattle.text_lines.specs.declared.Line.the-variants as line
 use Rattle.text.specs.declared.Ahead.{Ahead}
 use Rattle.text.specs.declared.Judgement.{Judgement}
-use Rattle.lines.specs.Form.{runsThen, weeksThenEnd}
-use Rattle.lines.specs.Reading.{linesIn, isText, wordsOf}
+use Rattle.text_lines.specs.Form.{runsThen, weeksThenEnd}
+use Rattle.text_lines.specs.Reading.{linesIn, isText, wordsOf}
 use Rattle.text.specs.Writing.{joined, weeksOf}
 
 -- ---- reading: what the first pass finds

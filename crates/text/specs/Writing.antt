@@ -9,7 +9,7 @@ use Rattle.recording.specs.Answers.{Answer, answered, andThen, refuseIf}
 use Rattle.recording.specs.Words.{activities, wordOf, activityIn, minutesOf}
 use Rattle.recording.specs.Weeks.{weekMinutes}
 use Rattle.recording.specs.Operations.{measured}
-use Rattle.lines.specs.Form.{textOf}
+use Rattle.text_lines.specs.Form.{textOf}
 
 -- "Equal neighbours are joined": a minute before runs makes the first of them longer, or is a run of its own
 unfoldable pub joinedTo : ℕ → List ℕ → List ℕ

@@ -1,4 +1,4 @@
-// Bracket text: reading it into words, and writing words as text. What is said of it stands in specs/ and in crates/lines/specs.
+// Bracket text: reading it into words, and writing words as text. What is said of it stands in specs/ and in crates/text_lines/specs.
 ghost use mathlib.Core.Path.{_≡_};
 ghost use mathlib.Core.List.{[]};
 ghost use Prim.Native.Nat.{_+_, _≤_, _<_, min};
@@ -9,8 +9,8 @@ ghost use Rattle.recording.specs.Tests.{pick};
 ghost use Rattle.recording.specs.Answers.{counted, filled};
 ghost use Rattle.recording.specs.Words.{activities, activityIn, wordOf, minutesOf};
 ghost use Rattle.recording.specs.Operations.{totalAtMost, written};
-ghost use Rattle.lines.specs.Form.{runName, digitAt, decimal, textOfLines};
-ghost use Rattle.lines.specs.Reading.{linesIn, wordsOf, textRead};
+ghost use Rattle.text_lines.specs.Form.{runName, digitAt, decimal, textOfLines};
+ghost use Rattle.text_lines.specs.Reading.{linesIn, wordsOf, textRead};
 ghost use Rattle.text.specs.Writing.{textOfMinutes, textWritten};
 ghost use Rattle.text.specs.Passes.{Judged, Put, places, roomy, InFront, partLines, leftAfter, Writable};
 use recording::Filling;
@@ -35,10 +35,10 @@ fn judge(text: &[u8]) -> Judgement
     ensures { λ r. ⌜ Judged (now (text .entry)) r ⌝ }
 {
     let mut nothing = [0u32; 1];
-    let p = reader::through(text, &mut nothing);
+    let p = text_reader::through(text, &mut nothing);
     let stage = p.stage;
     Judgement {
-        formed: lines::is_over(stage),
+        formed: text_lines::is_over(stage),
         runs: p.runs,
     }
 }
@@ -48,7 +48,7 @@ fn fill_if(text: &[u8], words: &mut [u32], wanted: bool)
     ensures { λ _. ⌜ now (words .exit) ≡ pick wanted (sets (now (words .entry)) 0 (wordsOf (linesIn (now (text .entry))))) (now (words .entry)) ⌝ }
 {
     if wanted {
-        reader::through(text, words);
+        text_reader::through(text, words);
     }
 }
 

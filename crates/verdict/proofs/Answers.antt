@@ -21,8 +21,8 @@ use Rattle.rules.specs.Order.{Bytes}
 use Rattle.rules.specs.Verdict.{prefix, isNone, firstLawful, breachMinute, article, Verdict, pass, breach, verdictBy, verdict}
 use Rattle.rules.specs.Operations.{judged, Outcome, passed, breached, outcome, readingAfter}
 use Rattle.rules.proofs.Breach.{first-sound, verdict-pass, some-first}
-use Rattle.completion.specs.Completable.{Course, Lies}
-use Rattle.first_reading.specs.First.{Least, restsOnly}
+use Rattle.verdict_completion.specs.Completable.{Course, Lies}
+use Rattle.verdict_first_reading.specs.First.{Least, restsOnly}
 use Rattle.verdict.specs.Verdicts.{Cut, HasReading, Finding, unbroken, broken, findingOf, found, Whole}
 use Rattle.verdict.specs.declared.Rests.{Rests}
 use Rattle.verdict.proofs.Lawfulness.{to-has, starts-size, ends-size, nets-size, rests-lie, rests-few, judged-low, whole-there, reading-size, first-least-there}

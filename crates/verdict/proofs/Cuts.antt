@@ -17,7 +17,7 @@ use Rattle.recording.proofs.Walks.{judged-within, judged-append, long-rests-app
 use Rattle.recording.proofs.Runs.{trailing-judged}
 use Rattle.recording.proofs.LongRests.{long-busy, rests-ordered}
 use Rattle.rules.specs.Verdict.{prefix}
-use Rattle.reading.proofs.LaterLaws.{nowhere}
+use Rattle.rules_reading.proofs.LaterLaws.{nowhere}
 use Rattle.verdict.proofs.Lawfulness.{neighbours}
 
 -- ---- the long rests past a stretch end there or later

@@ -8,10 +8,10 @@ use native.Mathlib.Nat.{eq-or-lt-of-le}
 use native.Mathlib.Omega.{arith}
 use lib.ListN.{length, take}
 use lib.Seq.{length-take-le, getD-take}
-use Rattle.fixed.specs.Nets.{regularNet}
-use Rattle.reading.specs.Items.{endBefore}
-use Rattle.completion.specs.Completable.{at, Lies}
-use Rattle.first_reading.specs.First.{restsOnly}
+use Rattle.rules_fixed.specs.Nets.{regularNet}
+use Rattle.rules_reading.specs.Items.{endBefore}
+use Rattle.verdict_completion.specs.Completable.{at, Lies}
+use Rattle.verdict_first_reading.specs.First.{restsOnly}
 use Rattle.verdict.specs.Verdicts.{HasKept, Some, firstRests, dayStart, DayReadable}
 
 module _ {starts ends nets : List ℕ} {most : ℕ} (l : Lies (restsOnly starts ends nets most)) where

@@ -9,7 +9,7 @@ use native.Mathlib.Omega.{arith}
 use lib.ListN.{length}
 use Rattle.recording.specs.Weeks.{weekStart, weekOf}
 use Rattle.rules.specs.ReadingRules.{weeklyGap}
-use Rattle.completion.specs.Completable.{at}
+use Rattle.verdict_completion.specs.Completable.{at}
 use Rattle.verdict.specs.Verdicts.{HasKept, Some, Sooner, NextDemand, FirstWithout, restsAlone}
 use Rattle.verdict.proofs.JudgedEnds.{has-too, sooner, before-next}
 

@@ -11,13 +11,13 @@ use Rattle.rules.specs.Fixed.{fixedTest}
 use Rattle.rules.specs.Verdict.{prefix, breachMinute, article, verdict}
 use Rattle.rules.specs.Opened.{opened}
 use Rattle.rules.proofs.Breach.{HasLawful, prefix-lawful, Breach, breach-is, breach-after, is-none}
-use Rattle.fixed.specs.Account.{accountFrom, opening}
-use Rattle.fixed.specs.declared.Break.{Break}
-use Rattle.fixed.proofs.AccountRight.{First, unbroken, broken as broken-at, account-right, first-least}
+use Rattle.rules_fixed.specs.Account.{accountFrom, opening}
+use Rattle.rules_fixed.specs.declared.Break.{Break}
+use Rattle.rules_fixed.proofs.AccountRight.{First, unbroken, broken as broken-at, account-right, first-least}
 use Rattle.recording.proofs.TestLaws.{less-or-not}
-use Rattle.reading.specs.Items.{spansFrom}
-use Rattle.completion.specs.States.{advance}
-use Rattle.completion.specs.Runs.{Runs}
+use Rattle.rules_reading.specs.Items.{spansFrom}
+use Rattle.verdict_completion.specs.States.{advance}
+use Rattle.verdict_completion.specs.Runs.{Runs}
 use Rattle.verdict.specs.Verdicts.{HasKept, HasReading, Bound, broken, findingOf, firstRests, dayStart, DayReadable, LastDay, restsAlone}
 use Rattle.verdict.proofs.Lawfulness.{fixed-first, from-has}
 

@@ -17,14 +17,14 @@ use Rattle.rules.specs.ReadingRules.{byDeadline, settles, compensated, rule8, w
 use Rattle.rules.specs.declared.Kind.{Kind}
 use Rattle.rules.specs.declared.Kind.the-variants.{Daily, Weekly}
 use Rattle.rules.specs.declared.Standing.the-variants.{Regular, Reduced}
-use Rattle.reading.specs.Items.{spansFrom}
-use Rattle.completion.specs.declared.State.{State}
-use Rattle.completion.specs.declared.Brought.{Brought}
-use Rattle.completion.specs.declared.Brought.the-variants.{Broken}
-use Rattle.completion.specs.States.{pairKept, advance, After}
-use Rattle.completion.specs.Runs.{Ends, Takes, Runs}
-use Rattle.completion.specs.Completable.{at, spansOf, restWeek}
-use Rattle.first_reading.specs.First.{KeptBy}
+use Rattle.rules_reading.specs.Items.{spansFrom}
+use Rattle.verdict_completion.specs.declared.State.{State}
+use Rattle.verdict_completion.specs.declared.Brought.{Brought}
+use Rattle.verdict_completion.specs.declared.Brought.the-variants.{Broken}
+use Rattle.verdict_completion.specs.States.{pairKept, advance, After}
+use Rattle.verdict_completion.specs.Runs.{Ends, Takes, Runs}
+use Rattle.verdict_completion.specs.Completable.{at, spansOf, restWeek}
+use Rattle.verdict_first_reading.specs.First.{KeptBy}
 use Rattle.verdict.specs.Verdicts.{HasKept, AsksNoMore, NextDemand, restsAlone}
 
 -- ---- weeks

@@ -22,18 +22,18 @@ use Rattle.rules.specs.Order.{Bytes}
 use Rattle.rules.specs.Verdict.{lawful, prefix, isNone, firstLawful}
 use Rattle.rules.proofs.RestWeekLaws.{reading-by-rests}
 use Rattle.rules.proofs.Breach.{HasLawful, first-sound, first-least, is-none, some-first}
-use Rattle.reading.specs.Items.{endBefore, spansFrom, spansIn, restWeeks, Zeros}
-use Rattle.reading.proofs.LaterLaws.{nowhere, map-at, spans-are, if-zero}
-use Rattle.completion.specs.States.{startState}
-use Rattle.completion.specs.Runs.{Kept}
-use Rattle.completion.specs.Completable.{Course, at, count, restWeek, Completable, Lies}
-use Rattle.completion.proofs.Carriers.{extend, extended}
-use Rattle.completion.proofs.RunLaws.{later-kept, kept-later}
-use Rattle.search.specs.Search.{Found, courseOf, Sound, Lent}
-use Rattle.fixed.specs.Nets.{regularNet, netsFrom}
-use Rattle.fixed.proofs.NetLaws.{nets-length, nets-at}
-use Rattle.first_reading.specs.First.{KeptBy, Least, restsOnly}
-use Rattle.fixed.specs.Account.{accountFrom, opening}
+use Rattle.rules_reading.specs.Items.{endBefore, spansFrom, spansIn, restWeeks, Zeros}
+use Rattle.rules_reading.proofs.LaterLaws.{nowhere, map-at, spans-are, if-zero}
+use Rattle.verdict_completion.specs.States.{startState}
+use Rattle.verdict_completion.specs.Runs.{Kept}
+use Rattle.verdict_completion.specs.Completable.{Course, at, count, restWeek, Completable, Lies}
+use Rattle.verdict_completion.proofs.Carriers.{extend, extended}
+use Rattle.verdict_completion.proofs.RunLaws.{later-kept, kept-later}
+use Rattle.verdict_search.specs.Search.{Found, courseOf, Sound, Lent}
+use Rattle.rules_fixed.specs.Nets.{regularNet, netsFrom}
+use Rattle.rules_fixed.proofs.NetLaws.{nets-length, nets-at}
+use Rattle.verdict_first_reading.specs.First.{KeptBy, Least, restsOnly}
+use Rattle.rules_fixed.specs.Account.{accountFrom, opening}
 use Rattle.verdict.specs.Verdicts.{Cut, HasKept, Some, ByRule, HasReading, Readable, AllRests, Whole, restsAlone}
 use Rattle.verdict.proofs.Days.{lies-later}
 use Rattle.verdict.specs.declared.Rests.{Rests}

@@ -15,8 +15,8 @@ use Rattle.recording.proofs.LongRests.{rests-ordered, long-is}
 use Rattle.rules.specs.Fixed.{fixedTest}
 use Rattle.rules.specs.Verdict.{prefix, breachMinute}
 use Rattle.rules.proofs.Breach.{shorter-lawful, only-breach}
-use Rattle.reading.proofs.LaterLaws.{nowhere, map-at}
-use Rattle.completion.specs.Completable.{Course, at}
+use Rattle.rules_reading.proofs.LaterLaws.{nowhere, map-at}
+use Rattle.verdict_completion.specs.Completable.{Course, at}
 use Rattle.verdict.specs.Verdicts.{HasKept, HasReading, Bound, AllRests, firstRests, dayStart, LastDay, DayTop, FirstWithout, NextActive, restsAlone}
 use Rattle.verdict.proofs.JudgedEnds.{has-too, sooner}
 use Rattle.verdict.proofs.Lawfulness.{neighbours, has-kept, kept-has, to-has, from-has}

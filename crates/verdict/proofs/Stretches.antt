@@ -15,11 +15,11 @@ use Rattle.recording.proofs.LongRests.{few-rests}
 use Rattle.recording.proofs.ByWord.{cut-at}
 use Rattle.recording.proofs.Scanning.{scan-end, scan-count, scan-written}
 use Rattle.rules.specs.Verdict.{prefix}
-use Rattle.fixed.specs.Walk.{Surveyed}
-use Rattle.fixed.specs.declared.Account.{Account}
-use Rattle.fixed.specs.declared.Survey.{Survey}
-use Rattle.fixed.proofs.AccountRight.{account-right}
-use Rattle.fixed.proofs.NetLaws.{nets-found}
+use Rattle.rules_fixed.specs.Walk.{Surveyed}
+use Rattle.rules_fixed.specs.declared.Account.{Account}
+use Rattle.rules_fixed.specs.declared.Survey.{Survey}
+use Rattle.rules_fixed.proofs.AccountRight.{account-right}
+use Rattle.rules_fixed.proofs.NetLaws.{nets-found}
 use Rattle.verdict.specs.Verdicts.{Cut}
 
 -- what is written over the front of a slice

@@ -13,15 +13,15 @@ use Rattle.recording.specs.Weeks.{weekStart, weekOf}
 use Rattle.recording.specs.Operations.{measured}
 use Rattle.recording.specs.declared.Span.{Span}
 use Rattle.rules.specs.Fixed.{fixedTest}
-use Rattle.fixed.specs.Account.{accountFrom, opening}
+use Rattle.rules_fixed.specs.Account.{accountFrom, opening}
 use Rattle.rules.specs.Verdict.{lawful, prefix, Verdict, pass, breach, verdict}
 use Rattle.rules.specs.Operations.{Outcome, passed, breached}
 use Rattle.rules.specs.Order.{Bytes}
 use Rattle.rules.specs.Reading.{entryBytes, readingSize}
 use Rattle.rules.specs.ReadingRules.{weeklyGap}
-use Rattle.completion.specs.Completable.{Course, at, count}
-use Rattle.fixed.specs.Nets.{netsFrom}
-use Rattle.first_reading.specs.First.{KeptBy, restsOnly}
+use Rattle.verdict_completion.specs.Completable.{Course, at, count}
+use Rattle.rules_fixed.specs.Nets.{netsFrom}
+use Rattle.verdict_first_reading.specs.First.{KeptBy, restsOnly}
 use Rattle.verdict.specs.declared.Judgement.{Judgement}
 use Rattle.verdict.specs.declared.Judgement.the-variants as judgement
 use Rattle.verdict.specs.declared.Outcome.{Outcome as Told}

@@ -1,8 +1,8 @@
 // The verdict on a recording: a pass with its first lawful reading, or a breach with its minute and article.
-use fixed::Break;
 use recording::Measure;
 use recording::Weighing;
-use sweep::Swept;
+use rules_fixed::Break;
+use verdict_sweep::Swept;
 ghost use mathlib.Core.Path.{_≡_};
 ghost use mathlib.Core.Bool.{not};
 ghost use mathlib.Core.Option.{some};
@@ -13,10 +13,10 @@ ghost use Rattle.recording.specs.Answers.{answered};
 ghost use Rattle.recording.specs.Operations.{totalAtMost, measured};
 ghost use Rattle.recording.specs.Rests.{longRestsAtMost};
 ghost use Rattle.rules.specs.Verdict.{breachMinute, verdict};
-ghost use Rattle.fixed.specs.Account.{accountFrom, opening};
+ghost use Rattle.rules_fixed.specs.Account.{accountFrom, opening};
 ghost use Rattle.rules.specs.Operations.{judged, outcome, readingAfter};
-ghost use Rattle.completion.specs.Completable.{at, Lies};
-ghost use Rattle.first_reading.specs.First.{restsOnly};
+ghost use Rattle.verdict_completion.specs.Completable.{at, Lies};
+ghost use Rattle.verdict_first_reading.specs.First.{restsOnly};
 ghost use Rattle.verdict.specs.Verdicts.{outcomeBy, broken, findingOf, found, findingBy, findingIn, Cut, Some, ByRule, HasReading, Bound, AllRests, Whole, dayStart, DayReadable};
 ghost use Rattle.verdict.specs.Verdicts.{LastDay, DayTop, restsAlone, Sooner, NextDemand, FirstWithout, laterOf, NextActive};
 
@@ -60,24 +60,24 @@ const NO_FIXED_RULE: u32 = 6;
 // How many long rests are few, some or many; for so many there is a level of nogoods each, and room for some states in a front.
 const FEW: u32 = 8;
 
-const FEW_NOGOODS: usize = FEW as usize * nogoods::LEVEL_WORDS;
+const FEW_NOGOODS: usize = FEW as usize * verdict_nogoods::LEVEL_WORDS;
 
-const FEW_STATES: usize = 32 * nogoods::ENTRY_WORDS;
+const FEW_STATES: usize = 32 * verdict_nogoods::ENTRY_WORDS;
 
 const SOME: u32 = 32;
 
-const SOME_NOGOODS: usize = SOME as usize * nogoods::LEVEL_WORDS;
+const SOME_NOGOODS: usize = SOME as usize * verdict_nogoods::LEVEL_WORDS;
 
-const SOME_STATES: usize = 64 * nogoods::ENTRY_WORDS;
+const SOME_STATES: usize = 64 * verdict_nogoods::ENTRY_WORDS;
 
 const MANY: u32 = 96;
 
-const MANY_NOGOODS: usize = MANY as usize * nogoods::LEVEL_WORDS;
+const MANY_NOGOODS: usize = MANY as usize * verdict_nogoods::LEVEL_WORDS;
 
-const MANY_STATES: usize = 256 * nogoods::ENTRY_WORDS;
+const MANY_STATES: usize = 256 * verdict_nogoods::ENTRY_WORDS;
 
 // Any number of long rests.
-const MOST_STATES: usize = 1024 * nogoods::ENTRY_WORDS;
+const MOST_STATES: usize = 1024 * verdict_nogoods::ENTRY_WORDS;
 
 // The long rests of the first m minutes into three slices: where each starts and ends, and its number.
 fn rests_of(words: &[u32], m: u32, starts: &mut [u32], ends: &mut [u32], nets: &mut [u32]) -> Rests
@@ -85,7 +85,7 @@ fn rests_of(words: &[u32], m: u32, starts: &mut [u32], ends: &mut [u32], nets: &
         × (longRestsAtMost ≤ length (now nets)) ⌝ }
     ensures { λ r. ⌜ Cut (now (words .entry)) m r (now (starts .exit)) (now (ends .exit)) (now (nets .exit)) ⌝ }
 {
-    let found = fixed::survey_of(words, m, starts, ends, nets);
+    let found = rules_fixed::survey_of(words, m, starts, ends, nets);
     let place = found.place;
     let account = found.account;
     let first = account.first;
@@ -114,7 +114,7 @@ fn some_reading(
     let k = starts.len();
     let loads = [0u32; recording::LONG_RESTS];
     let mut owed = [0u32; recording::LONG_RESTS];
-    sweep::possible(
+    verdict_sweep::possible(
         starts,
         ends,
         nets,
@@ -284,7 +284,7 @@ fn gap_end(ended: u32, s: u32, other: u32) -> u32
     requires { ⌜ ended ≤ totalAtMost ⌝ }
     ensures { λ r. ⌜ Sooner ended s other r ⌝ }
 {
-    let last = ended + reading::WEEKLY_GAP;
+    let last = ended + rules_reading::WEEKLY_GAP;
     if last < s {
         return other;
     }
@@ -524,7 +524,7 @@ pub fn verdict_within(
 {
     let total = measure.total;
     let count = measure.count;
-    let size = entries::ENTRY_BYTES * (count as usize);
+    let size = rules_entries::ENTRY_BYTES * (count as usize);
     if reading.len() < size {
         return Outcome::Refused(4);
     }
@@ -545,7 +545,7 @@ pub fn verdict_within(
         other,
     );
     let Ruling::Unlawful(breach) = ruling else {
-        first_reading::write_first(
+        verdict_first_reading::write_first(
             &starts[..k],
             &ends[..k],
             &nets[..k],
@@ -637,7 +637,7 @@ fn within_most(words: &[u32], measure: Measure, reading: &mut [u8]) -> Outcome
     ensures { λ r. ⌜ (outcomeBy r ≡ outcome (judged (now (words .entry)) (length (now (reading .entry)))))
         × (now (reading .exit) ≡ readingAfter (judged (now (words .entry)) (length (now (reading .entry)))) (now (reading .entry))) ⌝ }
 {
-    let mut nogoods = [0u32; nogoods::TABLE_WORDS];
+    let mut nogoods = [0u32; verdict_nogoods::TABLE_WORDS];
     let mut front = [0u32; MOST_STATES];
     let mut other = [0u32; MOST_STATES];
     let mut known = [0u32; MOST_STATES];
@@ -687,7 +687,7 @@ pub fn judge(words: &[u32]) -> Judgement
     let mut nets = [0u32; recording::LONG_RESTS];
     let rests = rests_of(words, total, &mut starts, &mut ends, &mut nets);
     let k = rests.count;
-    let mut nogoods = [0u32; nogoods::TABLE_WORDS];
+    let mut nogoods = [0u32; verdict_nogoods::TABLE_WORDS];
     let mut front = [0u32; MOST_STATES];
     let mut other = [0u32; MOST_STATES];
     let ruling = ruling_of(

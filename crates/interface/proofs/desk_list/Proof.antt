@@ -1,4 +1,4 @@
--- `interface::desk_list` meets its contract: a walk of its MIR, by hand. The slices go to `listing::list_long_rests` as they came, and its answer to
+-- `interface::desk_list` meets its contract: a walk of its MIR, by hand. The slices go to `recording_list::list_long_rests` as they came, and its answer to
 -- `count_code`. Assumes nothing.
 use mathlib.Core.Path.{_≡_, refl, ap, _∙_}
 use mathlib.Core.List.{List, [], _∷_}
@@ -43,10 +43,10 @@ use Rattle.recording.specs.declared.Filling.{Filling}
 use Rattle.recording.proofs.Span as T
 use Rattle.recording.proofs.Filling as E
 use Rattle.recording.proofs.Filling.Laws as E′
-use Rattle.listing.proofs.list_long_rests as list-long-rests
-use Rattle.listing.proofs.list_long_rests.Symbol as list-long-rests-def
-use Rattle.listing.proofs.list_long_rests.Symbol.{name as #listing·list-long-rests}
-use Rattle.listing.proofs.list_long_rests.Met as list-long-rests-thm
+use Rattle.recording_list.proofs.list_long_rests as list-long-rests
+use Rattle.recording_list.proofs.list_long_rests.Symbol as list-long-rests-def
+use Rattle.recording_list.proofs.list_long_rests.Symbol.{name as #recording-list·list-long-rests}
+use Rattle.recording_list.proofs.list_long_rests.Met as list-long-rests-thm
 use Rattle.interface.specs.Codes.{codeOf, itself}
 use Rattle.interface.proofs.count_code as count-code
 use Rattle.interface.proofs.count_code.Symbol as count-code-def
@@ -121,7 +121,7 @@ module _ {M : Type 1} (𝓤 : URA M) (H : Heap 𝓤) (A : Atoms 𝓤) (W : Given
       suffices ! _ (assoc∗ 𝓤 (onExit 𝓤 H A top.ended stayed (κ₀, (κ₁, tt)) (q₀, (q₁, tt)) vals v n a (tt, (zs, tt))) (fact 𝓤 (n ≡ codeOf itself (counted due))) (fact 𝓤 (zs ≡ filled due (x .now)))) $
       says ! g $ says ! e $ frame ! $ nothing ! $ move ! (1 ∷ 0 ∷ []) $ fjoin ! $ nothing ! $ fjoin ! $ frame ! $ done !
 
-  module _ (C : Calls 𝓤 H) (Λ : Loops 𝓤 H) (fm : FmC 𝓤 H (W .laws) C) (known-listing : Triple 𝓤 (C #listing·list-long-rests) (Listing 𝓤 H A mem run)) (known-code : Triple 𝓤
+  module _ (C : Calls 𝓤 H) (Λ : Loops 𝓤 H) (fm : FmC 𝓤 H (W .laws) C) (known-listing : Triple 𝓤 (C #recording-list·list-long-rests) (Listing 𝓤 H A mem run)) (known-code : Triple 𝓤
       (C #interface·count-code) (Coding 𝓤 H A mem run)) where
     walk : Room u32 (length (ws .now)) → Room T.the-row (length (x .now)) → ent 𝓤 (onEntry 𝓤 H A top.signature (κ₀, (κ₁, tt)) (q₀, (q₁, tt)) a vals) (WpFn 𝓤 H C Λ code.function (wv ∷ sl ∷ []) Post)
     walk room₀ room₁ =
@@ -159,7 +159,8 @@ module _ {M : Type 1} (𝓤 : URA M) (H : Heap 𝓤) (A : Atoms 𝓤) (W : Given
         keep ! (1 ∷ 2 ∷ 0 ∷ []) $ by ! (exits (zs .1 .0) n v (number ∙ ap (codeOf itself) answer) content l))))))))))))))))))
 
 module _ {M : Type 1} (𝓤 : URA M) (H : Heap 𝓤) (A : Atoms 𝓤) (W : Given 𝓤 H A) (mem : Memory → SProp 𝓤) (run : Routine → Fun 𝓤) where
-  desk-list-walks : (C : Calls 𝓤 H) (Λ : Loops 𝓤 H) → FmC 𝓤 H (W .laws) C → Triple 𝓤 (C #listing·list-long-rests) (Listing 𝓤 H A mem run) → Triple 𝓤 (C #interface·count-code) (Coding 𝓤 H A mem run)
+  desk-list-walks : (C : Calls 𝓤 H) (Λ : Loops 𝓤 H) → FmC 𝓤 H (W .laws) C → Triple 𝓤 (C #recording-list·list-long-rests) (Listing 𝓤 H A mem run) → Triple 𝓤 (C #interface·count-code)
+      (Coding 𝓤 H A mem run)
       → Walks 𝓤 H A top.ended stayed (WpFn 𝓤 H C Λ code.function) (top.clauses 𝓤 H A mem run)
   desk-list-walks C Λ fm known-listing known-code = walked 𝓤 H A top.ended stayed (top.clauses 𝓤 H A mem run) (WpFn 𝓤 H C Λ code.function)
       (λ κs. (slice-vals, (slice-vals, tt))) (λ κs. (shr-slice-tells (named 0) (κs .0) u32, (mut-slice-tells (named 1) (κs .1 .0) T.the-row, tt)))
@@ -167,7 +168,7 @@ module _ {M : Type 1} (𝓤 : URA M) (H : Heap 𝓤) (A : Atoms 𝓤) (W : Given
       (are .1 .0 .0 .1)))
 
 desk-list-meets : {M : Type 1} (𝓤 : URA M) (H : Heap 𝓤) (A : Atoms 𝓤) → Given 𝓤 H A → (mem : Memory → SProp 𝓤) (run : Routine → Fun 𝓤) (𝓣 : Tables 𝓤 H)
-    → Triple 𝓤 (𝓣 .C #listing·list-long-rests) (Listing 𝓤 H A mem run) → Triple 𝓤 (𝓣 .C #interface·count-code) (Coding 𝓤 H A mem run)
+    → Triple 𝓤 (𝓣 .C #recording-list·list-long-rests) (Listing 𝓤 H A mem run) → Triple 𝓤 (𝓣 .C #interface·count-code) (Coding 𝓤 H A mem run)
     → Meets 𝓤 H A top.signature (WpFn 𝓤 H (𝓣 .C) (𝓣 .Λ) code.function) (top.spec 𝓤 H A mem run)
 desk-list-meets 𝓤 H A W mem run 𝓣 known-listing known-code =
     walk-meets 𝓤 H A top.ended stayed W (
@@ -186,5 +187,6 @@ desk-list-spec 𝓤 H 𝓜 𝓖 𝓡 =
     entered 𝓤 H (tripleOf 𝓤 H (𝓖 .A) top.signature (top.spec 𝓤 H (𝓖 .A) (𝓜 .mem) (𝓡 .run)))
     (tables 𝓤 H 𝓜 𝓡 code.env .C) (tables 𝓤 H 𝓜 𝓡 code.env .Λ) #interface·desk-list code.function (code.unfolded 𝓤 H 𝓜 𝓡)
     (desk-list-meets 𝓤 H (𝓖 .A) (givenOf 𝓤 H 𝓜 𝓖) (𝓜 .mem) (𝓡 .run) (tablesOf 𝓤 H 𝓜 (tables 𝓤 H 𝓜 𝓡 code.env))
-    (cited 𝓤 H (Listing 𝓤 H (𝓖 .A) (𝓜 .mem) (𝓡 .run)) 𝓜 𝓡 code.env #listing·list-long-rests list-long-rests-def.routine code.calls-listing·list-long-rests (list-long-rests-thm.met 𝓤 H 𝓜 𝓖 𝓡))
+    (cited 𝓤 H (Listing 𝓤 H (𝓖 .A) (𝓜 .mem) (𝓡 .run)) 𝓜 𝓡 code.env #recording-list·list-long-rests list-long-rests-def.routine code.calls-recording-list·list-long-rests
+    (list-long-rests-thm.met 𝓤 H 𝓜 𝓖 𝓡))
     (cited 𝓤 H (Coding 𝓤 H (𝓖 .A) (𝓜 .mem) (𝓡 .run)) 𝓜 𝓡 code.env #interface·count-code count-code-def.routine code.calls-interface·count-code (count-code-thm.met 𝓤 H 𝓜 𝓖 𝓡)))

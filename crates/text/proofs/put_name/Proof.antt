@@ -1,6 +1,6 @@
 -- `text::put_name` meets its contract. Assumes nothing.
 use borrow.Author.Tests.{ne-eqb}
-use Rattle.lines.specs.Form.{runName}
+use Rattle.text_lines.specs.Form.{runName}
 use borrow.Author.Needs.{needs}
 use Rattle.text.proofs.put_name.Statement.{statement}
 use Rattle.text.proofs.put_name.Tie as tie

@@ -1,6 +1,6 @@
 -- `text::put_number` meets its contract. Assumes nothing.
 use native.Mathlib.Omega.{arith}
-use Rattle.lines.specs.Form.{decimal}
+use Rattle.text_lines.specs.Form.{decimal}
 use Rattle.text.proofs.Puts.{put-then, digit-short}
 use borrow.Author.Needs.{needs}
 use Rattle.text.proofs.put_number.Statement.{statement}

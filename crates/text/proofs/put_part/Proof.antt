@@ -2,7 +2,7 @@
 use native.Mathlib.Omega.{arith}
 use lib.Dec.{eqb}
 use Rattle.recording.specs.Weeks.{weekMinutes}
-use Rattle.lines.specs.Form.{weekLine}
+use Rattle.text_lines.specs.Form.{weekLine}
 use Rattle.text.proofs.Puts.{put-then, ended, pick-short, name-short, number-short, part-text}
 use borrow.Author.Needs.{needs}
 use Rattle.text.proofs.put_part.Statement.{statement}

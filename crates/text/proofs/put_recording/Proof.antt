@@ -7,7 +7,7 @@ use lib.Dec.{eqb}
 use lib.ListN.{length, drop}
 use Rattle.recording.specs.Words.{minutesOf}
 use Rattle.recording.specs.Weeks.{weekMinutes}
-use Rattle.lines.specs.Form.{closingLine}
+use Rattle.text_lines.specs.Form.{closingLine}
 use Rattle.text.proofs.Puts.{ended, pick-short, put-length}
 use Rattle.text.proofs.Parts.{Writing, start-writing, at-roomy, writing-length, part-on, rest-room, fetch-moved, fetch-within, fetched-length, fetch-on, write-end}
 use borrow.Author.Needs.{needs}

@@ -2,7 +2,7 @@
 use borrow.Author.Needs.{needs}
 use denote.Ref.{now}
 use mathlib.Core.Path.{sym}
-use Rattle.sweep.proofs.Sweeps.{none-size, none-zeros}
+use Rattle.verdict_sweep.proofs.Sweeps.{none-size, none-zeros}
 use Rattle.verdict.proofs.Lawfulness.{lent, some-reading}
 use lib.ListN.{length}
 use Rattle.verdict.proofs.some_reading.Statement.{statement}

@@ -1,0 +1,212 @@
+// Readings at the edges of rules 6 to 11, the worked numbers of document 01, and the entry of a reading.
+use libc::STDOUT_FILENO;
+use rules::Kind;
+use rules::Standing;
+use rules_fixed::Tested;
+use rules_reading::Item;
+
+fn show_number(n: u32) {
+    io::print_decimal(STDOUT_FILENO, n as u64);
+}
+
+fn show_tested(t: Tested) {
+    match t {
+        Tested::Refused(n) => {
+            io::write_all(STDOUT_FILENO, b": refused ");
+            show_number(n);
+        }
+        Tested::Answer(n) => {
+            io::write_all(STDOUT_FILENO, b": ");
+            show_number(n);
+        }
+    }
+    io::write_all(STDOUT_FILENO, b"\n");
+}
+
+fn show(name: &[u8], words: &[u32], reading: &[u8]) {
+    io::write_all(STDOUT_FILENO, name);
+    show_tested(rules_reading::reading_test(words, reading));
+}
+
+fn show_kind(kind: Kind) {
+    match kind {
+        Kind::Daily => {
+            io::write_all(STDOUT_FILENO, b"daily\n");
+        }
+        Kind::Weekly(standing) => match standing {
+            Standing::Regular => {
+                io::write_all(STDOUT_FILENO, b"regular weekly, reduced by 0\n");
+            }
+            Standing::Reduced(d) => {
+                io::write_all(STDOUT_FILENO, b"reduced weekly, reduced by ");
+                show_number(d);
+                io::write_all(STDOUT_FILENO, b"\n");
+            }
+        },
+    }
+}
+
+// What a weekly rest of this net length is.
+fn show_net(net: u32) {
+    if 10000 < net {
+        return;
+    }
+    let rest = rules_reading::as_read(Item {
+        number: 1,
+        before: 0,
+        start: 60,
+        end: 60 + net,
+        net: rules_fixed::regular_net(0, 60, 60 + net),
+        kind: 1,
+        week: 0,
+        carrier: 0,
+        load: 0,
+    });
+    io::write_all(STDOUT_FILENO, b"net ");
+    show_number(net);
+    io::write_all(STDOUT_FILENO, b": ");
+    let kind = rest.kind;
+    show_kind(kind);
+}
+
+fn show_entry(reading: &[u8], number: usize) {
+    io::write_all(STDOUT_FILENO, b"entry ");
+    io::print_decimal(STDOUT_FILENO, number as u64);
+    io::write_all(STDOUT_FILENO, b": ");
+    let refusal = rules_entries::entry_refusal(reading, number);
+    if refusal != 0 {
+        io::write_all(STDOUT_FILENO, b"refused ");
+        show_number(refusal);
+        io::write_all(STDOUT_FILENO, b"\n");
+        return;
+    }
+    io::write_all(STDOUT_FILENO, rules_entries::entry(reading, number));
+    io::write_all(STDOUT_FILENO, b"\n");
+}
+
+// Rule 6.
+fn show_forms() {
+    let w60r1440 = [242u32, 5760, 6];
+    show(b"weekly of 1440", &w60r1440, b"\x01\x00\x00");
+    let w60r1439 = [242u32, 5756, 6];
+    show(b"weekly of 1439", &w60r1439, b"\x01\x00\x00");
+    show(b"a kind over 1", &w60r1440, b"\x02\x00\x00");
+    show(b"a week it has no minute in", &w60r1440, b"\x01\x01\x00");
+    show(b"a carrier that is not there", &w60r1440, b"\x01\x00\x02");
+    show(b"itself its carrier", &w60r1440, b"\x01\x00\x01");
+    show(b"daily with a week", &w60r1440, b"\x00\x01\x00");
+    show(b"two bytes", &w60r1440, b"\x00\x00");
+    show(b"four bytes", &w60r1440, b"\x00\x00\x00\x00");
+}
+
+// Rules 7 and 8: a reduced weekly rest paid back.
+fn show_payments() {
+    let r1800 = [242u32, 5760, 242, 7200, 6];
+    show(b"paid back from 1800", &r1800, b"\x01\x00\x02\x00\x00\x00");
+    let r1799 = [242u32, 5760, 242, 7196, 6];
+    show(b"paid back from 1799", &r1799, b"\x01\x00\x02\x00\x00\x00");
+    let r2700 = [242u32, 10800, 242, 2164, 6];
+    show(
+        b"a regular rest with a carrier",
+        &r2700,
+        b"\x01\x00\x02\x00\x00\x00",
+    );
+    let late = [242u32, 5760, 242, 155044, 6];
+    show(
+        b"a carrier that ends a minute late",
+        &late,
+        b"\x01\x00\x02\x01\x00\x00",
+    );
+    let timely = [242u32, 5760, 242, 155040, 6];
+    show(
+        b"a carrier that ends at the deadline",
+        &timely,
+        b"\x01\x00\x02\x01\x00\x00",
+    );
+    show(
+        b"no carrier, the deadline before S",
+        &timely,
+        b"\x01\x00\x00\x01\x00\x00",
+    );
+}
+
+// Rules 9 and 10.
+fn show_days() {
+    let short = [3362u32, 2400, 3362, 2400, 3362, 2400, 3362, 2400, 6];
+    show(
+        b"four shortened daily rests",
+        &short,
+        b"\x00\x00\x00\x00\x00\x00\x00\x00\x00\x00\x00\x00",
+    );
+    let six = [
+        3122u32,
+        2640,
+        3122,
+        2640,
+        3122,
+        2640,
+        3122,
+        2640,
+        3122,
+        2640,
+        3122,
+        2640,
+        6,
+    ];
+    show(
+        b"six days and no weekly rest",
+        &six,
+        b"\x00\x00\x00\x00\x00\x00\x00\x00\x00\x00\x00\x00\x00\x00\x00\x00\x00\x00",
+    );
+}
+
+// Rule 11, and what is turned away before any rule.
+fn show_weeks() {
+    let only_one = [
+        46080u32,
+        3122,
+        2640,
+        3122,
+        2640,
+        3122,
+        2640,
+        3122,
+        2640,
+        3122,
+        2640,
+        3122,
+        2160,
+        482,
+    ];
+    show(
+        b"a week of rest, its rest counted there",
+        &only_one,
+        b"\x01\x00\x00\x00\x00\x00\x00\x00\x00\x00\x00\x00\x00\x00\x00\x00\x00\x00\x00\x00\x00",
+    );
+    show(
+        b"a week of rest, its rest counted in the next",
+        &only_one,
+        b"\x01\x01\x00\x00\x00\x00\x00\x00\x00\x00\x00\x00\x00\x00\x00\x00\x00\x00\x00\x00\x00",
+    );
+    let driving = [1087u32];
+    show(b"a fixed rule first", &driving, b"");
+    let empty = [2u32];
+    show(b"a word of no minutes", &empty, b"");
+}
+
+fn main() {
+    show_net(1440);
+    show_net(2699);
+    show_net(2700);
+    show_forms();
+    show_payments();
+    show_days();
+    show_weeks();
+    show_entry(b"abcdef", 1);
+    show_entry(b"abcdef", 2);
+    show_entry(b"abcdef", 3);
+    show_entry(b"abcdef", 0);
+    show_entry(b"abcde", 0);
+    show_entry(b"", 1);
+    show_entry(b"abcdef", 18446744073709551615);
+}

@@ -1,0 +1,55 @@
+-- `desk_report::desk_page` meets its contract. Assumes nothing.
+use native.Mathlib.Omega.{arith}
+use mathlib.Core.Path.{sym, ap, _∙_}
+use Rattle.recording.specs.Operations.{written}
+use Rattle.desk_report.specs.Composing.{textWords}
+use Rattle.desk_report.proofs.Answered.{desk-over, read-refused, read-words}
+use borrow.Author.Needs.{needs}
+use Rattle.desk_report.proofs.desk_page.Statement.{statement}
+use Rattle.desk_report.proofs.desk_page.Tie as tie
+
+returns : tie.Need-returns
+returns c = rw (desk-over ((c .before .before .before .before .before .before .before) .args .text .now) (c .before .before .before .before .if1 .taken)) (c .before .before .refusal-page .ensures)
+
+array-share-prefix-words : tie.Need-array-share-prefix-words
+array-share-prefix-words c = read-words ((c .before .before .before .before .before .before .before .before .before .before) .args .text .now) textWords
+    (c .before .before .before .before .before .before .before .if1 .left) (omega arith) (sym (ap written (c .before .before .answer2 .given .1))
+    ∙ c .before .before .before .before .before .read-text .ensures .0) (c .before .before .before .before .before .read-text .ensures .1) .few
+
+slice-aggregate-verdict-page : tie.Need-slice-aggregate-verdict-page
+slice-aggregate-verdict-page c = read-words ((c .before .before .before .before .before .before .before .before .before .before .before) .args .text .now) textWords
+    (c .before .before .before .before .before .before .before .before .if1 .left) (omega arith) (sym (ap written (c .before .before .before .answer2 .given .1))
+    ∙ c .before .before .before .before .before .before .read-text .ensures .0) (c .before .before .before .before .before .before .read-text .ensures .1) .size
+
+returns-2 : tie.Need-returns-2
+returns-2 c = rw (read-refused ((c .before .before .before .before .before .before .before .before .before .before .before .before .before) .args .text .now) textWords
+    (c .before .before .before .before .before .before .before .before .before .before .if1 .left) (omega arith) (sym (ap written
+    (c .before .before .before .before .before .answer .given .1)) ∙ c .before .before .before .before .before .before .before .before .read-text .ensures .0))
+    (c .before .before .refusal-page2 .ensures)
+
+returns-3 : tie.Need-returns-3
+returns-3 c = rw (read-words ((c .before .before .before .before .before .before .before .before .before .before .before .before .before .before) .args .text .now) textWords
+    (c .before .before .before .before .before .before .before .before .before .before .before .if1 .left) (omega arith) (sym (ap written
+    (c .before .before .before .before .before .before .answer2 .given .1)) ∙ c .before .before .before .before .before .before .before .before .before .read-text .ensures .0)
+    (c .before .before .before .before .before .before .before .before .before .read-text .ensures .1) .text) (c .before .before .verdict-page .ensures)
+
+pub desk-page-spec : {M : Type 1} → statement M
+desk-page-spec =
+    tie.close
+    (tie.spec
+    (λ c κs. search needs)
+    (λ c. search needs)
+    returns
+    (λ c. search needs)
+    (λ c κs. search needs)
+    (λ c. search needs)
+    (λ c κs. search needs)
+    (λ c. search needs)
+    (λ c. search needs)
+    array-share-prefix-words
+    slice-aggregate-verdict-page
+    (λ c κs. search needs)
+    (λ c. search needs)
+    returns-2
+    (λ c. search needs)
+    returns-3)

@@ -1,0 +1,72 @@
+-- `desk_report::pass_page` meets its contract. Assumes nothing.
+use native.Mathlib.Omega.{arith}
+use Rattle.desk_report.proofs.Pages.{starts-size, ends-size, starts-fit, ends-fit, readable, closing-room, pass-whole}
+use borrow.Author.Needs.{needs}
+use Rattle.desk_report.proofs.pass_page.Statement.{statement}
+use Rattle.desk_report.proofs.pass_page.Tie as tie
+
+array-share-prefix-starts : tie.Need-array-share-prefix-starts
+array-share-prefix-starts c = starts-fit ((c .before .before .before .before .before .before .before .before .before .before .before .before .before .before) .args .words .now)
+    ((c .before .before .before .before .before .before .before .before .before .before .before .before .before .before) .pre .within)
+    (c .before .before .before .before .before .before .before .before .scan .ensures) (omega arith) (omega arith)
+
+slice-aggregate-put-rests : tie.Need-slice-aggregate-put-rests
+slice-aggregate-put-rests c = starts-size ((c .before .before .before .before .before .before .before .before .before .before .before .before .before .before .before) .args .words .now)
+    ((c .before .before .before .before .before .before .before .before .before .before .before .before .before .before .before) .pre .within)
+    (c .before .before .before .before .before .before .before .before .before .scan .ensures) (omega arith) (omega arith)
+
+array-share-prefix-ends : tie.Need-array-share-prefix-ends
+array-share-prefix-ends c = ends-fit ((c .before .before .before .before .before .before .before .before .before .before .before .before .before .before .before) .args .words .now)
+    ((c .before .before .before .before .before .before .before .before .before .before .before .before .before .before .before) .pre .within)
+    (c .before .before .before .before .before .before .before .before .before .scan .ensures) (omega arith) (omega arith)
+
+slice-aggregate-put-rests-2 : tie.Need-slice-aggregate-put-rests-2
+slice-aggregate-put-rests-2 c = ends-size ((c .before .before .before .before .before .before .before .before .before .before .before .before .before .before .before .before) .args .words
+    .now) ((c .before .before .before .before .before .before .before .before .before .before .before .before .before .before .before .before) .pre .within)
+    (c .before .before .before .before .before .before .before .before .before .before .scan .ensures) (omega arith) (omega arith)
+
+put-rests-requires : tie.Need-put-rests-requires
+put-rests-requires c κs = readable ((c .before .before .before .before .before .before .before .before .before .before .before .before .before .before .before .before) .args .words .now)
+    ((c .before .before .before .before .before .before .before .before .before .before .before .before .before .before .before .before) .pre .within)
+    (c .before .before .before .before .before .before .before .before .before .before .scan .ensures) (omega arith) (omega arith)
+    ((c .before .before .before .before .before .before .before .before .before .before .before .before .before .before .before .before) .args .reading .now)
+    ((c .before .before .before .before .before .before .before .before .before .before .before .before .before .before .before .before) .pre .size)
+    (c .before .before .before .before .before .begin-pass .ensures)
+
+put-all-requires : tie.Need-put-all-requires
+put-all-requires c κs = closing-room ((c .before .before .before .before .before .before .before .before .before .before .before .before .before .before .before .before .before .before
+    .before .before .before) .args .words .now) ((c .before .before .before .before .before .before .before .before .before .before .before .before .before .before .before .before .before
+    .before .before .before .before) .pre .within) (c .before .before .before .before .before .before .before .before .before .before .before .before .before .before .before .scan .ensures)
+    (omega arith) (omega arith) ((c .before .before .before .before .before .before .before .before .before .before .before .before .before .before .before .before .before .before .before
+    .before .before) .args .reading .now) ((c .before .before .before .before .before .before .before .before .before .before .before .before .before .before .before .before .before .before
+    .before .before .before) .pre .size) (c .before .before .before .before .before .before .before .before .before .before .begin-pass .ensures)
+    (c .before .before .before .before .put-rests .ensures)
+
+returns : tie.Need-returns
+returns c = pass-whole ((c .before .before .before .before .before .before .before .before .before .before .before .before .before .before .before .before .before .before .before .before
+    .before .before .before .before) .args .words .now) ((c .before .before .before .before .before .before .before .before .before .before .before .before .before .before .before .before
+    .before .before .before .before .before .before .before .before) .pre .within) (c .before .before .before .before .before .before .before .before .before .before .before .before .before
+    .before .before .before .before .before .scan .ensures) (omega arith) (omega arith) ((c .before .before .before .before .before .before .before .before .before .before .before .before
+    .before .before .before .before .before .before .before .before .before .before .before .before) .args .reading .now)
+    ((c .before .before .before .before .before .before .before .before .before .before .before .before .before .before .before .before .before .before .before .before .before .before
+    .before .before) .pre .size) (c .before .before .before .before .before .before .before .before .before .before .before .before .before .begin-pass .ensures)
+    (c .before .before .before .before .before .before .before .put-rests .ensures) (c .before .before .put-all .ensures)
+
+pub pass-page-spec : {M : Type 1} → statement M
+pass-page-spec =
+    tie.close
+    (tie.spec
+    (λ c. search needs)
+    (λ c. search needs)
+    (λ c κs. search needs)
+    (λ c. search needs)
+    (λ c κs. search needs)
+    array-share-prefix-starts
+    slice-aggregate-put-rests
+    array-share-prefix-ends
+    slice-aggregate-put-rests-2
+    put-rests-requires
+    (λ c. search needs)
+    put-all-requires
+    (λ c. search needs)
+    returns)

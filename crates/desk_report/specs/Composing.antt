@@ -1,0 +1,57 @@
+-- What the inner functions of this layer answer. Nothing here has to be believed: no public contract cites it.
+-- Assumes nothing.
+use mathlib.Core.Path.{_≡_}
+use mathlib.Core.List.{List, [], _∷_, _++_}
+use Prim.Native.Nat.{ℕ, _+_, _*_, _≤_}
+use lib.ListN.{length, drop, getD}
+use Rattle.recording.specs.Words.{minutesOf}
+use Rattle.recording.specs.Rests.{longRestsAtMost}
+use Rattle.recording.specs.Operations.{totalAtMost}
+use Rattle.rules.specs.Reading.{entryBytes, readingSize}
+use Rattle.rules.specs.Verdict.{Verdict}
+use Rattle.text.specs.Passes.{roomy}
+use Rattle.desk_report.specs.Printed.{asLine, verdictName, minutesName, judgedName, readingName, refusedName, numbered, restText, findingText, bracketed}
+
+-- the bytes that are enough for whatever is printed, and for a line
+abbrev pub pageAtMost : ℕ
+pageAtMost = 8320
+
+abbrev pub lineAtMost : ℕ
+lineAtMost = 37
+
+-- the bytes of the shortest run line, with its end
+abbrev pub runLineBytes : ℕ
+runLineBytes = 9
+
+-- the words that are lent, and the bytes for the reading
+abbrev pub textWords : ℕ
+textWords = 7282
+
+abbrev pub readingRoom : ℕ
+readingRoom = entryBytes * longRestsAtMost
+
+-- the lines of rests, over their starts and their ends
+unfoldable pub restsOf : List ℕ → List ℕ → List ℕ → List ℕ
+restsOf [] ends reading = []
+restsOf (s ∷ starts) ends reading =
+    restText s (getD ends 0 0) (getD reading 0 0) (getD reading 1 0) (getD reading 2 0) ++ restsOf starts (drop 1 ends) (drop entryBytes reading)
+
+pub record Readable (at : ℕ) (starts ends reading : List ℕ) : Type 0 where
+  pub room : at + lineAtMost * length starts ≤ roomy
+  pub ended : length starts ≤ length ends
+  pub read : entryBytes * length starts ≤ length reading
+
+-- whole pages
+abbrev pub refusalPage : ℕ → List ℕ
+refusalPage n = bracketed (numbered refusedName n)
+
+abbrev pub pageOf : List ℕ → Verdict → List ℕ
+pageOf ms v = bracketed (numbered minutesName (length ms) ++ findingText ms v)
+
+abbrev pub passHead : ℕ → ℕ → List ℕ
+passHead total judged = asLine verdictName ++ numbered minutesName total ++ numbered judgedName judged ++ asLine readingName
+
+-- words that weighing accepts, with a reading that has an entry for each long rest
+pub record Read (words reading : List ℕ) : Type 0 where
+  pub within : length (minutesOf words) ≤ totalAtMost
+  pub size : length reading ≡ readingSize (minutesOf words)

@@ -1,0 +1,141 @@
+-- Document 01, "Bracket text": what the desk program prints.
+-- Assumes nothing.
+use mathlib.Core.List.{List, [], _∷_, _++_}
+use Prim.Native.Nat.{ℕ, _+_, _%_}
+use lib.Dec.{eqb, ltb}
+use lib.ListN.{length, drop, getD}
+use Rattle.recording.specs.Tests.{pick}
+use Rattle.recording.specs.Answers.{Answer, refused, answered, andThen, refuseIf}
+use Rattle.recording.specs.Words.{minutesOf}
+use Rattle.recording.specs.Rests.{judgedEnd, longRests}
+use Rattle.recording.specs.Operations.{measured}
+use Rattle.recording.specs.declared.Span.{Span}
+use Rattle.rules.specs.Reading.{weeklyKind, entryBytes}
+use Rattle.rules.specs.Verdict.{Verdict, pass, breach, verdict}
+use Rattle.text_lines.specs.Form.{lineEnd, closingLine, digitZero, base, digitAt}
+use Rattle.text_lines.specs.Reading.{textRead}
+
+-- ---- lines, each ended by byte 10 and with no spaces but those shown
+-- `(verdict`, `(minutes`, `(judged`, `(reading`, `(daily`, `(weekly`, `(breach` and `(refused`
+abbrev pub verdictName : List ℕ
+verdictName = 40 ∷ 118 ∷ 101 ∷ 114 ∷ 100 ∷ 105 ∷ 99 ∷ 116 ∷ []
+
+abbrev pub minutesName : List ℕ
+minutesName = 40 ∷ 109 ∷ 105 ∷ 110 ∷ 117 ∷ 116 ∷ 101 ∷ 115 ∷ []
+
+abbrev pub judgedName : List ℕ
+judgedName = 40 ∷ 106 ∷ 117 ∷ 100 ∷ 103 ∷ 101 ∷ 100 ∷ []
+
+abbrev pub readingName : List ℕ
+readingName = 40 ∷ 114 ∷ 101 ∷ 97 ∷ 100 ∷ 105 ∷ 110 ∷ 103 ∷ []
+
+abbrev pub dailyName : List ℕ
+dailyName = 40 ∷ 100 ∷ 97 ∷ 105 ∷ 108 ∷ 121 ∷ []
+
+abbrev pub weeklyName : List ℕ
+weeklyName = 40 ∷ 119 ∷ 101 ∷ 101 ∷ 107 ∷ 108 ∷ 121 ∷ []
+
+abbrev pub breachName : List ℕ
+breachName = 40 ∷ 98 ∷ 114 ∷ 101 ∷ 97 ∷ 99 ∷ 104 ∷ []
+
+abbrev pub refusedName : List ℕ
+refusedName = 40 ∷ 114 ∷ 101 ∷ 102 ∷ 117 ∷ 115 ∷ 101 ∷ 100 ∷ []
+
+abbrev pub space : ℕ
+space = 32
+
+-- a line, and the end of one whose bracket closes there
+abbrev pub asLine : List ℕ → List ℕ
+asLine l = l ++ lineEnd ∷ []
+
+abbrev pub closed : List ℕ
+closed = asLine closingLine
+
+-- A number in decimal without leading zeros, 0 as `0`; none that is printed has more than six digits.
+unfoldable pub numberText : ℕ → List ℕ
+numberText n = digitAt 100000 n ++ digitAt 10000 n ++ digitAt 1000 n ++ digitAt 100 n ++ digitAt 10 n ++ (digitZero + n % base) ∷ []
+
+-- a number after a space
+abbrev pub spaced : ℕ → List ℕ
+spaced n = (space ∷ []) ++ numberText n
+
+-- a line of a name and one number
+unfoldable pub numbered : List ℕ → ℕ → List ℕ
+numbered name n = name ++ spaced n ++ closed
+
+-- ---- the verdict
+-- "`(daily 240 900)` .. These are N, S and each rest's start and end; a weekly rest prints `(weekly start end week carrier)`."
+unfoldable pub spanText : List ℕ → ℕ → ℕ → List ℕ
+spanText name start end = name ++ spaced start ++ spaced end
+
+unfoldable pub dailyText : ℕ → ℕ → List ℕ
+dailyText start end = spanText dailyName start end ++ closed
+
+unfoldable pub weeklyText : ℕ → ℕ → ℕ → ℕ → List ℕ
+weeklyText start end week carrier = spanText weeklyName start end ++ spaced week ++ spaced carrier ++ closed
+
+-- a rest by its entry in the reading: kind, week, carrier
+unfoldable pub restText : ℕ → ℕ → ℕ → ℕ → ℕ → List ℕ
+restText start end kind week carrier = pick (eqb kind weeklyKind) (weeklyText start end week carrier) (dailyText start end)
+
+-- the long rests in order, with three bytes of the reading for each
+unfoldable pub restsText : List Span → List ℕ → List ℕ
+restsText [] reading = []
+restsText (r ∷ rs) reading =
+    restText (r .start) (r .end) (getD reading 0 0) (getD reading 1 0) (getD reading 2 0) ++ restsText rs (drop entryBytes reading)
+
+-- "a being 7, 6.1, 6.2, 6.3, 8.2 or 8 for 1 to 6"
+unfoldable pub articleText : ℕ → List ℕ
+articleText a =
+    pick (eqb a 1) (55 ∷ [])
+    (pick (eqb a 2) (54 ∷ 46 ∷ 49 ∷ [])
+    (pick (eqb a 3) (54 ∷ 46 ∷ 50 ∷ [])
+    (pick (eqb a 4) (54 ∷ 46 ∷ 51 ∷ [])
+    (pick (eqb a 5) (56 ∷ 46 ∷ 50 ∷ [])
+    (56 ∷ [])))))
+
+-- the line `(breach m a)`
+unfoldable pub breachText : ℕ → ℕ → List ℕ
+breachText m a = breachName ++ spaced m ++ (space ∷ []) ++ articleText a ++ closed
+
+-- "A breach has, after minutes, `(breach m a)` in place of judged and reading"
+abbrev pub findingText : List ℕ → Verdict → List ℕ
+findingText ms (pass reading) = numbered judgedName (judgedEnd ms) ++ asLine readingName ++ restsText (longRests ms) reading ++ closed
+findingText ms (breach m a) = breachText m a
+
+-- the lines of a recording's verdict, between the first and the last
+unfoldable pub answerText : List ℕ → List ℕ
+answerText ms = numbered minutesName (length ms) ++ findingText ms (verdict ms)
+
+-- `(verdict`, these lines, `)`
+abbrev pub bracketed : List ℕ → List ℕ
+bracketed lines = asLine verdictName ++ lines ++ closed
+
+-- "A refusal prints `(verdict`, `(refused n)`, `)`."
+abbrev pub printed : Answer (List ℕ) → List ℕ
+printed (refused n) = bracketed (numbered refusedName n)
+printed (answered lines) = bracketed lines
+
+-- what is printed for words: the verdict, or refusal 1 or 2
+abbrev pub wordsAnswered : List ℕ → Answer (List ℕ)
+wordsAnswered words = andThen (measured words) (λ _. answered (answerText (minutesOf words)))
+
+unfoldable pub verdictText : List ℕ → List ℕ
+verdictText words = printed (wordsAnswered words)
+
+-- ---- the desk program
+-- "The desk program reads such text from standard input, at most 65,536 bytes; more prints as refusal 9."
+abbrev pub inputAtMost : ℕ
+inputAtMost = 65536
+
+-- "It lends words enough for any text of that size": here a word for each byte.
+unfoldable pub inputRead : List ℕ → Answer (List ℕ)
+inputRead text = refuseIf (ltb inputAtMost (length text)) 9 (textRead text (length text))
+
+-- what is printed for the bytes of the input
+unfoldable pub deskText : List ℕ → List ℕ
+deskText text = printed (andThen (inputRead text) wordsAnswered)
+
+-- What is printed, composed in a buffer of `room` bytes: refusal 10, too few bytes. `counted` and `filled` of it are the result and the bytes.
+unfoldable pub intoRoom : List ℕ → ℕ → Answer (List ℕ)
+intoRoom bytes room = refuseIf (ltb room (length bytes)) 10 (answered bytes)

@@ -1,0 +1,276 @@
+// What the desk program prints, composed in a buffer. What is said of it stands in specs/.
+use recording::Filling;
+use verdict::Outcome;
+ghost use mathlib.Core.Path.{_≡_};
+ghost use Prim.Native.Nat.{_+_, _≤_};
+ghost use lib.ListN.{length};
+ghost use Rattle.recording.specs.Answers.{counted, filled};
+ghost use Rattle.recording.specs.Words.{minutesOf};
+ghost use Rattle.recording.specs.Operations.{totalAtMost, written};
+ghost use Rattle.rules.specs.Verdict.{pass, breach};
+ghost use Rattle.text.specs.Passes.{Put, places, roomy};
+ghost use Rattle.desk_report.specs.Printed.{numberText, spaced, numbered, spanText, dailyText, weeklyText, restText, articleText, breachText, verdictText, deskText, intoRoom};
+ghost use Rattle.desk_report.specs.Composing.{pageAtMost, restsOf, Readable, refusalPage, pageOf, passHead, Read};
+
+// Bytes enough for whatever is printed.
+pub const PAGE_BYTES: usize = 8320;
+
+// The most bytes of a text that are read.
+pub const INPUT_BYTES: usize = 65536;
+
+// Words enough for any text of that size: a run line has at least nine bytes.
+const TEXT_WORDS: usize = 7282;
+
+// Bytes enough for any reading: three for each long rest.
+const READING_BYTES: usize = 3 * recording::LONG_RESTS;
+
+// A byte as a wider number.
+fn wide(b: u8) -> u32
+    ensures { λ r. ⌜ r ≡ b ⌝ }
+{
+    b as u32
+}
+
+// ---- lines
+
+// A number of at most six digits, in decimal.
+fn put_number(out: &mut [u8], at: usize, n: u32) -> usize
+    requires { ⌜ at + 6 ≤ places ⌝ }
+    ensures { λ r. ⌜ Put (now (out .entry)) at (numberText n) r (now (out .exit)) ⌝ }
+{
+    let a = text::put_digit(out, at, 100000, n);
+    let b = text::put_digit(out, a, 10000, n);
+    let c = text::put_digit(out, b, 1000, n);
+    let d = text::put_digit(out, c, 100, n);
+    let e = text::put_digit(out, d, 10, n);
+    text::put(out, e, (48 + n % 10) as u8);
+    e + 1
+}
+
+// A number after a space.
+fn put_spaced(out: &mut [u8], at: usize, n: u32) -> usize
+    requires { ⌜ at + 7 ≤ places ⌝ }
+    ensures { λ r. ⌜ Put (now (out .entry)) at (spaced n) r (now (out .exit)) ⌝ }
+{
+    let next = text::put_all(out, at, b" ");
+    put_number(out, next, n)
+}
+
+// A line of a name and one number.
+fn put_numbered(out: &mut [u8], at: usize, name: &[u8], n: u32) -> usize
+    requires { ⌜ at + length (now name) + 9 ≤ places ⌝ }
+    ensures { λ r. ⌜ Put (now (out .entry)) at (numbered (now (name .entry)) n) r (now (out .exit)) × (r ≤ at + length (now (name .entry)) + 9) ⌝ }
+{
+    let named = text::put_all(out, at, name);
+    let told = put_spaced(out, named, n);
+    text::put_all(out, told, b")\n")
+}
+
+// A name, a start and an end.
+fn put_span(out: &mut [u8], at: usize, name: &[u8], start: u32, end: u32) -> usize
+    requires { ⌜ at + length (now name) + 14 ≤ places ⌝ }
+    ensures { λ r. ⌜ Put (now (out .entry)) at (spanText (now (name .entry)) start end) r (now (out .exit)) ⌝ }
+{
+    let named = text::put_all(out, at, name);
+    let begun = put_spaced(out, named, start);
+    put_spaced(out, begun, end)
+}
+
+// The line of a daily rest.
+fn put_daily(out: &mut [u8], at: usize, start: u32, end: u32) -> usize
+    requires { ⌜ at ≤ roomy ⌝ }
+    ensures { λ r. ⌜ Put (now (out .entry)) at (dailyText start end) r (now (out .exit)) ⌝ }
+{
+    let ended = put_span(out, at, b"(daily", start, end);
+    text::put_all(out, ended, b")\n")
+}
+
+// The line of a weekly rest.
+fn put_weekly(out: &mut [u8], at: usize, start: u32, end: u32, week: u32, carrier: u32) -> usize
+    requires { ⌜ at ≤ roomy ⌝ }
+    ensures { λ r. ⌜ Put (now (out .entry)) at (weeklyText start end week carrier) r (now (out .exit)) ⌝ }
+{
+    let ended = put_span(out, at, b"(weekly", start, end);
+    let counted = put_spaced(out, ended, week);
+    let carried = put_spaced(out, counted, carrier);
+    text::put_all(out, carried, b")\n")
+}
+
+// A rest's line, by its entry in the reading.
+fn put_rest(
+    out: &mut [u8],
+    at: usize,
+    start: u32,
+    end: u32,
+    kind: u32,
+    week: u32,
+    carrier: u32,
+) -> usize
+    requires { ⌜ at ≤ roomy ⌝ }
+    ensures { λ r. ⌜ Put (now (out .entry)) at (restText start end kind week carrier) r (now (out .exit)) ⌝ }
+{
+    if kind == 1 {
+        return put_weekly(out, at, start, end, week, carrier);
+    }
+    put_daily(out, at, start, end)
+}
+
+// The lines of all rests.
+fn put_rests(out: &mut [u8], at: usize, starts: &[u32], ends: &[u32], reading: &[u8]) -> usize
+    requires { ⌜ Readable at (now starts) (now ends) (now reading) ⌝ }
+    ensures { λ r. ⌜ Put (now (out .entry)) at (restsOf (now (starts .entry)) (now (ends .entry)) (now (reading .entry))) r (now (out .exit)) ⌝ }
+{
+    let mut next = at;
+    let mut i = 0;
+    while i < starts.len() {
+        let kind = wide(reading[3 * i]);
+        let week = wide(reading[3 * i + 1]);
+        let carrier = wide(reading[3 * i + 2]);
+        next = put_rest(out, next, starts[i], ends[i], kind, week, carrier);
+        i += 1;
+    }
+    next
+}
+
+// The article of a breach.
+fn put_article(out: &mut [u8], at: usize, article: u32) -> usize
+    requires { ⌜ at ≤ roomy ⌝ }
+    ensures { λ r. ⌜ Put (now (out .entry)) at (articleText article) r (now (out .exit)) ⌝ }
+{
+    match article {
+        1 => text::put_all(out, at, b"7"),
+        2 => text::put_all(out, at, b"6.1"),
+        3 => text::put_all(out, at, b"6.2"),
+        4 => text::put_all(out, at, b"6.3"),
+        5 => text::put_all(out, at, b"8.2"),
+        _ => text::put_all(out, at, b"8"),
+    }
+}
+
+// The line of a breach.
+fn put_breach(out: &mut [u8], at: usize, minute: u32, article: u32) -> usize
+    requires { ⌜ at + 24 ≤ roomy ⌝ }
+    ensures { λ r. ⌜ Put (now (out .entry)) at (breachText minute article) r (now (out .exit)) ⌝ }
+{
+    let named = text::put_all(out, at, b"(breach");
+    let timed = put_spaced(out, named, minute);
+    let parted = text::put_all(out, timed, b" ");
+    let told = put_article(out, parted, article);
+    text::put_all(out, told, b")\n")
+}
+
+// ---- pages
+
+// What is printed for a refusal.
+fn refusal_page(out: &mut [u8], n: u32) -> usize
+    ensures { λ r. ⌜ Put (now (out .entry)) 0 (refusalPage n) r (now (out .exit)) ⌝ }
+{
+    let begun = text::put_all(out, 0, b"(verdict\n");
+    let told = put_numbered(out, begun, b"(refused", n);
+    text::put_all(out, told, b")\n")
+}
+
+// What is printed for a breach.
+fn breach_page(out: &mut [u8], words: &[u32], minute: u32, article: u32) -> usize
+    requires { ⌜ length (minutesOf (now words)) ≤ totalAtMost ⌝ }
+    ensures { λ r. ⌜ Put (now (out .entry)) 0 (pageOf (minutesOf (now (words .entry))) (breach minute article)) r (now (out .exit)) ⌝ }
+{
+    let place = recording::place_of(words);
+    let begun = text::put_all(out, 0, b"(verdict\n");
+    let counted = put_numbered(out, begun, b"(minutes", place.now);
+    let told = put_breach(out, counted, minute, article);
+    text::put_all(out, told, b")\n")
+}
+
+// What stands before the rests of a pass.
+fn begin_pass(out: &mut [u8], total: u32, judged: u32) -> usize
+    ensures { λ r. ⌜ Put (now (out .entry)) 0 (passHead total judged) r (now (out .exit)) ⌝ }
+{
+    let begun = text::put_all(out, 0, b"(verdict\n");
+    let counted = put_numbered(out, begun, b"(minutes", total);
+    let ended = put_numbered(out, counted, b"(judged", judged);
+    text::put_all(out, ended, b"(reading\n")
+}
+
+// What is printed for a pass.
+fn pass_page(out: &mut [u8], words: &[u32], reading: &[u8]) -> usize
+    requires { ⌜ Read (now words) (now reading) ⌝ }
+    ensures { λ r. ⌜ Put (now (out .entry)) 0 (pageOf (minutesOf (now (words .entry))) (pass (now (reading .entry)))) r (now (out .exit)) ⌝ }
+{
+    let mut starts = [0u32; recording::LONG_RESTS];
+    let mut ends = [0u32; recording::LONG_RESTS];
+    let place = recording::scan(words, &mut starts, &mut ends);
+    let k = place.count as usize;
+    let begun = begin_pass(out, place.now, place.from);
+    let told = put_rests(out, begun, &starts[..k], &ends[..k], reading);
+    text::put_all(out, told, b")\n)\n")
+}
+
+// What is printed for a recording: its verdict, or a refusal.
+fn verdict_page(out: &mut [u8], words: &[u32]) -> usize
+    ensures { λ r. ⌜ Put (now (out .entry)) 0 (verdictText (now (words .entry))) r (now (out .exit)) ⌝ }
+{
+    let mut reading = [0u8; READING_BYTES];
+    let outcome = verdict::verdict(words, &mut reading);
+    match outcome {
+        Outcome::Refused(n) => refusal_page(out, n),
+        Outcome::Passed(n) => {
+            let size = n as usize;
+            pass_page(out, words, &reading[..size])
+        }
+        Outcome::Breached(found) => breach_page(out, words, found.minute, found.article),
+    }
+}
+
+// What is printed for a text.
+fn desk_page(out: &mut [u8], text: &[u8]) -> usize
+    ensures { λ r. ⌜ Put (now (out .entry)) 0 (deskText (now (text .entry))) r (now (out .exit)) ⌝ }
+{
+    if INPUT_BYTES < text.len() {
+        return refusal_page(out, 9);
+    }
+    let mut words = [0u32; TEXT_WORDS];
+    let answer = text::read_text(text, &mut words);
+    match answer {
+        Filling::Refused(n) => refusal_page(out, n),
+        Filling::Written(n) => {
+            let count = n as usize;
+            verdict_page(out, &words[..count])
+        }
+    }
+}
+
+// A page into a lent buffer: 10, too few bytes; or its length.
+fn hand_over(page: &[u8], out: &mut [u8]) -> Filling
+    requires { ⌜ length (now page) ≤ pageAtMost ⌝ }
+    ensures { λ r. ⌜ written r ≡ counted (intoRoom (now (page .entry)) (length (now (out .entry)))) ⌝ }
+    ensures { λ r. ⌜ now (out .exit) ≡ filled (intoRoom (now (page .entry)) (length (now (out .entry)))) (now (out .entry)) ⌝ }
+{
+    let n = page.len();
+    if out.len() < n {
+        return Filling::Refused(10);
+    }
+    text::put_all(out, 0, page);
+    Filling::Written(n as u32)
+}
+
+// Printing the verdict on a recording: 10, too few bytes; or the count of bytes written. `PAGE_BYTES` are always enough.
+pub fn print_verdict(words: &[u32], out: &mut [u8]) -> Filling
+    ensures { λ r. ⌜ written r ≡ counted (intoRoom (verdictText (now (words .entry))) (length (now (out .entry)))) ⌝ }
+    ensures { λ r. ⌜ now (out .exit) ≡ filled (intoRoom (verdictText (now (words .entry))) (length (now (out .entry)))) (now (out .entry)) ⌝ }
+{
+    let mut page = [0u8; PAGE_BYTES];
+    let n = verdict_page(&mut page, words);
+    hand_over(&page[..n], out)
+}
+
+// Printing what the desk program prints for a text: 10, too few bytes; or the count of bytes written. `PAGE_BYTES` are always
+// enough.
+pub fn print_desk(text: &[u8], out: &mut [u8]) -> Filling
+    ensures { λ r. ⌜ written r ≡ counted (intoRoom (deskText (now (text .entry))) (length (now (out .entry)))) ⌝ }
+    ensures { λ r. ⌜ now (out .exit) ≡ filled (intoRoom (deskText (now (text .entry))) (length (now (out .entry)))) (now (out .entry)) ⌝ }
+{
+    let mut page = [0u8; PAGE_BYTES];
+    let n = desk_page(&mut page, text);
+    hand_over(&page[..n], out)
+}

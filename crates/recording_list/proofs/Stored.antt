@@ -1,0 +1,26 @@
+-- A list whose first k elements are stored one by one: f 0 at 0, f 1 at 1, ..
+-- Assumes nothing.
+use mathlib.Core.Path.{_≡_, refl, ap, _∙_}
+use mathlib.Core.List.{List, [], _∷_, _++_}
+use Prim.Native.Nat.{ℕ, zero, suc, _≤_}
+use native.Mathlib.Nat.{not-suc-le-zero, le-of-suc-le-suc}
+use lib.ListN.{length, drop, set, length-set}
+use Rattle.recording_list.specs.Records.{firstOf}
+
+abbrev pub stored : {A : Type 0} → ℕ → (ℕ → A) → List A → List A
+stored zero f l = l
+stored (suc k) f l = set (stored k f l) k (f k)
+
+pub stored-length : {A : Type 0} (k : ℕ) (f : ℕ → A) (l : List A) → length (stored k f l) ≡ length l
+stored-length zero f l = refl
+stored-length (suc k) f l = length-set (stored k f l) k (f k) ∙ stored-length k f l
+
+in-front : {A : Type 0} (k : ℕ) (f : ℕ → A) (x : A) (l : List A) → stored (suc k) f (x ∷ l) ≡ f zero ∷ stored k (λ i. f (suc i)) l
+in-front zero f x l = refl
+in-front {A} (suc k) f x l = ap (λ (m : List A). set m (suc k) (f (suc k))) (in-front k f x l)
+
+pub stored-is : {A : Type 0} (k : ℕ) (f : ℕ → A) (l : List A) → k ≤ length l → stored k f l ≡ firstOf k f ++ drop k l
+stored-is zero f l h = refl
+stored-is (suc k) f [] h = absurd (not-suc-le-zero h)
+stored-is {A} (suc k) f (x ∷ l) h =
+    in-front k f x l ∙ ap (λ (m : List A). f zero ∷ m) (stored-is k (λ i. f (suc i)) l (le-of-suc-le-suc h))

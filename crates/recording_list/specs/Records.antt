@@ -1,0 +1,33 @@
+-- What the scan gives to the function that fills the list. Nothing here has to be believed: the listing's own contract goes by the definitions of
+-- `recording`.
+-- Assumes nothing.
+use mathlib.Core.Path.{_≡_}
+use mathlib.Core.List.{List, [], _∷_}
+use Prim.Native.Nat.{ℕ, zero, suc, _≤_}
+use lib.ListN.{getD}
+use Rattle.recording.specs.Answers.{Answer, refused, answered, counted}
+use Rattle.recording.specs.Rests.{longRestsAtMost}
+use Rattle.recording.specs.Operations.{listed, written}
+use Rattle.recording.specs.declared.Span.{Span}
+use Rattle.recording_list.specs.declared.Found.{Found}
+
+-- the record at i
+abbrev pub spanIn : Found → ℕ → Span
+spanIn f i = record { start = getD (f .starts) i 0; end = getD (f .ends) i 0 }
+
+-- f 0, f 1, .., k of them
+abbrev pub firstOf : {A : Type 0} → ℕ → (ℕ → A) → List A
+firstOf zero f = []
+firstOf (suc k) f = f zero ∷ firstOf k (λ i. f (suc i))
+
+-- what an operation writes: nothing on a refusal
+abbrev pub newOf : {A : Type 0} → Answer (List A) → List A
+newOf (refused n) = []
+newOf (answered new) = new
+
+-- the answer and the records of a list of `room` records; none lies past the list, or past the arrays
+pub record Finds (words : List ℕ) (room : ℕ) (f : Found) : Type 0 where
+  pub answer : written (f .answer) ≡ counted (listed words room)
+  pub records : firstOf (f .count) (spanIn f) ≡ newOf (listed words room)
+  pub fits : f .count ≤ room
+  pub few : f .count ≤ longRestsAtMost

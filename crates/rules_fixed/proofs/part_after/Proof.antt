@@ -1,0 +1,80 @@
+-- `rules_fixed::part_after` meets its contract. Assumes nothing.
+use native.Mathlib.Omega.{arith}
+use borrow.Author.Needs.{needs}
+use borrow.Author.Tests.{ne-eqb}
+use Prim.Native.Nat.{_-_}
+use Rattle.rules_fixed.specs.Parts.{restPart, busyPart, partAfter}
+use Rattle.rules_fixed.proofs.Steps.{rested-bounded, its-day, day-after-bounded}
+use Rattle.rules_fixed.proofs.PartRight.{driving-most, day-start}
+use Rattle.rules_fixed.proofs.part_after.Statement.{statement}
+use Rattle.rules_fixed.proofs.part_after.Tie as tie
+
+driven-more-requires : tie.Need-driven-more-requires
+driven-more-requires c κs = let z = (c .before .before .before .before .before .before .before .before .before) in rw (c .rested-for .ensures, c .before .driving-of .ensures) (omega
+    (arith, driving-most (z .args .activity) (z .args .n), rested-bounded (z .args .s .now - z .args .s .from) (z .args .s .driven) _ (z .pre .0 .sum)))
+
+day-more-requires : tie.Need-day-more-requires
+day-more-requires c κs = let z = (c .before .before .before .before .before .before .before .before .before .before .before) in let k = day-after-bounded (z .args .s .now - z .args .s .from)
+    (z .args .s .now) (z .args .s .week .end) (z .args .s .day) (its-day _ (z .pre .0)) in let n = driving-most (z .args .activity) (z .args .n) in rw
+    (c .day-after .ensures, c .before .before .before .driving-of .ensures) (omega (arith, k .driving), omega (arith, k .extended))
+
+week-more-requires : tie.Need-week-more-requires
+week-more-requires c κs = let z = (c .before .before .before .before .before .before .before .before .before .before .before .before) in rw
+    (c .before .before .before .before .driving-of .ensures) (omega (arith, driving-most (z .args .activity) (z .args .n), z .pre .0 .weekly))
+
+broken-at-requires : tie.Need-broken-at-requires
+broken-at-requires c κs = let z = (c .before .before .before .before .before .before .before .before .before .before .before .before .before) in let k = day-after-bounded
+    (z .args .s .now - z .args .s .from) (z .args .s .now) (z .args .s .week .end) (z .args .s .day) (its-day _ (z .pre .0)) in let n = driving-most (z .args .activity) (z .args .n) in rw
+    (c .before .day-more .ensures, day-start, c .before .before .day-after .ensures, c .week-more .ensures, c .before .before .before .before .before .driving-of .ensures) (
+      omega
+          (arith, k .start),
+      omega (arith, z .pre .0 .last),
+      omega (arith, z .pre .0 .weekly),
+    )
+
+week-next-requires-2 : tie.Need-week-next-requires-2
+week-next-requires-2 c κs = let z = (c .before .before .before .before .before .before .before .before .before .before .before .before .before .before) in rw (c .before .week-more .ensures)
+    (omega (arith, z .pre .0 .end, z .pre .1))
+
+returns : tie.Need-returns
+unfolding partAfter restPart
+returns c = simp (c .before .match .keys1, c .week-next .ensures)
+
+returns-2 : tie.Need-returns-2
+unfolding partAfter busyPart
+returns-2 c = simp (
+  ne-eqb _ _ (c .before .before .before .before .before .before .before .before .before .before .before .match .rest .1),
+  c .first-break .ensures,
+  c .before .smaller-of
+      .ensures,
+  c .before .before .week-next2 .ensures,
+  c .before .before .before .broken-at .ensures,
+  c .before .before .before .before .week-more .ensures,
+  c .before .before .before .before
+      .before .day-more .ensures,
+  c .before .before .before .before .before .before .day-after .ensures,
+  c .before .before .before .before .before .before .before .driven-more .ensures,
+  c
+      .before .before .before .before .before .before .before .before .rested-for .ensures,
+  c .before .before .before .before .before .before .before .before .before .driving-of .ensures,
+)
+
+pub part-after-spec : {M : Type 1} → statement M
+part-after-spec =
+    tie.close
+    (tie.spec
+    (λ c. search needs)
+    (λ c κs. search needs)
+    (λ c. search needs)
+    (λ c κs. search needs)
+    (λ c κs. search needs)
+    driven-more-requires
+    (λ c κs. search needs)
+    day-more-requires
+    week-more-requires
+    broken-at-requires
+    week-next-requires-2
+    (λ c κs. search needs)
+    (λ c κs. search needs)
+    returns
+    returns-2)

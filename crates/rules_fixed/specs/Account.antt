@@ -1,0 +1,102 @@
+-- The account of the fixed rules, defined minute by minute. Nobody has to believe it: proofs/AccountRight.antt shows that it answers the fixed rules as
+-- document 01 says them.
+-- Assumes nothing.
+use mathlib.Core.Bool.{Bool, true, false}
+use mathlib.Core.List.{List, [], _∷_}
+use Prim.Native.Nat.{ℕ, zero, suc, _+_, _-_}
+use lib.Dec.{leb, eqb}
+use Rattle.recording.specs.Tests.{_and_, pick, one}
+use Rattle.recording.specs.Words.{isDriving}
+use Rattle.recording.specs.Rests.{longRestMinutes}
+use Rattle.recording.specs.Weeks.{weekMinutes, isRest}
+use Rattle.rules.specs.Broken.{unless}
+use Rattle.rules.specs.Fixed.{cleared, rested, drove, spellAtMost, dayAtMost, ordinaryDay, extendedDays, weekAtMost, fortnightAtMost, dayLength}
+use Rattle.rules.specs.declared.Driven.{Driven}
+use Rattle.rules_fixed.specs.declared.Day.{Day}
+use Rattle.rules_fixed.specs.declared.Week.{Week}
+use Rattle.rules_fixed.specs.declared.Break.{Break}
+use Rattle.rules_fixed.specs.declared.Account.{Account}
+
+-- ---- the day: after a rest of n minutes that ends at a minute of the week that ends at `end`; and a minute more of an activity
+unfoldable pub dayAfter : ℕ → ℕ → ℕ → Day → Day
+dayAfter n now end d =
+    pick (leb longRestMinutes n) (record { start = now; driving = 0; extended = pick (leb end (d .start + weekMinutes)) (d .extended) 0 }) d
+
+unfoldable pub dayWith : ℕ → Day → Day
+dayWith a d =
+    record {
+      start = d .start;
+      driving = one (isDriving a) + d .driving;
+      extended = d .extended + one (isDriving a and eqb (d .driving) ordinaryDay);
+    }
+
+-- ---- the week: a minute more, and the next week where one ends
+unfoldable pub weekWith : ℕ → Week → Week
+weekWith a w = record { end = w .end; driving = one (isDriving a) + w .driving; last = w .last }
+
+unfoldable pub weekNext : ℕ → Week → Week
+weekNext now w = pick (eqb now (w .end)) (record { end = w .end + weekMinutes; driving = 0; last = w .driving }) w
+
+-- ---- the smallest rule that is broken at the minute that ends at `now`
+unfoldable pub brokenAt : ℕ → Driven → Day → Week → ℕ
+brokenAt now d y w =
+    unless (leb (d .sum) spellAtMost) 1
+    (unless (leb (y .driving) dayAtMost and leb (y .extended) extendedDays) 2
+    (unless (leb (w .driving) weekAtMost) 3
+    (unless (leb (w .last + w .driving) fortnightAtMost) 4
+    (unless (leb now (y .start + dayLength)) 5 0))))
+
+-- the smaller of two broken rules, where 0 is none; and the first breach
+abbrev pub smaller : ℕ → ℕ → ℕ
+smaller zero b = b
+smaller (suc a) zero = suc a
+smaller (suc a) (suc b) = pick (leb a b) (suc a) (suc b)
+
+abbrev pub firstBreak : Break → ℕ → ℕ → Break
+firstBreak f now b = pick (eqb (f .rule) 0) (pick (eqb b 0) f (record { at = now; rule = b })) f
+
+-- ---- a minute
+unfoldable pub restMinute : Account → Account
+restMinute s = record {
+  now = s .now + 1;
+  from = s .from;
+  driven = s .driven;
+  day = s .day;
+  week = weekNext (s .now + 1) (s .week);
+  rule = s .rule;
+  first = s .first;
+}
+
+unfoldable pub busyMinute : Account → ℕ → Account
+busyMinute s a =
+    let d = drove a (rested (s .now - s .from) (s .driven)) in
+    let y = dayWith a (dayAfter (s .now - s .from) (s .now) (s .week .end) (s .day)) in
+    let w = weekWith a (s .week) in
+    let b = brokenAt (s .now + 1) d y w in
+    record {
+      now = s .now + 1;
+      from = s .now + 1;
+      driven = d;
+      day = y;
+      week = weekNext (s .now + 1) w;
+      rule = smaller (s .rule) b;
+      first = firstBreak (s .first) (s .now + 1) b;
+    }
+
+unfoldable pub minuteAfter : Account → ℕ → Account
+minuteAfter s a = pick (isRest a) (restMinute s) (busyMinute s a)
+
+unfoldable pub accountFrom : Account → List ℕ → Account
+accountFrom s [] = s
+accountFrom s (a ∷ ms) = accountFrom (minuteAfter s a) ms
+
+abbrev pub opening : Account
+opening = record {
+  now = 0;
+  from = 0;
+  driven = cleared;
+  day = record { start = 0; driving = 0; extended = 0 };
+  week = record { end = weekMinutes; driving = 0; last = 0 };
+  rule = 0;
+  first = record { at = 0; rule = 0 };
+}

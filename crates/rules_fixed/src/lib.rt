@@ -1,0 +1,474 @@
+// The fixed rules, 1 to 5, in one walk over a recording.
+use recording::Place;
+use recording::Weighing;
+use rules::Driven;
+ghost use mathlib.Core.Path.{_≡_};
+ghost use Prim.Native.Nat.{_+_, _<_, _≤_, min};
+ghost use lib.ListN.{length};
+ghost use Rattle.recording.specs.Words.{minutesOf};
+ghost use Rattle.recording.specs.Operations.{totalAtMost};
+ghost use Rattle.rules.specs.Fixed.{rested};
+ghost use Rattle.rules.specs.Operations.{fixedTested};
+ghost use Rattle.rules_fixed.specs.Account.{dayAfter, weekNext, brokenAt, smaller, firstBreak};
+ghost use Rattle.rules_fixed.specs.Nets.{regularNet};
+ghost use Rattle.rules_fixed.specs.Walk.{Bounded, Ran, Surveyed, tested};
+ghost use Rattle.rules_fixed.specs.Parts.{drivingOf, inWeek, drivenMore, dayMore, weekMore, partAfter, sameBreaches, Taken};
+
+// The day that runs: its start P, its driving, and how many days that began in its week were extended.
+pub struct Day {
+    pub start: u32,
+    pub driving: u32,
+    pub extended: u32,
+}
+
+// The week that runs: its end, its driving, and the driving of the week before.
+pub struct Week {
+    pub end: u32,
+    pub driving: u32,
+    pub last: u32,
+}
+
+// The first breach: the length of the shortest stretch that breaks a fixed rule, and that rule; rule 0 where there is none.
+pub struct Break {
+    pub at: u32,
+    pub rule: u32,
+}
+
+// The account of a stretch: the minute reached, where the rest under way started or one could start, the account of each rule,
+// the smallest rule that is broken, or 0, and the first breach.
+pub struct Account {
+    pub now: u32,
+    pub from: u32,
+    pub driven: Driven,
+    pub day: Day,
+    pub week: Week,
+    pub rule: u32,
+    pub first: Break,
+}
+
+// A part of a run: its minutes, and the account after it.
+pub struct Part {
+    pub minutes: u32,
+    pub account: Account,
+}
+
+// What one walk finds: the place at its end, with the long rests' count, and the account.
+pub struct Survey {
+    pub place: Place,
+    pub account: Account,
+}
+
+// What the fixed test answers.
+pub enum Tested {
+    Refused(u32),
+    Answer(u32),
+}
+
+const FULL_BREAK: u32 = 45;
+
+const FIRST_PART: u32 = 15;
+
+const SECOND_PART: u32 = 30;
+
+const SPELL: u32 = 270;
+
+const DAY: u32 = 600;
+
+const ORDINARY_DAY: u32 = 540;
+
+const EXTENDED_DAYS: u32 = 2;
+
+const WEEK: u32 = 3360;
+
+const FORTNIGHT: u32 = 5400;
+
+const DAY_LENGTH: u32 = 900;
+
+pub const DAILY_WINDOW: u32 = 1440;
+
+pub const FULL_PORTION: u32 = 660;
+
+// Rule 1: the driving sum after a rest of n minutes.
+pub fn rested_for(n: u32, d: Driven) -> Driven
+    ensures { λ r. ⌜ r ≡ rested n d ⌝ }
+{
+    if FULL_BREAK <= n {
+        return Driven {
+            sum: 0,
+            split: false,
+        };
+    }
+    if n < FIRST_PART {
+        return d;
+    }
+    if n < SECOND_PART {
+        return Driven {
+            sum: d.sum,
+            split: true,
+        };
+    }
+    if d.split {
+        return Driven {
+            sum: 0,
+            split: false,
+        };
+    }
+    Driven {
+        sum: d.sum,
+        split: true,
+    }
+}
+
+// Rules 2 and 5: the day that runs after a rest of n minutes that ended at a minute, in the week that ends at `end`.
+pub fn day_after(n: u32, minute: u32, end: u32, d: Day) -> Day
+    requires { ⌜ d .start ≤ totalAtMost ⌝ }
+    ensures { λ r. ⌜ r ≡ dayAfter n minute end d ⌝ }
+{
+    if n < recording::LONG_REST {
+        return d;
+    }
+    if end <= d.start + recording::WEEK_MINUTES {
+        return Day {
+            start: minute,
+            driving: 0,
+            extended: d.extended,
+        };
+    }
+    Day {
+        start: minute,
+        driving: 0,
+        extended: 0,
+    }
+}
+
+// How many of n minutes of an activity are driving.
+pub fn driving_of(activity: u32, n: u32) -> u32
+    ensures { λ r. ⌜ r ≡ drivingOf activity n ⌝ }
+{
+    match activity {
+        3 => n,
+        0 | 1 | 2 | _ => 0,
+    }
+}
+
+// Rule 1: the driving sum with k minutes more.
+pub fn driven_more(k: u32, d: Driven) -> Driven
+    requires { ⌜ d .sum + k ≤ totalAtMost ⌝ }
+    ensures { λ r. ⌜ r ≡ drivenMore k d ⌝ }
+{
+    Driven {
+        sum: d.sum + k,
+        split: d.split,
+    }
+}
+
+// Rule 2: the day with k minutes of driving more.
+pub fn day_more(k: u32, d: Day) -> Day
+    requires { ⌜ (d .driving + k ≤ totalAtMost) × (d .extended ≤ totalAtMost) ⌝ }
+    ensures { λ r. ⌜ r ≡ dayMore k d ⌝ }
+{
+    let driving = d.driving + k;
+    if ORDINARY_DAY < d.driving {
+        return Day {
+            start: d.start,
+            driving: driving,
+            extended: d.extended,
+        };
+    }
+    if ORDINARY_DAY < driving {
+        return Day {
+            start: d.start,
+            driving: driving,
+            extended: d.extended + 1,
+        };
+    }
+    Day {
+        start: d.start,
+        driving: driving,
+        extended: d.extended,
+    }
+}
+
+// Rules 3 and 4: the week with k minutes of driving more, and the next week where one ends now.
+pub fn week_more(k: u32, w: Week) -> Week
+    requires { ⌜ w .driving + k ≤ totalAtMost ⌝ }
+    ensures { λ r. ⌜ r ≡ weekMore k w ⌝ }
+{
+    Week {
+        end: w.end,
+        driving: w.driving + k,
+        last: w.last,
+    }
+}
+
+pub fn week_next(minute: u32, w: Week) -> Week
+    requires { ⌜ w .end ≤ totalAtMost + totalAtMost ⌝ }
+    ensures { λ r. ⌜ r ≡ weekNext minute w ⌝ }
+{
+    if minute == w.end {
+        return Week {
+            end: w.end + recording::WEEK_MINUTES,
+            driving: 0,
+            last: w.driving,
+        };
+    }
+    w
+}
+
+// The smallest rule that is broken at the minute that ends now, or 0.
+pub fn broken_at(minute: u32, d: Driven, y: Day, w: Week) -> u32
+    requires { ⌜ (y .start ≤ totalAtMost) × (w .last ≤ totalAtMost) × (w .driving ≤ totalAtMost) ⌝ }
+    ensures { λ r. ⌜ r ≡ brokenAt minute d y w ⌝ }
+{
+    if SPELL < d.sum {
+        return 1;
+    }
+    if DAY < y.driving {
+        return 2;
+    }
+    if EXTENDED_DAYS < y.extended {
+        return 2;
+    }
+    if WEEK < w.driving {
+        return 3;
+    }
+    if FORTNIGHT < w.last + w.driving {
+        return 4;
+    }
+    if y.start + DAY_LENGTH < minute {
+        return 5;
+    }
+    0
+}
+
+// The smaller of two broken rules, where 0 is none.
+pub fn smaller_of(a: u32, b: u32) -> u32
+    ensures { λ r. ⌜ r ≡ smaller a b ⌝ }
+{
+    if a == 0 {
+        return b;
+    }
+    if b == 0 {
+        return a;
+    }
+    if a <= b {
+        return a;
+    }
+    b
+}
+
+// The first breach, where the minute that ends now breaks the rule b or, with 0, none.
+pub fn first_break(f: Break, minute: u32, b: u32) -> Break
+    ensures { λ r. ⌜ r ≡ firstBreak f minute b ⌝ }
+{
+    if f.rule == 0 {
+        if b == 0 {
+            return f;
+        }
+        return Break {
+            at: minute,
+            rule: b,
+        };
+    }
+    f
+}
+
+// The account after a part of a run, n minutes of this activity: no week ends before the last, and they are one minute or change
+// nothing that is broken.
+pub fn part_after(s: Account, activity: u32, n: u32) -> Account
+    requires { ⌜ Bounded s × (s .now + n ≤ totalAtMost) ⌝ }
+    ensures { λ r. ⌜ r ≡ partAfter s activity n ⌝ }
+{
+    let now = s.now + n;
+    let driven = s.driven;
+    let day = s.day;
+    let week = s.week;
+    let first = s.first;
+    match activity {
+        0 => Account {
+            now: now,
+            from: s.from,
+            driven: driven,
+            day: day,
+            week: week_next(now, week),
+            rule: s.rule,
+            first: first,
+        },
+        1 | 2 | 3 | _ => {
+            let rest = s.now - s.from;
+            let k = driving_of(activity, n);
+            let d = driven_more(k, rested_for(rest, driven));
+            let y = day_more(k, day_after(rest, s.now, week.end, day));
+            let w = week_more(k, week);
+            let b = broken_at(now, d, y, w);
+            Account {
+                now: now,
+                from: now,
+                driven: d,
+                day: y,
+                week: week_next(now, w),
+                rule: smaller_of(s.rule, b),
+                first: first_break(first, now, b),
+            }
+        }
+    }
+}
+
+// Whether two accounts have the same smallest broken rule, and the same first one.
+pub fn same_breaches(s: Account, t: Account) -> bool
+    ensures { λ r. ⌜ r ≡ sameBreaches s t ⌝ }
+{
+    let a = s.first;
+    let b = t.first;
+    if s.rule == t.rule {
+        return a.rule == b.rule;
+    }
+    false
+}
+
+// The lesser of two numbers.
+pub fn lesser(a: u32, b: u32) -> u32
+    ensures { λ r. ⌜ r ≡ min a b ⌝ }
+{
+    if a < b {
+        return a;
+    }
+    b
+}
+
+// How many of n minutes after a minute are in the week that ends at `end`, and one where there is none.
+pub fn in_week(minute: u32, end: u32, n: u32) -> u32
+    ensures { λ r. ⌜ r ≡ inWeek minute end n ⌝ }
+{
+    if end <= minute {
+        return lesser(n, 1);
+    }
+    lesser(n, end - minute)
+}
+
+// The next part of a run of n minutes: those of one week, halved until they change nothing that is broken or one is left.
+pub fn next_part(s: Account, activity: u32, n: u32) -> Part
+    requires { ⌜ Bounded s × (s .now + n ≤ totalAtMost) × (0 < n) ⌝ }
+    ensures { λ r. ⌜ Taken s activity n r ⌝ }
+{
+    let week = s.week;
+    let mut k = in_week(s.now, week.end, n);
+    while 1 < k {
+        let t = part_after(s, activity, k);
+        if same_breaches(s, t) {
+            return Part {
+                minutes: k,
+                account: t,
+            };
+        }
+        k = k / 2;
+    }
+    Part {
+        minutes: 1,
+        account: part_after(s, activity, 1),
+    }
+}
+
+// The account after a run of n minutes of one activity.
+pub fn run(s: Account, activity: u32, n: u32) -> Account
+    requires { ⌜ Bounded s × (s .now + n ≤ totalAtMost) ⌝ }
+    ensures { λ r. ⌜ Ran s activity n r ⌝ }
+{
+    let mut t = s;
+    let mut left = n;
+    while 0 < left {
+        let part = next_part(t, activity, left);
+        left -= part.minutes;
+        t = part.account;
+    }
+    t
+}
+
+// Rule 9: the least net length at which the rest from `start` to `end` is no shortened daily rest, where P is p.
+pub fn regular_net(p: u32, start: u32, end: u32) -> u32
+    requires { ⌜ (p ≤ totalAtMost) × (start ≤ end) × (end ≤ totalAtMost) ⌝ }
+    ensures { λ r. ⌜ r ≡ regularNet p start end ⌝ }
+{
+    if start + FULL_PORTION <= p + DAILY_WINDOW {
+        return FULL_PORTION;
+    }
+    end - start + 1
+}
+
+// One walk over the first m minutes: the long rests' starts, ends and numbers by rule 9 into the lent slices as far as they
+// reach, the place and the account.
+pub fn survey_of(
+    words: &[u32],
+    m: u32,
+    starts: &mut [u32],
+    ends: &mut [u32],
+    nets: &mut [u32],
+) -> Survey
+    requires { ⌜ length (minutesOf (now words)) ≤ totalAtMost ⌝ }
+    ensures { λ r. ⌜ Surveyed (now (words .entry)) m (now (starts .entry)) (now (ends .entry)) (now (nets .entry)) r (now (starts .exit)) (now (ends .exit)) (now (nets .exit)) ⌝ }
+{
+    let mut p = Place {
+        now: 0,
+        from: 0,
+        count: 0,
+    };
+    let mut s = Account {
+        now: 0,
+        from: 0,
+        driven: Driven {
+            sum: 0,
+            split: false,
+        },
+        day: Day {
+            start: 0,
+            driving: 0,
+            extended: 0,
+        },
+        week: Week {
+            end: recording::WEEK_MINUTES,
+            driving: 0,
+            last: 0,
+        },
+        rule: 0,
+        first: Break { at: 0, rule: 0 },
+    };
+    let mut togo = m;
+    let mut i = 0;
+    while i < words.len() {
+        let word = words[i];
+        i += 1;
+        let activity = word % 4;
+        let minutes = lesser(togo, word / 4);
+        let ended = recording::ends_rest(p, activity, minutes);
+        recording::put_if(starts, ended, p.count, p.from);
+        recording::put_if(ends, ended, p.count, p.now);
+        let day = s.day;
+        recording::put_if(nets, ended, p.count, regular_net(day.start, p.from, p.now));
+        s = run(s, activity, minutes);
+        p = recording::after_run(p, activity, minutes);
+        togo -= minutes;
+    }
+    Survey {
+        place: p,
+        account: s,
+    }
+}
+
+// The fixed test for a stretch of m minutes: refusals 1 and 2, then 5; else 0 or the smallest broken rule of 1 to 5.
+pub fn fixed_test(words: &[u32], m: u32) -> Tested
+    ensures { λ r. ⌜ tested r ≡ fixedTested (now (words .entry)) m ⌝ }
+{
+    let weighing = recording::weigh(words);
+    let Weighing::Weighed(measure) = weighing else {
+        return Tested::Refused(recording::refusal_of(weighing));
+    };
+    if measure.total < m {
+        return Tested::Refused(5);
+    }
+    let mut starts = [0u32; 1];
+    let mut ends = [0u32; 1];
+    let mut nets = [0u32; 1];
+    let found = survey_of(words, m, &mut starts, &mut ends, &mut nets);
+    let account = found.account;
+    Tested::Answer(account.rule)
+}

@@ -1,0 +1,63 @@
+-- Small laws of items. Assumes nothing.
+use mathlib.Core.Path.{_≡_, refl, sym, ap, _∙_}
+use mathlib.Core.Bool.{Bool, true, false}
+use mathlib.Core.List.{List}
+use Prim.Native.Nat.{ℕ, zero, suc, _+_, _-_, _*_, _≤_, _<_}
+use native.Mathlib.Omega.{arith}
+use lib.Dec.{leb, ltb}
+use lib.ListN.{getD, set}
+use borrow.Author.Tests.{le-leb, lt-ltb, ne-eqb}
+use Rattle.recording.specs.Tests.{_and_, _or_, pick}
+use Rattle.recording.specs.Weeks.{weekStart, touches}
+use Rattle.recording.specs.Operations.{totalAtMost}
+use Rattle.rules.specs.Reading.{weeklyKind, asRead, isWeekly}
+use Rattle.rules.specs.declared.Kind.{Kind}
+use Rattle.rules.specs.ReadingRules.{weeklyLength, formedDaily, formedWeekly, formed, fullPortion, shortened}
+use Rattle.rules_fixed.proofs.NetLaws.{net-most, net-says}
+use Rattle.rules_reading.specs.Items.{entryBy, endBefore, endAt, Sane, restBy, paid}
+use Rattle.rules_reading.specs.declared.LongRest.{LongRest}
+use Rattle.rules_reading.specs.declared.Item.{Item}
+
+pub end-before-suc : (ends : List ℕ) (i : ℕ) → (i ≡ 0 → ⊥) → getD ends (i - 1) 0 ≡ endBefore ends i
+end-before-suc ends zero h = absurd (h refl)
+end-before-suc ends (suc i) h = let e : suc i - 1 ≡ i = omega arith in ap (λ (n : ℕ). getD ends n 0) e
+
+pub end-at-suc : (ends : List ℕ) (k n : ℕ) → (n ≡ 0 → ⊥) → endAt ends k n ≡ pick (ltb (n - 1) k) (getD ends (n - 1) 0) 0
+end-at-suc ends k zero h = absurd (h refl)
+end-at-suc ends k (suc i) h = let e : i ≡ suc i - 1 = omega arith in ap (λ (n : ℕ). pick (ltb n k) (getD ends n 0) 0) e
+
+pub or-none : (x : Bool) → x ≡ x or false
+unfolding _or_
+or-none true = refl
+or-none false = refl
+
+-- a weekly entry whose carrier is not 0: all but that there is such a rest
+pub formed-carried : (k : ℕ) (x : Item) → x .kind ≡ weeklyKind → weeklyLength ≤ x .end - x .start → x .start < weekStart (x .week + 1) → weekStart (x .week) < x .end
+    → (x .carrier ≡ 0 → ⊥) → x .number < x .carrier → leb (x .carrier) k ≡ formed k (entryBy x)
+unfolding formed formedDaily formedWeekly touches _and_ _or_
+formed-carried k x e l s t z n =
+    rw (
+      e,
+      le-leb weeklyLength (x .end - x .start) l,
+      lt-ltb (x .start) (weekStart (x .week + 1)) s,
+      lt-ltb (weekStart (x .week)) (x .end) t,
+      ne-eqb (x .carrier) 0 z,
+      lt-ltb (x .number)
+          (x .carrier) n,
+    )
+    refl
+
+-- the kind of an item's rest
+pub kind-is : (x : Item) {r : LongRest} {m : Kind} → r ≡ restBy x → r .kind ≡ m → asRead (entryBy x) ≡ m
+kind-is x e q = sym (ap (λ (r : LongRest). r .kind) e) ∙ q
+
+pub paid-suc : (loads : List ℕ) (c d : ℕ) → (c ≡ 0 → ⊥) → paid loads c d ≡ set loads (c - 1) (getD loads (c - 1) 0 + d)
+paid-suc loads zero d h = absurd (h refl)
+paid-suc loads (suc c) d h = let e : c ≡ suc c - 1 = omega arith in ap (λ (n : ℕ). set loads n (getD loads n 0 + d)) e
+
+-- rule 9 by the number of an item
+pub item-net : (x : Item) → Sane x → x .net ≤ fullPortion + totalAtMost + 1
+item-net x h = omega (arith, h .net, net-most (x .before) (x .start) (x .end), h .end)
+
+pub item-shortened : (x : Item) → Sane x → isWeekly (asRead (entryBy x)) ≡ false → ltb (x .end - x .start) (x .net + x .load) ≡ shortened (entryBy x)
+item-shortened x h d = ap (λ (n : ℕ). ltb (x .end - x .start) (n + x .load)) (h .net) ∙ sym (net-says (entryBy x) (h .ordered) d)

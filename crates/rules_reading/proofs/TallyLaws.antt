@@ -1,0 +1,170 @@
+-- Rules 8 to 10 with an entry more, payments, and rests counted in weeks. Assumes nothing.
+use mathlib.Core.Path.{_≡_, refl, sym, ap, ap₂, _∙_}
+use mathlib.Core.Logic.{_⊎_, inl, inr}
+use mathlib.Core.Bool.{Bool, true, false, not}
+use mathlib.Core.List.{List, [], _∷_}
+use Prim.Native.Nat.{ℕ, zero, suc, _+_, _-_, _*_, _≤_, _<_, min}
+use native.Mathlib.Nat.{le-refl, le-trans}
+use native.Mathlib.Omega.{arith}
+use lib.Dec.{leb, ltb, eqb, ltb→lt}
+use lib.ListN.{length, getD, set, length-set, List·getD-eq-default}
+use lib.Seq.{getD-set-same, getD-set-other, set-out}
+use borrow.Author.Tests.{leb-true, leb-false, le-leb, lt-leb, lt-ltb, le-ltb, ltb-true, ltb-false, eqb-true, eqb-false, eq-eqb, ne-eqb}
+use Rattle.recording.specs.Tests.{_and_, _or_, pick, one, allOf, countOf}
+use Rattle.recording.specs.Weeks.{weekStart}
+use Rattle.recording.specs.declared.Span.{Span}
+use Rattle.recording.proofs.TestLaws.{less-or-not, and-left, and-right, one-most}
+use Rattle.rules.specs.Broken.{unless}
+use Rattle.rules.specs.Reading.{Entry, minutes, regularMinutes, weeklyKind, asRead, isWeekly, isRegular, reductionOf, kindOf, standingOf}
+use Rattle.rules.specs.ReadingRules.{leastNet, weeksToCompensate, deadline, endOf, byDeadline, settles, compensated, shortenedAtMost, rule9From, inGap, rule10From}
+use Rattle.rules.specs.declared.Kind.{Kind}
+use Rattle.rules.specs.declared.Kind.the-variants.{Daily, Weekly}
+use Rattle.rules.specs.declared.Standing.the-variants.{Regular, Reduced}
+use Rattle.rules_fixed.specs.Account.{smaller}
+use Rattle.rules_fixed.proofs.AccountRight.{Past, past-unless, unless-both}
+use Rattle.rules_reading.specs.declared.Tally.{Tally}
+use Rattle.rules_reading.specs.Items.{endAt, timeBy, shortAfter, brokenBy, tallyBy, paid, bumped, spanAt, spansFrom, spansIn, testFrom}
+
+-- ---- the smaller rule, of three
+smaller-min : (a b : ℕ) → smaller (suc a) (suc b) ≡ suc (min a b)
+smaller-min a b = at (leb a b) refl
+  where
+    at : (t : Bool) → leb a b ≡ t → pick t (suc a) (suc b) ≡ suc (min a b)
+    at true e = omega (arith, leb-true a b e)
+    at false e = omega (arith, leb-false a b e)
+
+smaller-assoc : (a b c : ℕ) → smaller (smaller a b) c ≡ smaller a (smaller b c)
+smaller-assoc zero b c = refl
+smaller-assoc (suc a) zero c = refl
+smaller-assoc (suc a) (suc b) zero = ap (λ (x : ℕ). smaller x 0) (smaller-min a b) ∙ sym (smaller-min a b)
+smaller-assoc (suc a) (suc b) (suc c) =
+    ap (λ (x : ℕ). smaller x (suc c)) (smaller-min a b) ∙ smaller-min (min a b) c ∙ omega arith
+    ∙ sym (ap (smaller (suc a)) (smaller-min b c) ∙ smaller-min a (min b c))
+
+three : (r8 r9 r10 t8 t9 t10 : Bool)
+    → unless (r8 and t8) 8 (unless (r9 and t9) 9 (unless (r10 and t10) 10 0))
+    ≡ smaller (unless r8 8 (unless r9 9 (unless r10 10 0))) (unless t8 8 (unless t9 9 (unless t10 10 0)))
+three r8 r9 r10 t8 t9 t10 =
+    let p10 : (b : Bool) → Past 9 (unless b 10 0) = λ b. past-unless 9 10 b 0 (omega arith) (inl refl) in
+    let p9 : (a b : Bool) → Past 8 (unless a 9 (unless b 10 0)) = λ a b. past-unless 8 9 a _ (omega arith) (p10 b) in
+    unless-both 7 r8 t8 _ _ _ (p9 r9 r10) (p9 t9 t10)
+    (unless-both 8 r9 t9 _ _ _ (p10 r10) (p10 t10)
+    (unless-both 9 r10 t10 0 0 0 (inl refl) (inl refl) refl))
+
+-- ---- rule 8, as the code asks it
+by-test : (b : Bool) (s : ℕ) (rs : List Span) (c due : ℕ) → pick b (ltb s due) (leb (endOf rs c) due) ≡ byDeadline b s rs c due
+by-test true s rs c due = refl
+by-test false s rs c due = refl
+
+time-settles : (m : Kind) (s : ℕ) (rs : List Span) (week c : ℕ) → timeBy m week c (endOf rs c) s ≡ settles m s rs c (weekStart (week + weeksToCompensate))
+time-settles Daily s rs week c = refl
+time-settles (Weekly Regular) s rs week c = refl
+time-settles (Weekly (Reduced d)) s rs week c = by-test (eqb c 0) s rs c (weekStart (week + weeksToCompensate))
+
+pub test-next : (s : ℕ) (rs : List Span) (t : Tally) (e : Entry) (es : List Entry)
+    → testFrom s rs t (e ∷ es) ≡ testFrom s rs (tallyBy s (endOf rs (e .compensatedBy)) t e) es
+unfolding testFrom tallyBy brokenBy allOf rule9From rule10From shortAfter compensated
+test-next s rs t e es =
+    let t8 = timeBy (asRead e) (e .week) (e .compensatedBy) (endOf rs (e .compensatedBy)) s in
+    let t9 = leb (shortAfter (t .short) e) shortenedAtMost in
+    let t10 = not (isWeekly (asRead e)) or inGap (t .last) (e .span .start) in
+    let r8 = allOf (compensated s rs) es in
+    let r9 = rule9From (shortAfter (t .short) e) es in
+    let r10 = rule10From (pick (isWeekly (asRead e)) (e .span .end) (t .last)) s es in
+    ap (smaller (t .rule))
+    (ap (λ (b : Bool). unless (b and r8) 8 (unless (t9 and r9) 9 (unless (t10 and r10) 10 0))) (sym (time-settles (asRead e) s rs (e .week) (e .compensatedBy)))
+    ∙ three t8 t9 t10 r8 r9 r10)
+    ∙ sym (smaller-assoc (t .rule) (unless t8 8 (unless t9 9 (unless t10 10 0))) (unless r8 8 (unless r9 9 (unless r10 10 0))))
+
+-- ---- where the rest of a number ends
+end-from : (starts ends : List ℕ) (i n c : ℕ) → endOf (spansFrom starts ends i n) (suc c) ≡ pick (ltb c n) (getD ends (i + c) 0) 0
+unfolding endOf spansFrom
+end-from starts ends i zero c = rw (le-ltb c 0 (omega arith)) refl
+end-from starts ends i (suc n) zero =
+    let e : i ≡ i + 0 = omega arith in
+    rw (lt-ltb 0 (suc n) (omega arith)) (ap (λ (x : ℕ). getD ends x 0) e)
+end-from starts ends i (suc n) (suc c) =
+    let e : suc i + c ≡ i + suc c = omega arith in
+    end-from starts ends (suc i) n c ∙ ap₂ (λ (b : Bool) (x : ℕ). pick b (getD ends x 0) 0) (same (ltb c n) refl) e
+  where
+    same : (b : Bool) → ltb c n ≡ b → b ≡ ltb (suc c) (suc n)
+    same true t = sym (lt-ltb (suc c) (suc n) (omega (arith, ltb-true c n t)))
+    same false t = sym (le-ltb (suc c) (suc n) (omega (arith, ltb-false c n t)))
+
+end-zero : (rs : List Span) → endOf rs 0 ≡ 0
+unfolding endOf
+end-zero [] = refl
+end-zero (r ∷ rs) = refl
+
+pub end-of-spans : (starts ends : List ℕ) (k c : ℕ) → endAt ends k c ≡ endOf (spansIn starts ends k) c
+end-of-spans starts ends k zero = sym (end-zero (spansIn starts ends k))
+end-of-spans starts ends k (suc c) =
+    let e : c ≡ 0 + c = omega arith in
+    ap (λ (x : ℕ). pick (ltb c k) (getD ends x 0) 0) e ∙ sym (end-from starts ends 0 k c)
+
+-- ---- a payment, and a rest counted
+set-at : (xs : List ℕ) (c v j : ℕ) → j < length xs → getD (set xs c (getD xs c 0 + v)) j 0 ≡ pick (eqb c j) v 0 + getD xs j 0
+set-at xs c v j h = at (eqb c j) refl
+  where
+    at : (b : Bool) → eqb c j ≡ b → getD (set xs c (getD xs c 0 + v)) j 0 ≡ pick b v 0 + getD xs j 0
+    at true e =
+        let q : c ≡ j = eqb-true c j e in
+        rw q (getD-set-same xs j (getD xs j 0 + v) 0 h ∙ omega arith)
+    at false e = getD-set-other xs c j (getD xs c 0 + v) 0 (λ q. eqb-false c j e (sym q)) ∙ omega arith
+
+same-suc : (c j : ℕ) → eqb c j ≡ eqb (suc c) (suc j)
+same-suc c j = at (eqb c j) refl
+  where
+    at : (b : Bool) → eqb c j ≡ b → b ≡ eqb (suc c) (suc j)
+    at true e = sym (eq-eqb (suc c) (suc j) (ap suc (eqb-true c j e)))
+    at false e = sym (ne-eqb (suc c) (suc j) (λ q. eqb-false c j e (omega arith)))
+
+pub paid-at : (loads : List ℕ) (c d j : ℕ) → j < length loads → getD (paid loads c d) j 0 ≡ pick (eqb c (suc j)) d 0 + getD loads j 0
+paid-at loads zero d j h = rw (ne-eqb 0 (suc j) (λ q. omega arith)) (omega arith)
+paid-at loads (suc c) d j h = set-at loads c d j h ∙ ap (λ (b : Bool). pick b d 0 + getD loads j 0) (same-suc c j)
+
+pub paid-length : (loads : List ℕ) (c d : ℕ) → length (paid loads c d) ≡ length loads
+paid-length loads zero d = refl
+paid-length loads (suc c) d = length-set loads c _
+
+pick-le : (b : Bool) (d n : ℕ) → d ≤ n → pick b d 0 ≤ n
+pick-le true d n h = h
+pick-le false d n h = omega arith
+
+pub paid-below : (loads : List ℕ) (c d n m : ℕ) → ((i : ℕ) → getD loads i 0 ≤ n) → d ≤ m → (i : ℕ) → getD (paid loads c d) i 0 ≤ n + m
+paid-below loads c d n m f h i = at (less-or-not i (length loads))
+  where
+    at : (i < length loads) ⊎ (length loads ≤ i) → getD (paid loads c d) i 0 ≤ n + m
+    at (inl l) = omega (arith, paid-at loads c d i l, f i, pick-le (eqb c (suc i)) d m h)
+    at (inr l) = omega (arith, List·getD-eq-default (paid loads c d) 0 {n = i} (rw (paid-length loads c d) l))
+
+pub bumped-at : (b : Bool) (counts : List ℕ) (w v : ℕ) → v < length counts → getD (bumped b counts w) v 0 ≡ one (b and eqb w v) + getD counts v 0
+unfolding _and_
+bumped-at true counts w v h = set-at counts w 1 v h ∙ ap (λ (n : ℕ). n + getD counts v 0) (as-one (eqb w v))
+  where
+    as-one : (b : Bool) → pick b 1 0 ≡ one b
+    as-one true = refl
+    as-one false = refl
+bumped-at false counts w v h = omega arith
+
+pub bumped-length : (b : Bool) (counts : List ℕ) (w : ℕ) → length (bumped b counts w) ≡ length counts
+bumped-length true counts w = length-set counts w _
+bumped-length false counts w = refl
+
+pub bumped-below : (b : Bool) (counts : List ℕ) (w n : ℕ) → ((i : ℕ) → getD counts i 0 ≤ n) → (i : ℕ) → getD (bumped b counts w) i 0 ≤ n + 1
+bumped-below b counts w n f i = at (less-or-not i (length counts))
+  where
+    at : (i < length counts) ⊎ (length counts ≤ i) → getD (bumped b counts w) i 0 ≤ n + 1
+    at (inl l) = omega (arith, bumped-at b counts w i l, f i, one-most (b and eqb w i))
+    at (inr l) = omega (arith, List·getD-eq-default (bumped b counts w) 0 {n = i} (rw (bumped-length b counts w) l))
+
+-- ---- a rest that is long enough owes no more than a regular one has
+pub owes-little : (e : Entry) → leb (leastNet (asRead e) + e .compensation) (minutes e) ≡ true → reductionOf (asRead e) ≤ regularMinutes
+unfolding asRead
+owes-little e t = at (eqb (e .kind) weeklyKind) (ltb (minutes e) (regularMinutes + e .compensation)) t
+  where
+    at : (a b : Bool) → leb (leastNet (kindOf a (standingOf b (regularMinutes + e .compensation - minutes e))) + e .compensation) (minutes e) ≡ true
+        → reductionOf (kindOf a (standingOf b (regularMinutes + e .compensation - minutes e))) ≤ regularMinutes
+    at false b u = omega arith
+    at true false u = omega arith
+    at true true u = omega (arith, leb-true _ (minutes e) u)

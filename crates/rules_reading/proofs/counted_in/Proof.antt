@@ -1,0 +1,20 @@
+-- `rules_reading::counted_in` meets its contract. Assumes nothing.
+use borrow.Author.Needs.{needs}
+use Prim.Native.Nat.{_-_}
+use Rattle.rules_reading.proofs.counted_in.Statement.{statement}
+use Rattle.rules_reading.proofs.counted_in.Tie as tie
+
+returns : tie.Need-returns
+returns c = simp (c .if1 .taken)
+
+returns-2 : tie.Need-returns-2
+returns-2 c = simp (c .before .if1 .left)
+
+pub counted-in-spec : {M : Type 1} → statement M
+counted-in-spec =
+    tie.close
+    (tie.spec
+    returns
+    (λ c. search needs)
+    (λ c. search needs)
+    returns-2)

@@ -1,0 +1,19 @@
+-- `rules_reading::gap_rule` meets its contract. Assumes nothing.
+use borrow.Author.Needs.{needs}
+use borrow.Author.Tests.{le-leb, lt-leb}
+use Rattle.rules_reading.proofs.gap_rule.Statement.{statement}
+use Rattle.rules_reading.proofs.gap_rule.Tie as tie
+
+returns : tie.Need-returns
+returns c = simp (le-leb _ _ (c .if1 .taken))
+
+returns-2 : tie.Need-returns-2
+returns-2 c = simp (lt-leb _ _ (c .if1 .left))
+
+pub gap-rule-spec : {M : Type 1} → statement M
+gap-rule-spec =
+    tie.close
+    (tie.spec
+    (λ c. search needs)
+    returns
+    returns-2)

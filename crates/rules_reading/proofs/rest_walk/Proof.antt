@@ -1,0 +1,169 @@
+-- `rules_reading::rest_walk` meets its contract. Assumes nothing.
+use mathlib.Core.Path.{_≡_, refl, sym, ap, _∙_}
+use native.Mathlib.Omega.{arith}
+use borrow.Author.Needs.{needs}
+use Prim.Native.Nat.{_-_, _≤_}
+use lib.ListN.{length}
+use borrow.Author.Tests.{not-true, not-false}
+use Rattle.rules_reading.proofs.WalkLaws.{Walking, walk-start, item-sane, too-short, walk-on, walk-through, pay-room}
+use Rattle.rules_reading.proofs.TallyLaws.{paid-length}
+use Rattle.rules_reading.proofs.rest_walk.Statement.{statement}
+use Rattle.rules_reading.proofs.rest_walk.Tie as tie
+
+abbrev Inv-loop : tie.InvT-loop
+Inv-loop starts ends nets reading loads₀ weekly₀ regular₀ k s t₀ i₀ loads weekly regular t i =
+    (i ≤ k) × (length loads ≡ length loads₀) × Walking starts ends nets reading k s i t loads weekly regular
+
+abbrev μ-loop : tie.MeasureT-loop
+μ-loop starts ends nets reading loads₀ weekly₀ regular₀ k s t₀ i₀ loads weekly regular t i = k - i
+
+loop-holds : tie.Need-loop-holds Inv-loop μ-loop
+loop-holds c =
+    let p = (c .before .before .before .before .before .before .before) .pre in
+    (omega arith, refl, walk-start _ _ _ _ _ _ _ _ _ (p .0) (p .1) (p .2) (p .3) (p .4) (p .5))
+
+item-at-requires : tie.Need-item-at-requires Inv-loop μ-loop
+item-at-requires c κs =
+    let l = c .before .before .loop .inv .2 .laid in
+    (omega (arith, l .few), omega (arith, l .starts-in), omega (arith, l .ends-in), omega (arith, l .nets-in), omega (arith, l .reading-in), omega (arith, l .loads-in))
+
+as-read-requires : tie.Need-as-read-requires Inv-loop μ-loop
+as-read-requires c κs =
+    let v = c .before .before .before .loop .inv .2 in
+    let h = c .before .before .loop-test .taken in
+    rw (c .item-at .ensures) (item-sane _ _ _ _ _ _ v h (λ j. omega (arith, c .before .before .before .before .before .before .before .shared-slice-known4 .given j)))
+
+long-enough-requires : tie.Need-long-enough-requires Inv-loop μ-loop
+long-enough-requires c κs =
+    let v = c .before .before .before .before .loop .inv .2 in
+    let h = c .before .before .before .loop-test .taken in
+    let z = item-sane _ _ _ _ _ _ v h (λ j. omega (arith, c .before .before .before .before .before .before .before .before .shared-slice-known4 .given j)) in
+    rw (c .as-read .ensures, c .before .item-at .ensures) (z .ordered, z .load)
+
+same-length : tie.Need-same-length Inv-loop μ-loop
+same-length c = c .before .before .before .before .before .before .loop .inv .1
+
+same-length-2 : tie.Need-same-length-2 Inv-loop μ-loop
+same-length-2 c =
+    let p = (c .before .before .before .before .before .before .before .before .before .before .before .before .before .before) .pre in
+    c .before .before .before .before .before .before .loop .inv .2 .weekly-size ∙ sym (p .4)
+
+same-length-3 : tie.Need-same-length-3 Inv-loop μ-loop
+same-length-3 c =
+    let p = (c .before .before .before .before .before .before .before .before .before .before .before .before .before .before) .pre in
+    c .before .before .before .before .before .before .loop .inv .2 .regular-size ∙ sym (p .5)
+
+returns : tie.Need-returns Inv-loop μ-loop
+returns c =
+    let v = c .before .before .before .before .before .before .loop .inv .2 in
+    let h = c .before .before .before .before .before .loop-test .taken in
+    let e = c .before .before .before .item-at .ensures in
+    too-short _ _ _ _ _ _ v h (rw e at (c .before .before .as-read .ensures)) (rw e at (c .before .long-enough .ensures)) (not-true _ (c .if1 .taken))
+
+end-of-requires : tie.Need-end-of-requires Inv-loop μ-loop
+end-of-requires c κs = c .before .before .before .before .before .before .loop .inv .2 .laid .ends-in
+
+tally-after-requires : tie.Need-tally-after-requires Inv-loop μ-loop
+tally-after-requires c κs =
+    let v = c .before .before .before .before .before .before .before .loop .inv .2 in
+    let h = c .before .before .before .before .before .before .loop-test .taken in
+    let e = c .before .before .before .before .item-at .ensures in (
+      rw e (item-sane _ _ _ _ _ _ v h (λ j. omega (arith, c .before .before .before .before .before .before .before .before .before .before .before .shared-slice-known4 .given j))),
+      c .before .before .before .as-read .ensures,
+      omega (arith, v .short, v .laid .few, h),
+      v .last,
+    )
+
+bump-requires : tie.Need-bump-requires Inv-loop μ-loop
+bump-requires c κs =
+    let v = c .before .before .before .before .before .before .before .before .before .before .loop .inv .2 in
+    let h = c .before .before .before .before .before .before .before .before .before .loop-test .taken in
+    λ j. omega (arith, v .few-weeklies j, v .laid .few, h)
+
+bump-requires-2 : tie.Need-bump-requires-2 Inv-loop μ-loop
+bump-requires-2 c κs =
+    let v = c .before .before .before .before .before .before .before .before .before .before .before .before .before .before .before .loop .inv .2 in
+    let h = c .before .before .before .before .before .before .before .before .before .before .before .before .before .before .loop-test .taken in
+    λ j. omega (arith, v .few-regulars j, v .laid .few, h)
+
+pay-requires : tie.Need-pay-requires Inv-loop μ-loop
+pay-requires c κs =
+    let v = c .before .before .before .before .before .before .before .before .before .before .before .before .before .before .before .before .before .before .before .before .loop .inv .2 in
+    let h = c .before .before .before .before .before .before .before .before .before .before .before .before .before .before .before .before .before .before .before .loop-test .taken in
+    let e = c .before .before .before .before .before .before .before .before .before .before .before .before .before .before .before .before .before .item-at .ensures in
+    let a = c .before .before .before .before .before .before .before .before .before .before .before .before .before .before .before .before .as-read .ensures in
+    let l = c .before .before .before .before .before .before .before .before .before .before .before .before .before .before .before .long-enough .ensures in
+    let f = not-false _ (c .before .before .before .before .before .before .before .before .before .before .before .before .before .before .if1 .left) in
+    pay-room _ _ _ _ _ _ v h (rw e at a) (rw e at l) f (c .reduction .ensures)
+
+loop-less : tie.Need-loop-less Inv-loop μ-loop
+loop-less c = omega (
+  arith,
+  c .before .before .before .before .before .before .before .before .before .before .before .before .before .before .before .before .before .before .before .before
+      .before .before .loop-test .taken,
+)
+
+loop-again : tie.Need-loop-again Inv-loop μ-loop
+loop-again c =
+    let z = c .before .before .before .before .before .before .before .before .before .before .before in
+    let v = z .before .before .before .before .before .before .before .before .before .before .before .before .loop .inv in
+    let z = c .before .before .before .before .before .before .before .before .before .before .before in
+    let h = z .before .before .before .before .before .before .before .before .before .before .before .loop-test .taken in
+    let e = c .before .before .before .before .before .before .before .before .before .before .before .before .before .before .before .before .before .before .before .before .item-at .ensures in
+    let a = c .before .before .before .before .before .before .before .before .before .before .before .before .before .before .before .before .before .before .before .as-read .ensures in
+    let l = c .before .before .before .before .before .before .before .before .before .before .before .before .before .before .before .before .before .before .long-enough .ensures in
+    let f = not-false _ (c .before .before .before .before .before .before .before .before .before .before .before .before .before .before .before .before .before .if1 .left) in
+    let o = c .before .before .before .before .before .before .before .before .before .before .before .before .before .before .before .before .end-of .ensures in
+    let t = c .before .before .before .before .before .before .before .before .before .before .before .before .before .before .before .tally-after .ensures in
+    let w = c .before .before .before .before .before .before .before .before .before .before .before .before .before .before .is-weekly .ensures in
+    let g = c .before .before .before .before .before .before .before .before .before .is-regular .ensures in
+    let bw = c .before .before .before .before .before .before .before .before .before .before .before .before .bump .ensures in
+    let bg = c .before .before .before .before .before .before .before .bump2 .ensures in
+    let d = c .before .before .before .reduction .ensures in
+    let p = c .before .before .pay .ensures in (
+      omega (arith, h),
+      ap length p ∙ simp paid-length (v .1),
+      walk-on _ _ _ _ _ _ (v .2) h (rw e at a) (rw e at l) f (rw e at o) (rw e at t) (rw (w, e) at bw) (rw (g, e) at bg) d (rw e at p),
+    )
+
+same-length-4 : tie.Need-same-length-4 Inv-loop μ-loop
+same-length-4 c = c .before .loop .inv .1
+
+same-length-5 : tie.Need-same-length-5 Inv-loop μ-loop
+same-length-5 c = c .before .loop .inv .2 .weekly-size ∙ sym ((c .before .before .before .before .before .before .before .before .before) .pre .4)
+
+same-length-6 : tie.Need-same-length-6 Inv-loop μ-loop
+same-length-6 c = c .before .loop .inv .2 .regular-size ∙ sym ((c .before .before .before .before .before .before .before .before .before) .pre .5)
+
+returns-2 : tie.Need-returns-2 Inv-loop μ-loop
+returns-2 c = walk-through _ _ _ _ _ _ (c .before .loop .inv .2) (omega arith) (c .before .loop .inv .0)
+
+pub rest-walk-spec : {M : Type 1} → statement M
+rest-walk-spec =
+    tie.close
+    (tie.spec
+    Inv-loop
+    μ-loop
+    loop-holds
+    item-at-requires
+    (λ c. search needs)
+    as-read-requires
+    long-enough-requires
+    same-length
+    same-length-2
+    same-length-3
+    returns
+    end-of-requires
+    tally-after-requires
+    (λ c κs. search needs)
+    bump-requires
+    (λ c κs. search needs)
+    bump-requires-2
+    (λ c κs. search needs)
+    pay-requires
+    loop-less
+    loop-again
+    same-length-4
+    same-length-5
+    same-length-6
+    returns-2)

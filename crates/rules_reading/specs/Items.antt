@@ -1,0 +1,198 @@
+-- What the inner functions of this layer answer. Nobody has to believe it: the public contracts do not speak of it.
+-- Assumes nothing.
+use mathlib.Core.Path.{_≡_}
+use mathlib.Core.Bool.{Bool, true, false, not}
+use mathlib.Core.List.{List, [], _∷_}
+use Prim.Native.Nat.{ℕ, zero, suc, _+_, _-_, _*_, _≤_, _<_}
+use lib.Dec.{leb, ltb, eqb}
+use lib.ListN.{length, getD, set, replicate}
+use Rattle.recording.specs.Tests.{_and_, _or_, pick, one, allOf, anyOf, allBelow, countOf}
+use Rattle.recording.specs.Rests.{longRestsAtMost}
+use Rattle.recording.specs.Operations.{totalAtMost}
+use Rattle.recording.specs.Weeks.{weekStart, week, weekOf, inside}
+use Rattle.recording.specs.declared.Span.{Span}
+use Rattle.rules.specs.Broken.{unless}
+use Rattle.rules.specs.Reading.{Entry, asRead, isWeekly, isRegular, entryBytes, entries}
+use Rattle.rules.specs.ReadingRules.{leastNet, rule7, weeksToCompensate, compensated, shortened, shortenedAtMost, rule9From, inGap, rule10From, ofKind, weeklyAtLeast, regularAtLeast, laterTest}
+use Rattle.rules.specs.declared.Kind.{Kind}
+use Rattle.rules.specs.declared.Kind.the-variants.{Daily, Weekly}
+use Rattle.rules.specs.declared.Standing.the-variants.{Regular, Reduced}
+use Rattle.rules_fixed.specs.Account.{smaller}
+use Rattle.rules_fixed.specs.Nets.{regularNet}
+use Rattle.rules_reading.specs.declared.Item.{Item}
+use Rattle.rules_reading.specs.declared.LongRest.{LongRest}
+use Rattle.rules_reading.specs.declared.Tally.{Tally}
+use Rattle.rules_reading.specs.declared.Walk.{Walk}
+use Rattle.rules_reading.specs.declared.Walk.the-variants.{TooShort, AllThrough}
+
+-- an item as an entry
+abbrev pub entryBy : Item → Entry
+entryBy x = record {
+  number = x .number;
+  before = x .before;
+  span = record { start = x .start; end = x .end };
+  kind = x .kind;
+  week = x .week;
+  compensatedBy = x .carrier;
+  compensation = x .load;
+}
+
+-- the rest before the one of index i ends there, or at 0
+abbrev pub endBefore : List ℕ → ℕ → ℕ
+endBefore ends zero = 0
+endBefore ends (suc i) = getD ends i 0
+
+-- the item of index i, from the rests' starts, ends and numbers by rule 9, the reading and the loads
+abbrev pub itemAt : List ℕ → List ℕ → List ℕ → List ℕ → List ℕ → ℕ → Item
+itemAt starts ends nets reading loads i = record {
+  number = i + 1;
+  before = endBefore ends i;
+  start = getD starts i 0;
+  end = getD ends i 0;
+  net = getD nets i 0;
+  kind = getD reading (3 * i) 0;
+  week = getD reading (3 * i + 1) 0;
+  carrier = getD reading (3 * i + 2) 0;
+  load = getD loads i 0;
+}
+
+-- an item whose numbers are in bounds, with its number by rule 9
+abbrev pub loadAtMost : ℕ
+loadAtMost = 1000000
+
+pub record Sane (x : Item) : Type 0 where
+  pub before : x .before ≤ totalAtMost
+  pub ordered : x .start ≤ x .end
+  pub end : x .end ≤ totalAtMost
+  pub week : x .week ≤ 255
+  pub load : x .load ≤ loadAtMost
+  pub net : x .net ≡ regularNet (x .before) (x .start) (x .end)
+
+-- ---- an item as a long rest, and the rules of one
+abbrev pub restBy : Item → LongRest
+restBy x = record { start = x .start; end = x .end; kind = asRead (entryBy x) }
+
+abbrev pub enoughBy : LongRest → ℕ → Bool
+enoughBy r load = leb (leastNet (r .kind) + load) (r .end - r .start)
+
+abbrev pub endAt : List ℕ → ℕ → ℕ → ℕ
+endAt ends k zero = 0
+endAt ends k (suc i) = pick (ltb i k) (getD ends i 0) 0
+
+abbrev pub timeBy : Kind → ℕ → ℕ → ℕ → ℕ → Bool
+timeBy Daily week carrier end s = true
+timeBy (Weekly Regular) week carrier end s = eqb carrier 0
+timeBy (Weekly (Reduced d)) week carrier end s = pick (eqb carrier 0) (ltb s (weekStart (week + weeksToCompensate))) (leb end (weekStart (week + weeksToCompensate)))
+
+abbrev pub gapBy : ℕ → LongRest → Bool
+gapBy q r = not (isWeekly (r .kind)) or inGap q (r .start)
+
+-- each number of a list is at most n
+abbrev pub Below : ℕ → List ℕ → Type 0
+Below n xs = (i : ℕ) → getD xs i 0 ≤ n
+
+-- ---- rules 8 to 10, an entry more: the carrier ends at `end`, S is s
+unfoldable pub shortAfter : ℕ → Entry → ℕ
+shortAfter n e = pick (isWeekly (asRead e)) 0 (n + one (shortened e))
+
+unfoldable pub brokenBy : ℕ → ℕ → Tally → Entry → ℕ
+brokenBy s end t e =
+    unless (timeBy (asRead e) (e .week) (e .compensatedBy) end s) 8
+    (unless (leb (shortAfter (t .short) e) shortenedAtMost) 9
+    (unless (not (isWeekly (asRead e)) or inGap (t .last) (e .span .start)) 10 0))
+
+unfoldable pub tallyBy : ℕ → ℕ → Tally → Entry → Tally
+tallyBy s end t e = record {
+  rule = smaller (t .rule) (brokenBy s end t e);
+  short = shortAfter (t .short) e;
+  last = pick (isWeekly (asRead e)) (e .span .end) (t .last);
+}
+
+-- ---- a payment to a carrier, and a rest counted in its week
+abbrev pub paid : List ℕ → ℕ → ℕ → List ℕ
+paid loads zero d = loads
+paid loads (suc c) d = set loads c (getD loads c 0 + d)
+
+abbrev pub bumped : Bool → List ℕ → ℕ → List ℕ
+bumped true counts w = set counts w (getD counts w 0 + 1)
+bumped false counts w = counts
+
+-- ---- the long rests of index i to k, from their starts and ends
+abbrev pub spanAt : List ℕ → List ℕ → ℕ → Span
+spanAt starts ends i = record { start = getD starts i 0; end = getD ends i 0 }
+
+unfoldable pub spansFrom : List ℕ → List ℕ → ℕ → ℕ → List Span
+spansFrom starts ends i zero = []
+spansFrom starts ends i (suc n) = spanAt starts ends i ∷ spansFrom starts ends (suc i) n
+
+abbrev pub spansIn : List ℕ → List ℕ → ℕ → List Span
+spansIn starts ends k = spansFrom starts ends 0 k
+
+-- they stand in the slices, in order, within the limit, with their numbers by rule 9
+pub record Laid (starts ends nets reading loads : List ℕ) (k : ℕ) : Type 0 where
+  pub few : k ≤ longRestsAtMost
+  pub starts-in : k ≤ length starts
+  pub ends-in : k ≤ length ends
+  pub nets-in : k ≤ length nets
+  pub loads-in : k ≤ length loads
+  pub reading-in : length reading ≡ entryBytes * k
+  pub ordered : (i : ℕ) → i < k → getD starts i 0 ≤ getD ends i 0
+  pub limited : (i : ℕ) → i < k → getD ends i 0 ≤ totalAtMost
+  pub numbered : (i : ℕ) → i < k → getD nets i 0 ≡ regularNet (endBefore ends i) (getD starts i 0) (getD ends i 0)
+
+-- all zeros
+abbrev pub Zeros : List ℕ → Type 0
+Zeros xs = (i : ℕ) → getD xs i 0 ≡ 0
+
+-- rules 8 to 10 from a tally on
+unfoldable pub testFrom : ℕ → List Span → Tally → List Entry → ℕ
+testFrom s rs t es =
+    smaller (t .rule)
+    (unless (allOf (compensated s rs) es) 8 (unless (rule9From (t .short) es) 9 (unless (rule10From (t .last) s es) 10 0)))
+
+abbrev pub freshTally : Tally
+freshTally = record { rule = 0; short = 0; last = 0 }
+
+-- what the walk over the rests answers: a rest is too short net of its compensation, or all are through, with what is left of rules 8 to 10 and
+-- the rests counted in each week
+pub record Through (s : ℕ) (rs : List Span) (es : List Entry) (t : Tally) (weekly regular : List ℕ) : Type 0 where
+  pub seven : rule7 es ≡ true
+  pub tally : testFrom s rs freshTally es ≡ testFrom s rs t []
+  pub last : t .last ≤ totalAtMost
+  pub weeklies : (w : ℕ) → w < 256 → getD weekly w 0 ≡ countOf (ofKind isWeekly w) es
+  pub regulars : (w : ℕ) → w < 256 → getD regular w 0 ≡ countOf (ofKind isRegular w) es
+  pub few-weeklies : Below loadAtMost weekly
+  pub few-regulars : Below loadAtMost regular
+  pub weekly-size : length weekly ≡ 256
+  pub regular-size : length regular ≡ 256
+
+abbrev pub Walked : ℕ → List Span → List Entry → Walk → List ℕ → List ℕ → Type 0
+Walked s rs es TooShort weekly regular = rule7 es ≡ false
+Walked s rs es (AllThrough t) weekly regular = Through s rs es t weekly regular
+
+-- ---- rule 11 by the counts of each week
+abbrev pub countedBy : (ℕ → Bool) → List ℕ → ℕ → ℕ
+countedBy restWeek counts w = pick (restWeek w) 1 (getD counts w 0)
+
+unfoldable pub enoughWith : (ℕ → Bool) → List ℕ → List ℕ → ℕ → Bool
+enoughWith restWeek weekly regular w =
+    leb weeklyAtLeast (countedBy restWeek weekly w + countedBy restWeek weekly (w + 1)) and
+    leb regularAtLeast (countedBy restWeek regular w + countedBy restWeek regular (w + 1))
+
+unfoldable pub rule11With : (ℕ → Bool) → ℕ → List ℕ → List ℕ → Bool
+rule11With restWeek s weekly regular = allBelow (weekOf s) (λ w. not (leb (weekStart (w + 2)) s) or enoughWith restWeek weekly regular w)
+
+abbrev pub spanOf : ℕ → ℕ → Span
+spanOf start end = record { start = start; end = end }
+
+-- the weeks that lie inside a long rest
+abbrev pub restWeeks : List Span → ℕ → Bool
+restWeeks rs w = anyOf (inside (week w)) rs
+
+-- ---- rules 6 to 11 by the rests that stand in two slices
+abbrev pub zeros : List ℕ
+zeros = replicate longRestsAtMost 0
+
+abbrev pub laterBy : List ℕ → List ℕ → List ℕ → ℕ → ℕ → ℕ
+laterBy starts ends reading k s =
+    laterTest (restWeeks (spansIn starts ends k)) s (spansIn starts ends k) (entries (spansIn starts ends k) reading)

@@ -1,0 +1,22 @@
+-- `verdict_first_reading::put_entry` meets its contract. Assumes nothing.
+use borrow.Author.Needs.{needs}
+use native.Mathlib.Omega.{arith}
+use lib.ListN.{length-set}
+use Rattle.verdict_first_reading.proofs.put_entry.Statement.{statement}
+use Rattle.verdict_first_reading.proofs.put_entry.Tie as tie
+
+slice-write-reading-2 : tie.Need-slice-write-reading-2
+slice-write-reading-2 c = simp length-set (omega arith)
+
+pub put-entry-spec : {M : Type 1} → statement M
+put-entry-spec =
+    tie.close
+    (tie.spec
+    (λ c. search needs)
+    (λ c. search needs)
+    (λ c. search needs)
+    (λ c. search needs)
+    slice-write-reading-2
+    (λ c. search needs)
+    (λ c. search needs)
+    (λ c. search needs))

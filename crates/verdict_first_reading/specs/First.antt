@@ -1,0 +1,22 @@
+-- The first reading of long rests that keeps rules 6 to 11. Assumes nothing.
+use mathlib.Core.List.{List, []}
+use Prim.Native.Nat.{ℕ, _*_}
+use Rattle.rules.specs.Reading.{entryBytes, entries}
+use Rattle.rules.specs.Order.{Bytes, NotAfter}
+use Rattle.verdict_completion.specs.States.{startState}
+use Rattle.verdict_completion.specs.Runs.{Kept}
+use Rattle.verdict_completion.specs.Completable.{Course, count, spansOf, restWeek}
+
+-- a reading of all long rests that keeps rules 6 to 11
+abbrev pub KeptBy : Course → List ℕ → Type 0
+KeptBy c bytes = Kept (restWeek c) (c .judged) (spansOf c) (startState (restWeek c 0)) (entries (spansOf c) bytes)
+
+-- it stands before every other
+pub record Least (c : Course) (r : List ℕ) : Type 0 where
+  pub bytes : Bytes (entryBytes * count c) r
+  pub keeps : KeptBy c r
+  pub first : (t : List ℕ) → Bytes (entryBytes * count c) t → KeptBy c t → NotAfter r t
+
+-- long rests that have no load yet
+abbrev pub restsOnly : List ℕ → List ℕ → List ℕ → ℕ → Course
+restsOnly starts ends nets s = record { starts = starts; ends = ends; nets = nets; loads = []; judged = s }

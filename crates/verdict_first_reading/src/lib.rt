@@ -1,0 +1,599 @@
+// The first lawful reading of long rests, entry by entry: for each rest the first entry with which the later rests can still be read.
+use verdict_completion::Brought;
+use verdict_completion::State;
+ghost use mathlib.Core.Path.{_≡_};
+ghost use mathlib.Core.Bool.{true};
+ghost use mathlib.Core.List.{List};
+ghost use mathlib.Core.Logic.{_⊎_};
+ghost use Prim.Native.Nat.{ℕ, suc, _+_, _-_, _*_, _<_, _≤_};
+ghost use lib.ListN.{length};
+ghost use Rattle.recording.specs.Rests.{longRestsAtMost};
+ghost use Rattle.recording.specs.Operations.{totalAtMost};
+ghost use Rattle.recording.specs.Weeks.{weekStart};
+ghost use Rattle.rules.specs.Reading.{regularMinutes, entryBytes};
+ghost use Rattle.rules.specs.ReadingRules.{leastNet};
+ghost use Rattle.rules.specs.declared.Kind.the-variants.{Daily, Weekly};
+ghost use Rattle.rules.specs.declared.Standing.the-variants.{Regular};
+ghost use Rattle.rules_reading.specs.Items.{loadAtMost, paid, Zeros};
+ghost use Rattle.verdict_completion.specs.Completable.{at, count, lengthAt, Lies};
+ghost use Rattle.verdict_completion.specs.Better.{AtRest};
+ghost use Rattle.verdict_steps.specs.Steps.{Says};
+ghost use Rattle.verdict_search.specs.Search.{courseNow, courseAt, withLoads, Sound, Lent, Before};
+ghost use Rattle.verdict_merging.specs.Merging.{FindsIf};
+ghost use Rattle.verdict_first_reading.specs.First.{Least, restsOnly};
+ghost use Rattle.verdict_first_reading.specs.Choices.{Renewed, CanBeRead, GoesDaily, GoesWeekly, FirstWeekly, withEntry, FirstOf};
+ghost use Rattle.verdict_first_reading.specs.Choices.{Limited, Room, Fits, Carries, GoesWith, PutDaily, PutWeekly, Stepped};
+
+// A week in which a weekly rest is counted, and the number of its carrier: 0, or a later rest, or past all rests where there is no choice.
+pub struct Choice {
+    pub week: u32,
+    pub carrier: usize,
+}
+
+const DAILY_KIND: u8 = 0;
+
+const WEEKLY_KIND: u8 = 1;
+
+// By how many minutes a weekly rest of so many minutes, with a load, is reduced.
+fn reduction(minutes: u32, load: u32) -> u32
+    requires { ⌜ load ≤ loadAtMost ⌝ }
+    ensures { λ r. ⌜ r ≡ regularMinutes + load - minutes ⌝ }
+{
+    let full = rules_reading::REGULAR + load;
+    if full <= minutes {
+        return 0;
+    }
+    full - minutes
+}
+
+// Whether the rest of index j can be daily.
+fn daily_goes(
+    starts: &[u32],
+    ends: &[u32],
+    nets: &[u32],
+    loads: &mut [u32],
+    s: u32,
+    owed: &mut [u32],
+    nogoods: &mut [u32],
+    front: &mut [u32],
+    other: &mut [u32],
+    known: &mut [u32],
+    beside: &mut [u32],
+    j: usize,
+    here: State,
+) -> bool
+    requires { ⌜ (let c = courseNow starts ends nets loads s in
+        Lent c (now owed) × AtRest c j here × (leastNet Daily + at (now loads) j ≤ lengthAt c j) × Sound c (now nogoods)) ⌝ }
+    ensures { λ r. ⌜ (let c = courseAt starts ends nets loads s in FindsIf c (CanBeRead c j here (now (owed .entry))) (GoesDaily c j here (now (owed .entry))) r owed nogoods
+        × (now (loads .exit) ≡ now (loads .entry))) ⌝ }
+{
+    let short = verdict_steps::is_short(ends[j] - starts[j], nets[j], loads[j]);
+    let next = verdict_steps::after_daily(here, short);
+    if rules_reading::SHORTENED_AT_MOST < next.short {
+        return false;
+    }
+    verdict_merging::completes_beside(
+        starts,
+        ends,
+        nets,
+        loads,
+        s,
+        owed,
+        nogoods,
+        front,
+        other,
+        known,
+        beside,
+        j,
+        here,
+        next,
+        0,
+        0,
+    )
+}
+
+// Whether x can be the carrier of the rest of index j, weekly and counted in week w, and has room for its reduction.
+fn carries(
+    starts: &[u32],
+    ends: &[u32],
+    nets: &[u32],
+    loads: &[u32],
+    s: u32,
+    j: usize,
+    w: u32,
+    x: usize,
+) -> bool
+    requires { ⌜ (let c = courseNow starts ends nets loads s in Limited c × (j < count c) × (weekStart w < at (now ends) j) × (x ≤ count c) × (0 < x → j + 1 < x)) ⌝ }
+    ensures { λ r. ⌜ (let c = courseAt starts ends nets loads s in Says (Carries c j w x) r) ⌝ }
+{
+    let due = recording::WEEK_MINUTES * (w + rules_reading::WEEKS_TO_COMPENSATE);
+    let less = reduction(ends[j] - starts[j], loads[j]);
+    if x == 0 {
+        if less == 0 {
+            return true;
+        }
+        return s < due;
+    }
+    if less == 0 {
+        return false;
+    }
+    let i = x - 1;
+    if due < ends[i] {
+        return false;
+    }
+    rules_reading::DAILY_NET + (loads[i] + less) <= ends[i] - starts[i]
+}
+
+// Whether the rest of index j, weekly and counted in week w, can have the carrier x; the state after it is next.
+fn goes_with(
+    starts: &[u32],
+    ends: &[u32],
+    nets: &[u32],
+    loads: &mut [u32],
+    s: u32,
+    owed: &mut [u32],
+    nogoods: &mut [u32],
+    front: &mut [u32],
+    other: &mut [u32],
+    known: &mut [u32],
+    beside: &mut [u32],
+    j: usize,
+    here: State,
+    w: u32,
+    next: State,
+    x: usize,
+) -> bool
+    requires { ⌜ (let c = courseNow starts ends nets loads s in Lent c (now owed) × AtRest c j here × Before c (j + 1) next × (weekStart w < at (now ends) j)
+        × (x ≤ count c) × (0 < x → j + 1 < x) × Sound c (now nogoods)) ⌝ }
+    ensures { λ r. ⌜ (let c = courseAt starts ends nets loads s in FindsIf c (CanBeRead c j here (now (owed .entry))) (GoesWith c j w next (now (owed .entry)) x) r owed nogoods
+        × (r ≡ true → Room c j x) × (now (loads .exit) ≡ now (loads .entry))) ⌝ }
+{
+    if !carries(starts, ends, nets, loads, s, j, w, x) {
+        return false;
+    }
+    let less = reduction(ends[j] - starts[j], loads[j]);
+    verdict_merging::completes_beside(
+        starts,
+        ends,
+        nets,
+        loads,
+        s,
+        owed,
+        nogoods,
+        front,
+        other,
+        known,
+        beside,
+        j,
+        here,
+        next,
+        x,
+        less,
+    )
+}
+
+// The carrier to try after x for the rest of index j.
+fn next_carrier(x: usize, j: usize) -> usize
+    requires { ⌜ (x < 1000) × (j < 1000) ⌝ }
+    ensures { λ r. ⌜ ((x ≡ 0) × (r ≡ j + 2)) ⊎ ((0 < x) × (r ≡ x + 1)) ⌝ }
+{
+    if x == 0 {
+        return j + 2;
+    }
+    x + 1
+}
+
+// The first carrier that the rest of index j, weekly and counted in week w, can have, or a number past all rests.
+fn first_carrier(
+    starts: &[u32],
+    ends: &[u32],
+    nets: &[u32],
+    loads: &mut [u32],
+    s: u32,
+    owed: &mut [u32],
+    nogoods: &mut [u32],
+    front: &mut [u32],
+    other: &mut [u32],
+    known: &mut [u32],
+    beside: &mut [u32],
+    j: usize,
+    here: State,
+    w: u32,
+    next: State,
+) -> usize
+    requires { ⌜ (let c = courseNow starts ends nets loads s in
+        Lent c (now owed) × AtRest c j here × Before c (j + 1) next × (weekStart w < at (now ends) j) × Sound c (now nogoods)) ⌝ }
+    ensures { λ r. ⌜ (let c = courseAt starts ends nets loads s in FirstOf (CanBeRead c j here (now (owed .entry))) (GoesWith c j w next (now (owed .entry))) (Room c j) (count c) r
+        × (now (owed .exit) ≡ now (owed .entry)) × (now (loads .exit) ≡ now (loads .entry)) × Sound c (now (nogoods .exit))) ⌝ }
+{
+    let mut x = 0;
+    while x <= starts.len() {
+        if goes_with(
+            starts,
+            ends,
+            nets,
+            loads,
+            s,
+            owed,
+            nogoods,
+            front,
+            other,
+            known,
+            beside,
+            j,
+            here,
+            w,
+            next,
+            x,
+        ) {
+            return x;
+        }
+        x = next_carrier(x, j);
+    }
+    x
+}
+
+// The same, from the state in the week in which the rest starts.
+fn carrier_in(
+    starts: &[u32],
+    ends: &[u32],
+    nets: &[u32],
+    loads: &mut [u32],
+    s: u32,
+    owed: &mut [u32],
+    nogoods: &mut [u32],
+    front: &mut [u32],
+    other: &mut [u32],
+    known: &mut [u32],
+    beside: &mut [u32],
+    j: usize,
+    here: State,
+    w: u32,
+) -> usize
+    requires { ⌜ (let c = courseNow starts ends nets loads s in Lent c (now owed) × AtRest c j here × (leastNet (Weekly Regular) + at (now loads) j ≤ lengthAt c j)
+        × (at (now starts) j < weekStart (w + 1)) × (weekStart w < at (now ends) j) × Sound c (now nogoods)) ⌝ }
+    ensures { λ r. ⌜ (let c = courseAt starts ends nets loads s in
+        FirstOf (CanBeRead c j here (now (owed .entry))) (GoesWeekly c j here (now (owed .entry)) w) (Room c j) (count c) r
+        × (now (owed .exit) ≡ now (owed .entry)) × (now (loads .exit) ≡ now (loads .entry)) × Sound c (now (nogoods .exit))) ⌝ }
+{
+    let Brought::To(there) = verdict_steps::advance(starts, ends, j + 1, here, w) else {
+        return starts.len() + 1;
+    };
+    let rest = rules_reading::rest_week(starts, ends, starts.len(), w);
+    let regular = rules_reading::REGULAR + loads[j] <= ends[j] - starts[j];
+    let next = verdict_steps::after_weekly(there, rest, regular, ends[j]);
+    first_carrier(
+        starts,
+        ends,
+        nets,
+        loads,
+        s,
+        owed,
+        nogoods,
+        front,
+        other,
+        known,
+        beside,
+        j,
+        here,
+        w,
+        next,
+    )
+}
+
+// The first week and carrier with which the rest of index j can be weekly.
+fn first_weekly(
+    starts: &[u32],
+    ends: &[u32],
+    nets: &[u32],
+    loads: &mut [u32],
+    s: u32,
+    owed: &mut [u32],
+    nogoods: &mut [u32],
+    front: &mut [u32],
+    other: &mut [u32],
+    known: &mut [u32],
+    beside: &mut [u32],
+    j: usize,
+    here: State,
+) -> Choice
+    requires { ⌜ (let c = courseNow starts ends nets loads s in
+        Lent c (now owed) × AtRest c j here × (leastNet (Weekly Regular) + at (now loads) j ≤ lengthAt c j) × Sound c (now nogoods)) ⌝ }
+    ensures { λ r. ⌜ (let c = courseAt starts ends nets loads s in FirstWeekly c j here (now (owed .entry)) (r .week) (r .carrier)
+        × (now (owed .exit) ≡ now (owed .entry)) × (now (loads .exit) ≡ now (loads .entry)) × Sound c (now (nogoods .exit))) ⌝ }
+{
+    let end = ends[j];
+    let mut w = starts[j] / recording::WEEK_MINUTES;
+    while recording::WEEK_MINUTES * w < end {
+        let x = carrier_in(
+            starts,
+            ends,
+            nets,
+            loads,
+            s,
+            owed,
+            nogoods,
+            front,
+            other,
+            known,
+            beside,
+            j,
+            here,
+            w,
+        );
+        if x <= starts.len() {
+            return Choice {
+                week: w,
+                carrier: x,
+            };
+        }
+        w += 1;
+    }
+    Choice {
+        week: w,
+        carrier: starts.len() + 1,
+    }
+}
+
+// The entry of index j, as its three bytes.
+fn put_entry(reading: &mut [u8], j: usize, kind: u8, week: u8, carrier: u8)
+    requires { ⌜ (j < 1000) × (entryBytes * j + 2 < length (now reading)) ⌝ }
+    ensures { λ r. ⌜ now (reading .exit) ≡ withEntry (now (reading .entry)) j kind week carrier ⌝ }
+{
+    let at = rules_entries::ENTRY_BYTES * j;
+    let second = at + 1;
+    let third = at + 2;
+    reading[at] = kind;
+    reading[second] = week;
+    reading[third] = carrier;
+}
+
+// So many minutes are added to the load of the rest of number x, if that is one.
+fn add_load(loads: &mut [u32], x: usize, less: u32)
+    requires { ⌜ (x ≤ length (now loads)) × ((i : ℕ) → x ≡ suc i → at (now loads) i + less ≤ totalAtMost) ⌝ }
+    ensures { λ r. ⌜ now (loads .exit) ≡ paid (now (loads .entry)) x less ⌝ }
+{
+    if x == 0 {
+        return;
+    }
+    let i = x - 1;
+    loads[i] = loads[i] + less;
+}
+
+// The rest of index j is daily.
+fn put_daily(
+    starts: &[u32],
+    ends: &[u32],
+    nets: &[u32],
+    loads: &[u32],
+    s: u32,
+    reading: &mut [u8],
+    j: usize,
+    here: State,
+) -> State
+    requires { ⌜ (let c = courseNow starts ends nets loads s in Limited c × AtRest c j here × (length (now reading) ≡ entryBytes * count c)) ⌝ }
+    ensures { λ r. ⌜ (let c = courseAt starts ends nets loads s in PutDaily c j here (now (reading .entry)) (now (reading .exit)) r) ⌝ }
+{
+    put_entry(reading, j, DAILY_KIND, 0, 0);
+    let short = verdict_steps::is_short(ends[j] - starts[j], nets[j], loads[j]);
+    let next = verdict_steps::after_daily(here, short);
+    if rules_reading::SHORTENED_AT_MOST < next.short {
+        return here;
+    }
+    next
+}
+
+// The rest of index j is weekly, counted in week w and with carrier x, unless that is past all rests.
+fn put_weekly(
+    starts: &[u32],
+    ends: &[u32],
+    nets: &[u32],
+    loads: &mut [u32],
+    s: u32,
+    reading: &mut [u8],
+    j: usize,
+    here: State,
+    w: u32,
+    x: usize,
+) -> State
+    requires { ⌜ (let c = courseNow starts ends nets loads s in Limited c × AtRest c j here × (length (now reading) ≡ entryBytes * count c) × (x ≤ count c → Fits c j w x)) ⌝ }
+    ensures { λ r. ⌜ (let c = courseAt starts ends nets loads s in let d = withLoads c (now (loads .exit)) in
+        PutWeekly c d j here w x (now (reading .entry)) (now (reading .exit)) r) ⌝ }
+{
+    if starts.len() < x {
+        return here;
+    }
+    let Brought::To(there) = verdict_steps::advance(starts, ends, j + 1, here, w) else {
+        return here;
+    };
+    let rest = rules_reading::rest_week(starts, ends, starts.len(), w);
+    let load = loads[j];
+    let minutes = ends[j] - starts[j];
+    put_entry(reading, j, WEEKLY_KIND, (w % 256) as u8, (x % 256) as u8);
+    add_load(loads, x, reduction(minutes, load));
+    verdict_steps::after_weekly(
+        there,
+        rest,
+        rules_reading::REGULAR + load <= minutes,
+        ends[j],
+    )
+}
+
+// The nogoods are emptied where the load of the rest of number x, if that is one, has grown.
+fn renew(nogoods: &mut [u32], k: usize, x: usize)
+    ensures { λ _. ⌜ Renewed k x (now (nogoods .entry)) (now (nogoods .exit)) ⌝ }
+{
+    if x == 0 {
+        return;
+    }
+    verdict_nogoods::clear(nogoods, k);
+}
+
+// The rest of index j is read, from a state before it.
+fn place(
+    starts: &[u32],
+    ends: &[u32],
+    nets: &[u32],
+    loads: &mut [u32],
+    s: u32,
+    owed: &mut [u32],
+    nogoods: &mut [u32],
+    front: &mut [u32],
+    other: &mut [u32],
+    known: &mut [u32],
+    beside: &mut [u32],
+    reading: &mut [u8],
+    j: usize,
+    st: State,
+) -> State
+    requires { ⌜ (let c = courseNow starts ends nets loads s in
+        Lent c (now owed) × Zeros (now owed) × Before c j st × (j < count c) × (length (now reading) ≡ entryBytes * count c) × Sound c (now nogoods)) ⌝ }
+    ensures { λ r. ⌜ (let c = courseAt starts ends nets loads s in let d = withLoads c (now (loads .exit)) in
+        Stepped c d j st (now (owed .entry)) (now (owed .exit)) (now (nogoods .exit)) (now (reading .entry)) (now (reading .exit)) r) ⌝ }
+{
+    let Brought::To(here) = verdict_steps::advance(
+        starts,
+        ends,
+        j,
+        st,
+        starts[j] / recording::WEEK_MINUTES,
+    ) else {
+        return verdict_steps::best_state(starts[j]);
+    };
+    if ends[j] - starts[j] < rules_reading::WEEKLY_NET + loads[j] {
+        return put_daily(starts, ends, nets, loads, s, reading, j, here);
+    }
+    if daily_goes(
+        starts,
+        ends,
+        nets,
+        loads,
+        s,
+        owed,
+        nogoods,
+        front,
+        other,
+        known,
+        beside,
+        j,
+        here,
+    ) {
+        return put_daily(starts, ends, nets, loads, s, reading, j, here);
+    }
+    let choice = first_weekly(
+        starts,
+        ends,
+        nets,
+        loads,
+        s,
+        owed,
+        nogoods,
+        front,
+        other,
+        known,
+        beside,
+        j,
+        here,
+    );
+    let next = put_weekly(
+        starts,
+        ends,
+        nets,
+        loads,
+        s,
+        reading,
+        j,
+        here,
+        choice.week,
+        choice.carrier,
+    );
+    renew(nogoods, starts.len(), choice.carrier);
+    next
+}
+
+// All rests are read, where no rest has a load and nothing is owed.
+fn write_entries(
+    starts: &[u32],
+    ends: &[u32],
+    nets: &[u32],
+    loads: &mut [u32],
+    s: u32,
+    owed: &mut [u32],
+    nogoods: &mut [u32],
+    front: &mut [u32],
+    other: &mut [u32],
+    known: &mut [u32],
+    beside: &mut [u32],
+    reading: &mut [u8],
+)
+    requires { ⌜ (let c = courseNow starts ends nets loads s in
+        Lent c (now owed) × Zeros (now loads) × Zeros (now owed) × (length (now reading) ≡ entryBytes * count c) × Sound c (now nogoods)) ⌝ }
+    ensures { λ r. ⌜ (let c = restsOnly (now (starts .entry)) (now (ends .entry)) (now (nets .entry)) s in
+        (f : List ℕ) → Least c f → now (reading .exit) ≡ f) ⌝ }
+{
+    let mut st = verdict_steps::start_state(rules_reading::rest_week(
+        starts,
+        ends,
+        starts.len(),
+        0,
+    ));
+    let mut j = 0;
+    while j < starts.len() {
+        st = place(
+            starts,
+            ends,
+            nets,
+            loads,
+            s,
+            owed,
+            nogoods,
+            front,
+            other,
+            known,
+            beside,
+            reading,
+            j,
+            st,
+        );
+        j += 1;
+    }
+}
+
+// The first reading of the long rests that keeps rules 6 to 11, where S is s, if there is one. What the nogoods and the four fronts hold does not matter,
+// and their room is any.
+pub fn write_first(
+    starts: &[u32],
+    ends: &[u32],
+    nets: &[u32],
+    s: u32,
+    reading: &mut [u8],
+    nogoods: &mut [u32],
+    front: &mut [u32],
+    other: &mut [u32],
+    known: &mut [u32],
+    beside: &mut [u32],
+)
+    requires { ⌜ (let c = restsOnly (now starts) (now ends) (now nets) s in
+        Lies c × (count c ≤ longRestsAtMost) × (s ≤ totalAtMost) × (length (now reading) ≡ entryBytes * count c)) ⌝ }
+    ensures { λ r. ⌜ (let c = restsOnly (now (starts .entry)) (now (ends .entry)) (now (nets .entry)) s in
+        (f : List ℕ) → Least c f → now (reading .exit) ≡ f) ⌝ }
+{
+    let k = starts.len();
+    let mut loads = [0u32; recording::LONG_RESTS];
+    let mut owed = [0u32; recording::LONG_RESTS];
+    verdict_nogoods::clear(nogoods, k);
+    write_entries(
+        starts,
+        ends,
+        nets,
+        &mut loads[..k],
+        s,
+        &mut owed[..k],
+        nogoods,
+        front,
+        other,
+        known,
+        beside,
+        reading,
+    );
+}

@@ -1,0 +1,120 @@
+-- `verdict_merging::beside_rest` meets its contract. Assumes nothing.
+use borrow.Author.Needs.{needs}
+use Prim.Native.Nat.{_+_}
+use native.Mathlib.Omega.{arith}
+use denote.Ref.{now}
+use Rattle.verdict_search.specs.Search.{courseOf}
+use Rattle.verdict_search.proofs.Slots as law
+use Rattle.verdict_merging.proofs.Merging as merging
+use Rattle.verdict_merging.proofs.beside_rest.Statement.{statement}
+use Rattle.verdict_merging.proofs.beside_rest.Tie as tie
+
+returns : tie.Need-returns
+returns c =
+    let s = (c .before .before .before .before .before .before .before .before .before .before .before .before .before .before .before .before .before .before .before .before .before) in
+    let k = courseOf (now (s .args .starts)) (now (s .args .ends)) (now (s .args .nets)) (now (s .args .loads)) (s .args .s) in
+    merging.beside-yes (λ _. c .before .before .before .before .before .before .before .sweep-rest .ensures .yes (c .if1 .taken))
+    (c .before .before .before .before .before .before .before .sweep-rest .ensures .sound) (law.front-none k (s .args .j + 1) _) (law.front-none k (s .args .j + 1) _)
+
+returns-2 : tie.Need-returns-2
+returns-2 c =
+    let s = (c .before .before .before .before .before .before .before .before .before .before .before .before .before .before .before .before .before .before .before .before .before .before
+    .before) in
+    let k = courseOf (now (s .args .starts)) (now (s .args .ends)) (now (s .args .nets)) (now (s .args .loads)) (s .args .s) in
+    merging.beside-alone (c .before .before .if1 .left) (c .before .before .before .before .before .before .before .before .before .sweep-rest .ensures)
+    (c .before .before .before .before .before .before .before .before .before .sweep-rest .ensures .sound) (law.front-none k (s .args .j + 1) _)
+
+returns-3 : tie.Need-returns-3
+returns-3 c =
+    let s = (c .before .before .before .before .before .before .before .before .before .before .before .before .before .before .before .before .before .before .before .before .before .before
+    .before .before) in
+    let k = courseOf (now (s .args .starts)) (now (s .args .ends)) (now (s .args .nets)) (now (s .args .loads)) (s .args .s) in
+    merging.beside-alone (c .before .before .before .if1 .left) (c .before .before .before .before .before .before .before .before .before .before .sweep-rest .ensures)
+    (c .before .before .before .before .before .before .before .before .before .before .sweep-rest .ensures .sound) (law.front-none k (s .args .j + 1) _)
+
+sweep-rest-requires-2 : tie.Need-sweep-rest-requires-2
+sweep-rest-requires-2 c κs =
+    let s = (c .before .before .before .before .before .before .before .before .before .before .before .before .before .before .before .before .before .before .before .before .before .before
+    .before .before .before .before .before) in
+    let k = courseOf (now (s .args .starts)) (now (s .args .ends)) (now (s .args .nets)) (now (s .args .loads)) (s .args .s) in (
+      law.sized-too k (s .pre .0 .lies) (s .pre .0) (c .before .before .before .before .before .before .before .before .before .before .before .before .before .sweep-rest .kept .1 .1 .1 .1 .1 .0),
+      c .before .before .before .before .before .before .before .before .before .before .before .before .before .sweep-rest .ensures .sound,
+      s .pre .2,
+      s .pre .4,
+    )
+
+returns-4 : tie.Need-returns-4
+returns-4 c =
+    let s = (c .before .before .before .before .before .before .before .before .before .before .before .before .before .before .before .before .before .before .before .before .before .before
+    .before .before .before .before .before .before .before .before .before .before .before .before .before) in
+    let k = courseOf (now (s .args .starts)) (now (s .args .ends)) (now (s .args .nets)) (now (s .args .loads)) (s .args .s) in
+    merging.beside-alone (c .before .before .before .before .before .before .before .before .before .before .before .before .before .before .if1 .left)
+    (c .before .before .before .before .before .before .before .before .before .before .before .before .before .before .before .before .before .before .before .before .before .sweep-rest
+    .ensures) (c .before .before .before .before .before .before .before .sweep-rest2 .ensures .sound) (law.front-none k (s .args .j + 1) _)
+
+all-matched-requires : tie.Need-all-matched-requires
+all-matched-requires c κs = (
+  c .before .before .before .before .before .before .before .before .before .sweep-rest2 .ensures .well .room,
+  c .before .before .before .before .before .before .before .before .before .before .before .before .before .before .before .before .before .before .before .before .before .before .before
+      .sweep-rest .ensures .well .room,
+)
+
+returns-5 : tie.Need-returns-5
+returns-5 c =
+    let s = (c .before .before .before .before .before .before .before .before .before .before .before .before .before .before .before .before .before .before .before .before .before .before
+    .before .before .before .before .before .before .before .before .before .before .before .before .before .before .before .before .before) in
+    let k = courseOf (now (s .args .starts)) (now (s .args .ends)) (now (s .args .nets)) (now (s .args .loads)) (s .args .s) in
+    let went = c .before .before .before .before .before .before .before .before .before .before .before .before .before .before .before .before .before .before .before .before .before .before
+    .before .before .before .sweep-rest .ensures in
+    let left = c .before .before .before .before .before .before .before .before .before .before .before .sweep-rest2 .ensures in
+    merging.beside-yes
+    (λ h. went .from (c .before .before .before .before .before .before .before .before .before .before .before .before .before .before .before .before .before .before .if1 .left)
+    (merging.merged k (s .pre .0 .lies) (s .args .j + 1) (left .well) (went .well) (c .before .all-matched .ensures (c .if5 .taken) .1)
+    (left .leads (c .before .before .before .before .if4 .left) (h (omega (
+      arith,
+      c .before .before .before .before .before .before .before .before .before .before .before .before .before
+          .before .before .if3 .left,
+    ))))))
+    (left .sound) (law.front-none k (s .args .j + 1) _) (law.front-none k (s .args .j + 1) _)
+
+returns-6 : tie.Need-returns-6
+returns-6 c = merging.beside-both (c .before .before .before .before .before .before .before .before .before .before .before .before .before .before .before .before .before .before .if1 .left)
+    (c .before .before .before .before .before .before .before .before .before .before .before .before .before .before .before .before .before .before .before .before .before .before .before
+    .before .before .sweep-rest .ensures) (c .before .before .before .before .if4 .left)
+    (c .before .before .before .before .before .before .before .before .before .before .before .sweep-rest2 .ensures)
+    (omega (arith, c .before .before .before .before .before .before .before .before .before .before .before .before .before .before .before .if3 .left))
+
+pub beside-rest-spec : {M : Type 1} → statement M
+beside-rest-spec =
+    tie.close
+    (tie.spec
+    (λ c. search needs)
+    (λ c. search needs)
+    (λ c. search needs)
+    (λ c. search needs)
+    returns
+    (λ c. search needs)
+    (λ c. search needs)
+    (λ c. search needs)
+    returns-2
+    (λ c. search needs)
+    (λ c. search needs)
+    (λ c. search needs)
+    returns-3
+    sweep-rest-requires-2
+    (λ c. search needs)
+    (λ c. search needs)
+    (λ c. search needs)
+    (λ c. search needs)
+    returns-4
+    all-matched-requires
+    (λ c. search needs)
+    (λ c. search needs)
+    (λ c. search needs)
+    (λ c. search needs)
+    returns-5
+    (λ c. search needs)
+    (λ c. search needs)
+    (λ c. search needs)
+    (λ c. search needs)
+    returns-6)

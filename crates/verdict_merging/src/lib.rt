@@ -1,0 +1,681 @@
+// A question of the first reading, swept beside a front that is known to lead to a reading. It ends where each state of that front is matched by one of
+// the question's.
+use verdict_completion::State;
+use verdict_search::Went;
+ghost use mathlib.Core.Path.{_≡_};
+ghost use mathlib.Core.Bool.{true};
+ghost use Prim.Native.Nat.{_+_, _-_, _*_, _<_, _≤_};
+ghost use lib.ListN.{length};
+ghost use Rattle.verdict_completion.specs.Completable.{count, Tries};
+ghost use Rattle.verdict_completion.specs.Better.{AtRest};
+ghost use Rattle.verdict_fronts.specs.Front.{entryAt, AllBeaten};
+ghost use Rattle.verdict_search.specs.Search.{courseNow, courseAt, paying, Later, Sound, Sized, Lent, Before};
+ghost use Rattle.verdict_search.specs.Leading.{Any, Front};
+ghost use Rattle.verdict_merging.specs.Merging.{FindsIf, ToldIf, Trusted, Besides, Knows, Reaches};
+
+// Whether a question was answered yes; how many states its next front has; and how many the known one has, 0 where nothing is known of that.
+pub struct Both {
+    pub yes: bool,
+    pub n: usize,
+    pub g: usize,
+}
+
+// Whether something is known, and for each of the first g known entries one of the first n of a front is at least as good.
+fn all_matched(known: &[u32], g: usize, front: &[u32], n: usize) -> bool
+    requires { ⌜ (entryAt g ≤ length (now known)) × (entryAt n ≤ length (now front)) ⌝ }
+    ensures { λ r. ⌜ (r ≡ true → (0 < g) × AllBeaten (now (known .entry)) g (now (front .entry)) n) ⌝ }
+{
+    if g == 0 {
+        return false;
+    }
+    verdict_fronts::covers_all(known, g, front, n)
+}
+
+// From two fronts before the rest of index j, the question's and the known one, to the next two.
+fn beside_rest(
+    starts: &[u32],
+    ends: &[u32],
+    nets: &[u32],
+    loads: &[u32],
+    s: u32,
+    owed: &mut [u32],
+    nogoods: &mut [u32],
+    next: &mut [u32],
+    front: &[u32],
+    beside: &mut [u32],
+    known: &[u32],
+    j: usize,
+    f: usize,
+    g: usize,
+) -> Both
+    requires { ⌜ (let c = courseNow starts ends nets loads s in Sized c (now owed) × Sound c (now nogoods) × (j < count c) × Front c j (now front) f × Front c j (now known) g) ⌝ }
+    ensures { λ r. ⌜ (let c = courseAt starts ends nets loads s in Besides c j front f known g (j + 1) next beside nogoods r) ⌝ }
+{
+    let went = verdict_sweep::sweep_rest(
+        starts,
+        ends,
+        nets,
+        loads,
+        s,
+        owed,
+        nogoods,
+        next,
+        front,
+        j,
+        f,
+    );
+    if went.yes {
+        return Both {
+            yes: true,
+            n: 0,
+            g: 0,
+        };
+    }
+    if went.n == 0 {
+        return Both {
+            yes: false,
+            n: went.n,
+            g: 0,
+        };
+    }
+    if g == 0 {
+        return Both {
+            yes: false,
+            n: went.n,
+            g: 0,
+        };
+    }
+    let left = verdict_sweep::sweep_rest(
+        starts,
+        ends,
+        nets,
+        loads,
+        s,
+        owed,
+        nogoods,
+        beside,
+        known,
+        j,
+        g,
+    );
+    if left.yes {
+        return Both {
+            yes: false,
+            n: went.n,
+            g: 0,
+        };
+    }
+    if all_matched(beside, left.n, next, went.n) {
+        return Both {
+            yes: true,
+            n: 0,
+            g: 0,
+        };
+    }
+    Both {
+        yes: false,
+        n: went.n,
+        g: left.n,
+    }
+}
+
+// From two fronts before the rest of index j to the next two and from there back to two before the rest after that.
+fn beside_two(
+    starts: &[u32],
+    ends: &[u32],
+    nets: &[u32],
+    loads: &[u32],
+    s: u32,
+    owed: &mut [u32],
+    nogoods: &mut [u32],
+    front: &mut [u32],
+    other: &mut [u32],
+    known: &mut [u32],
+    beside: &mut [u32],
+    j: usize,
+    f: usize,
+    g: usize,
+) -> Both
+    requires { ⌜ (let c = courseNow starts ends nets loads s in Sized c (now owed) × Sound c (now nogoods) × (j < count c) × Front c j (now front) f × Front c j (now known) g) ⌝ }
+    ensures { λ r. ⌜ (let c = courseAt starts ends nets loads s in Besides c j front f known g (j + 2) front known nogoods r) ⌝ }
+{
+    let there = beside_rest(
+        starts,
+        ends,
+        nets,
+        loads,
+        s,
+        owed,
+        nogoods,
+        other,
+        front,
+        beside,
+        known,
+        j,
+        f,
+        g,
+    );
+    if there.yes {
+        return Both {
+            yes: true,
+            n: 0,
+            g: 0,
+        };
+    }
+    if j + 1 == starts.len() {
+        return Both {
+            yes: false,
+            n: 0,
+            g: 0,
+        };
+    }
+    beside_rest(
+        starts,
+        ends,
+        nets,
+        loads,
+        s,
+        owed,
+        nogoods,
+        front,
+        other,
+        known,
+        beside,
+        j + 1,
+        there.n,
+        there.g,
+    )
+}
+
+// So many rests a question goes beside the known front: those that merge mostly do so soon, and the known front costs as much as the question's.
+const BESIDE: usize = 16;
+
+// So many rests after that of index j, or all k.
+fn beside_end(j: usize, k: usize) -> usize
+    ensures { λ r. ⌜ r ≤ k ⌝ }
+{
+    if k <= j {
+        return k;
+    }
+    if k - j <= BESIDE {
+        return k;
+    }
+    j + BESIDE
+}
+
+// From two fronts before the rest of index j to the first rest at which they merge; past so many rests the question goes on alone, to the end.
+fn merge_on(
+    starts: &[u32],
+    ends: &[u32],
+    nets: &[u32],
+    loads: &[u32],
+    s: u32,
+    owed: &mut [u32],
+    nogoods: &mut [u32],
+    front: &mut [u32],
+    other: &mut [u32],
+    known: &mut [u32],
+    beside: &mut [u32],
+    j: usize,
+    f: usize,
+    g: usize,
+) -> bool
+    requires { ⌜ (let c = courseNow starts ends nets loads s in
+        Sized c (now owed) × Sound c (now nogoods) × (j ≤ count c + 1) × Front c j (now front) f × Front c j (now known) g) ⌝ }
+    ensures { λ r. ⌜ (let c = courseAt starts ends nets loads s in
+        ToldIf (Trusted c j (now (known .entry)) g) (Any c j (now (front .entry)) f) r (Sound c (now (nogoods .exit)))) ⌝ }
+{
+    if all_matched(known, g, front, f) {
+        return true;
+    }
+    let last = beside_end(j, starts.len());
+    let mut i = j;
+    let mut n = f;
+    let mut m = g;
+    while i < last {
+        let went = beside_two(
+            starts,
+            ends,
+            nets,
+            loads,
+            s,
+            owed,
+            nogoods,
+            front,
+            other,
+            known,
+            beside,
+            i,
+            n,
+            m,
+        );
+        if went.yes {
+            return true;
+        }
+        if went.n == 0 {
+            return false;
+        }
+        n = went.n;
+        m = went.g;
+        i += 2;
+    }
+    let swept = verdict_sweep::sweep_on(
+        starts,
+        ends,
+        nets,
+        loads,
+        s,
+        owed,
+        nogoods,
+        front,
+        other,
+        i,
+        n,
+    );
+    swept.yes
+}
+
+// From a state before the rest of index j, where nothing is owed, p times two rests on.
+fn ask_to(
+    starts: &[u32],
+    ends: &[u32],
+    nets: &[u32],
+    loads: &[u32],
+    s: u32,
+    owed: &mut [u32],
+    slots: &mut [u32],
+    nogoods: &mut [u32],
+    front: &mut [u32],
+    other: &mut [u32],
+    j: usize,
+    st: State,
+    p: usize,
+) -> Went
+    requires { ⌜ (let c = courseNow starts ends nets loads s in Lent c (now owed) × Sized c (now slots) × Sound c (now nogoods) × Before c j st × (j + 2 * p ≤ count c + 1)) ⌝ }
+    ensures { λ r. ⌜ (let c = courseAt starts ends nets loads s in Reaches c c j st (j + 2 * p) front owed nogoods r) ⌝ }
+{
+    let went = verdict_search::step(
+        starts,
+        ends,
+        nets,
+        loads,
+        s,
+        owed,
+        nogoods,
+        front,
+        j,
+        st,
+        0,
+        0,
+    );
+    if went.yes {
+        return Went { yes: true, n: 0 };
+    }
+    verdict_sweep::sweep_pairs(
+        starts,
+        ends,
+        nets,
+        loads,
+        s,
+        slots,
+        nogoods,
+        front,
+        other,
+        j,
+        went.n,
+        p,
+    )
+}
+
+// From a state at the rest of index j, where nothing is owed, to the rest after it and then p times two rests on: how many states the known front has
+// there. 0 where a state was found good on the way: nothing is known of the front then.
+fn known_to(
+    starts: &[u32],
+    ends: &[u32],
+    nets: &[u32],
+    loads: &[u32],
+    s: u32,
+    owed: &mut [u32],
+    slots: &mut [u32],
+    nogoods: &mut [u32],
+    known: &mut [u32],
+    beside: &mut [u32],
+    j: usize,
+    here: State,
+    p: usize,
+) -> usize
+    requires { ⌜ (let c = courseNow starts ends nets loads s in
+        Lent c (now owed) × Sized c (now slots) × Sound c (now nogoods) × AtRest c j here × (j + 1 + 2 * p ≤ count c + 1)) ⌝ }
+    ensures { λ r. ⌜ (let c = courseAt starts ends nets loads s in Knows (Tries c (Later c j) j here (now (owed .entry))) (Trusted c (j + 1 + 2 * p) (now (known .exit)) r)
+        (now (owed .entry)) (now (owed .exit)) (Sound c (now (nogoods .exit))) (Front c (j + 1 + 2 * p) (now (known .exit)) r)) ⌝ }
+{
+    let first = verdict_search::place(
+        starts,
+        ends,
+        nets,
+        loads,
+        s,
+        owed,
+        nogoods,
+        beside,
+        j,
+        here,
+        0,
+        0,
+    );
+    if first.yes {
+        return 0;
+    }
+    let went = verdict_sweep::sweep_rest(
+        starts,
+        ends,
+        nets,
+        loads,
+        s,
+        slots,
+        nogoods,
+        known,
+        beside,
+        j,
+        first.n,
+    );
+    if went.yes {
+        return 0;
+    }
+    let last = verdict_sweep::sweep_pairs(
+        starts,
+        ends,
+        nets,
+        loads,
+        s,
+        slots,
+        nogoods,
+        known,
+        beside,
+        j + 1,
+        went.n,
+        p,
+    );
+    if last.yes {
+        return 0;
+    }
+    last.n
+}
+
+// How many times two rests it is from the rest after that of index j to one past the rest of number x.
+fn pairs_to(j: usize, x: usize) -> usize
+    ensures { λ r. ⌜ (x ≤ j + 1 + 2 * r) × (2 * r ≤ x - j) ⌝ }
+{
+    if x <= j {
+        return 0;
+    }
+    (x - j) / 2
+}
+
+// The same as `ask_to`, where the rest of number x has some minutes more load.
+fn try_to(
+    starts: &[u32],
+    ends: &[u32],
+    nets: &[u32],
+    loads: &mut [u32],
+    s: u32,
+    owed: &mut [u32],
+    slots: &mut [u32],
+    nogoods: &mut [u32],
+    front: &mut [u32],
+    other: &mut [u32],
+    j: usize,
+    st: State,
+    p: usize,
+    x: usize,
+    less: u32,
+) -> Went
+    requires { ⌜ (let c = courseNow starts ends nets loads s in let d = paying c x less in
+        Sized c (now slots) × Lent d (now owed) × Sized d (now slots) × Sound c (now nogoods) × Before d j st × (j + 2 * p ≤ count c + 1) × (x ≤ count c)) ⌝ }
+    ensures { λ r. ⌜ (let c = courseAt starts ends nets loads s in let d = paying c x less in
+        Reaches c d j st (j + 2 * p) front owed nogoods r
+        × (now (loads .exit) ≡ now (loads .entry))) ⌝ }
+{
+    if x == 0 {
+        return ask_to(
+            starts,
+            ends,
+            nets,
+            loads,
+            s,
+            owed,
+            slots,
+            nogoods,
+            front,
+            other,
+            j,
+            st,
+            p,
+        );
+    }
+    verdict_nogoods::clear(nogoods, starts.len());
+    let i = x - 1;
+    let load = loads[i];
+    loads[i] = load + less;
+    let went = ask_to(
+        starts,
+        ends,
+        nets,
+        loads,
+        s,
+        owed,
+        slots,
+        nogoods,
+        front,
+        other,
+        j,
+        st,
+        p,
+    );
+    loads[i] = load;
+    verdict_nogoods::clear(nogoods, starts.len());
+    went
+}
+
+// The same as `merge_on`, where the rest of number x has some minutes more load.
+fn try_on(
+    starts: &[u32],
+    ends: &[u32],
+    nets: &[u32],
+    loads: &mut [u32],
+    s: u32,
+    slots: &mut [u32],
+    nogoods: &mut [u32],
+    front: &mut [u32],
+    other: &mut [u32],
+    known: &mut [u32],
+    beside: &mut [u32],
+    j: usize,
+    f: usize,
+    g: usize,
+    x: usize,
+    less: u32,
+) -> bool
+    requires { ⌜ (let c = courseNow starts ends nets loads s in let d = paying c x less in
+        Sized c (now slots) × Sized d (now slots) × Sound c (now nogoods) × (j ≤ count c + 1) × (x ≤ count c) × Front d j (now front) f × Front d j (now known) g) ⌝ }
+    ensures { λ r. ⌜ (let c = courseAt starts ends nets loads s in let d = paying c x less in
+        ToldIf (Trusted d j (now (known .entry)) g) (Any d j (now (front .entry)) f) r (Sound c (now (nogoods .exit)))
+        × (now (loads .exit) ≡ now (loads .entry))) ⌝ }
+{
+    if x == 0 {
+        return merge_on(
+            starts,
+            ends,
+            nets,
+            loads,
+            s,
+            slots,
+            nogoods,
+            front,
+            other,
+            known,
+            beside,
+            j,
+            f,
+            g,
+        );
+    }
+    verdict_nogoods::clear(nogoods, starts.len());
+    let i = x - 1;
+    let load = loads[i];
+    loads[i] = load + less;
+    let yes = merge_on(
+        starts,
+        ends,
+        nets,
+        loads,
+        s,
+        slots,
+        nogoods,
+        front,
+        other,
+        known,
+        beside,
+        j,
+        f,
+        g,
+    );
+    loads[i] = load;
+    verdict_nogoods::clear(nogoods, starts.len());
+    yes
+}
+
+// The same as `completes_beside`, with slots for the sweeps.
+fn asks_beside(
+    starts: &[u32],
+    ends: &[u32],
+    nets: &[u32],
+    loads: &mut [u32],
+    s: u32,
+    owed: &mut [u32],
+    slots: &mut [u32],
+    nogoods: &mut [u32],
+    front: &mut [u32],
+    other: &mut [u32],
+    known: &mut [u32],
+    beside: &mut [u32],
+    j: usize,
+    here: State,
+    next: State,
+    x: usize,
+    less: u32,
+) -> bool
+    requires { ⌜ (let c = courseNow starts ends nets loads s in let d = paying c x less in
+        Lent c (now owed) × Lent d (now owed) × Sized c (now slots) × Sized d (now slots) × AtRest c j here × Before d (j + 1) next × (x ≤ count c) × Sound c (now nogoods)) ⌝ }
+    ensures { λ r. ⌜ (let c = courseAt starts ends nets loads s in let d = paying c x less in
+        FindsIf c (Tries c (Later c j) j here (now (owed .entry))) (Later d j next (now (owed .entry))) r owed nogoods
+        × (now (loads .exit) ≡ now (loads .entry))) ⌝ }
+{
+    let p = pairs_to(j, x);
+    let went = try_to(
+        starts,
+        ends,
+        nets,
+        loads,
+        s,
+        owed,
+        slots,
+        nogoods,
+        front,
+        other,
+        j + 1,
+        next,
+        p,
+        x,
+        less,
+    );
+    if went.yes {
+        return true;
+    }
+    if went.n == 0 {
+        return false;
+    }
+    let g = known_to(
+        starts,
+        ends,
+        nets,
+        loads,
+        s,
+        owed,
+        slots,
+        nogoods,
+        known,
+        beside,
+        j,
+        here,
+        p,
+    );
+    try_on(
+        starts,
+        ends,
+        nets,
+        loads,
+        s,
+        slots,
+        nogoods,
+        front,
+        other,
+        known,
+        beside,
+        j + 1 + 2 * p,
+        went.n,
+        g,
+        x,
+        less,
+    )
+}
+
+// Whether the rests from that of index j + 1 on can be read from the state `next`, where the rest of number x has some minutes more load (0 is none)
+// and nothing is owed. A yes may rest on that the rests from that of index j on can be read from the state `here` at that rest with the loads as they
+// stand: past the rest of number x, where each state that this can lead to is matched by one that `next` leads to, the answer is yes.
+pub fn completes_beside(
+    starts: &[u32],
+    ends: &[u32],
+    nets: &[u32],
+    loads: &mut [u32],
+    s: u32,
+    owed: &mut [u32],
+    nogoods: &mut [u32],
+    front: &mut [u32],
+    other: &mut [u32],
+    known: &mut [u32],
+    beside: &mut [u32],
+    j: usize,
+    here: State,
+    next: State,
+    x: usize,
+    less: u32,
+) -> bool
+    requires { ⌜ (let c = courseNow starts ends nets loads s in let d = paying c x less in
+        Lent c (now owed) × Lent d (now owed) × AtRest c j here × Before d (j + 1) next × (x ≤ count c) × Sound c (now nogoods)) ⌝ }
+    ensures { λ r. ⌜ (let c = courseAt starts ends nets loads s in let d = paying c x less in
+        FindsIf c (Tries c (Later c j) j here (now (owed .entry))) (Later d j next (now (owed .entry))) r owed nogoods
+        × (now (loads .exit) ≡ now (loads .entry))) ⌝ }
+{
+    let k = starts.len();
+    let mut slots = [0u32; recording::LONG_RESTS];
+    asks_beside(
+        starts,
+        ends,
+        nets,
+        loads,
+        s,
+        owed,
+        &mut slots[..k],
+        nogoods,
+        front,
+        other,
+        known,
+        beside,
+        j,
+        here,
+        next,
+        x,
+        less,
+    )
+}

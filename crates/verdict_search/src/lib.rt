@@ -1,0 +1,570 @@
+// What a state before a long rest leads to: which outstanding debts the rest compensates for, what kind of rest it is and in which week it counts.
+// Each state that follows is put into the next front; what does not fit there is asked at once by the same steps with no front, depth first.
+use rules::Kind;
+use rules::Standing;
+use rules_reading::LongRest;
+use verdict_completion::Brought;
+use verdict_completion::State;
+ghost use mathlib.Core.Path.{_≡_};
+ghost use Prim.Native.Nat.{_+_, _-_, _<_, _≤_};
+ghost use lib.ListN.{set};
+ghost use Rattle.recording.specs.Operations.{totalAtMost};
+ghost use Rattle.recording.specs.Weeks.{weekStart};
+ghost use Rattle.rules.specs.Reading.{reductionOf};
+ghost use Rattle.rules.specs.ReadingRules.{leastNet};
+ghost use Rattle.rules.specs.declared.Kind.the-variants.{Daily, Weekly};
+ghost use Rattle.rules.specs.declared.Standing.the-variants.{Regular};
+ghost use Rattle.rules_reading.specs.Items.{loadAtMost};
+ghost use Rattle.verdict_completion.specs.Completable.{at, count, lengthAt, Pays, Closes, ReadDaily, ReadWeekly, Counted, Reads, Tries, Completable};
+ghost use Rattle.verdict_completion.specs.Better.{AtRest};
+ghost use Rattle.verdict_steps.specs.Steps.{Says, standingFor, debtBy};
+ghost use Rattle.verdict_search.specs.Search.{courseNow, courseAt, Later, Slots, Before};
+ghost use Rattle.verdict_search.specs.Leading.{Given, Leads, ReadAs, TakenAs};
+
+// Whether a question was answered yes; and how many states the next front has.
+pub struct Went {
+    pub yes: bool,
+    pub n: usize,
+}
+
+// All rests are read: whether nothing is left to break.
+fn closes(
+    starts: &[u32],
+    ends: &[u32],
+    nets: &[u32],
+    loads: &[u32],
+    s: u32,
+    owed: &[u32],
+    st: State,
+    n: usize,
+) -> bool
+    requires { ⌜ (let c = courseNow starts ends nets loads s in Slots c (count c) n (now owed) × Before c (count c) st) ⌝ }
+    ensures { λ r. ⌜ (let c = courseAt starts ends nets loads s in Says (Closes c st (now (owed .entry))) r) ⌝ }
+{
+    if st.ended + rules_reading::WEEKLY_GAP < s {
+        return false;
+    }
+    if verdict_steps::overdue(owed, n, s + 1) {
+        return false;
+    }
+    let Brought::To(_) = verdict_steps::advance(
+        starts,
+        ends,
+        starts.len(),
+        st,
+        s / recording::WEEK_MINUTES,
+    ) else {
+        return false;
+    };
+    true
+}
+
+// A state in the week in which the rest of index j starts is put into the front before that rest. Where it does not fit it is asked at once, with no
+// front for what follows; a no is remembered.
+pub fn place(
+    starts: &[u32],
+    ends: &[u32],
+    nets: &[u32],
+    loads: &[u32],
+    s: u32,
+    owed: &mut [u32],
+    nogoods: &mut [u32],
+    next: &mut [u32],
+    j: usize,
+    here: State,
+    m: usize,
+    n: usize,
+) -> Went
+    requires { ⌜ (let c = courseNow starts ends nets loads s in Given c j m (now owed) (now nogoods) j (now next) n × AtRest c j here) ⌝ }
+    ensures { λ r. ⌜ (let c = courseAt starts ends nets loads s in Leads c (λ o. Tries c (Later c j) j here o) j n next owed nogoods r) ⌝ }
+{
+    let put = verdict_fronts::put(next, n, owed, m, here);
+    let n = put.n;
+    if put.fits {
+        return Went { yes: false, n: n };
+    }
+    if verdict_nogoods::known(nogoods, owed, m, j, here) {
+        return Went { yes: false, n: n };
+    }
+    let mut none = [0u32; 0];
+    let went = pay(
+        starts,
+        ends,
+        nets,
+        loads,
+        s,
+        owed,
+        nogoods,
+        &mut none,
+        j,
+        0,
+        loads[j],
+        here,
+        m,
+        0,
+    );
+    if went.yes {
+        return Went { yes: true, n: n };
+    }
+    verdict_nogoods::remember(nogoods, owed, m, j, here);
+    Went { yes: false, n: n }
+}
+
+// A state before the rest of index j is led on to that rest, or, where all rests are read, asked at once.
+pub fn step(
+    starts: &[u32],
+    ends: &[u32],
+    nets: &[u32],
+    loads: &[u32],
+    s: u32,
+    owed: &mut [u32],
+    nogoods: &mut [u32],
+    next: &mut [u32],
+    j: usize,
+    st: State,
+    m: usize,
+    n: usize,
+) -> Went
+    requires { ⌜ (let c = courseNow starts ends nets loads s in Given c j m (now owed) (now nogoods) j (now next) n × Before c j st) ⌝ }
+    ensures { λ r. ⌜ (let c = courseAt starts ends nets loads s in Leads c (λ o. Completable c (count c - j) j st o) j n next owed nogoods r) ⌝ }
+{
+    if j == starts.len() {
+        let yes = closes(starts, ends, nets, loads, s, owed, st, m);
+        return Went { yes: yes, n: n };
+    }
+    if st.ended + rules_reading::WEEKLY_GAP < starts[j] {
+        return Went { yes: false, n: n };
+    }
+    if verdict_steps::overdue(owed, m, ends[j]) {
+        return Went { yes: false, n: n };
+    }
+    let Brought::To(here) = verdict_steps::advance(
+        starts,
+        ends,
+        j,
+        st,
+        starts[j] / recording::WEEK_MINUTES,
+    ) else {
+        return Went { yes: false, n: n };
+    };
+    place(
+        starts,
+        ends,
+        nets,
+        loads,
+        s,
+        owed,
+        nogoods,
+        next,
+        j,
+        here,
+        m,
+        n,
+    )
+}
+
+// The rest of index j is daily, with a load.
+fn daily(
+    starts: &[u32],
+    ends: &[u32],
+    nets: &[u32],
+    loads: &[u32],
+    s: u32,
+    owed: &mut [u32],
+    nogoods: &mut [u32],
+    next: &mut [u32],
+    j: usize,
+    load: u32,
+    here: State,
+    m: usize,
+    n: usize,
+) -> Went
+    requires { ⌜ (let c = courseNow starts ends nets loads s in
+        Given c j m (now owed) (now nogoods) (j + 1) (now next) n × AtRest c j here × (leastNet Daily + load ≤ lengthAt c j)) ⌝ }
+    ensures { λ r. ⌜ (let c = courseAt starts ends nets loads s in Leads c (λ o. ReadDaily c (Later c j) j here load o) (j + 1) n next owed nogoods r) ⌝ }
+{
+    let short = verdict_steps::is_short(ends[j] - starts[j], nets[j], load);
+    let after = verdict_steps::after_daily(here, short);
+    if rules_reading::SHORTENED_AT_MOST < after.short {
+        return Went { yes: false, n: n };
+    }
+    step(
+        starts,
+        ends,
+        nets,
+        loads,
+        s,
+        owed,
+        nogoods,
+        next,
+        j + 1,
+        after,
+        m,
+        n,
+    )
+}
+
+// It is weekly, counted in week w, and owes what it is reduced by; a debt that is due after s needs nothing.
+fn count_in(
+    starts: &[u32],
+    ends: &[u32],
+    nets: &[u32],
+    loads: &[u32],
+    s: u32,
+    owed: &mut [u32],
+    nogoods: &mut [u32],
+    next: &mut [u32],
+    j: usize,
+    standing: Standing,
+    w: u32,
+    after: State,
+    m: usize,
+    n: usize,
+) -> Went
+    requires { ⌜ (let c = courseNow starts ends nets loads s in
+        Given c j m (now owed) (now nogoods) (j + 1) (now next) n × (j < count c) × Before c (j + 1) after × (reductionOf (Weekly standing) ≤ loadAtMost) × (w < 255)) ⌝ }
+    ensures { λ r. ⌜ (let c = courseAt starts ends nets loads s in Leads c (λ o. Later c j after (set o j (debtBy standing w))) (j + 1) n next owed nogoods r) ⌝ }
+{
+    let debt = owed[m];
+    owed[m] = verdict_steps::outstanding(verdict_steps::debt_of(standing, w), s);
+    let went = step(
+        starts,
+        ends,
+        nets,
+        loads,
+        s,
+        owed,
+        nogoods,
+        next,
+        j + 1,
+        after,
+        m + 1,
+        n,
+    );
+    owed[m] = debt;
+    went
+}
+
+// It is weekly, in week w.
+fn in_week(
+    starts: &[u32],
+    ends: &[u32],
+    nets: &[u32],
+    loads: &[u32],
+    s: u32,
+    owed: &mut [u32],
+    nogoods: &mut [u32],
+    next: &mut [u32],
+    j: usize,
+    load: u32,
+    standing: Standing,
+    w: u32,
+    here: State,
+    m: usize,
+    n: usize,
+) -> Went
+    requires { ⌜ (let c = courseNow starts ends nets loads s in Given c j m (now owed) (now nogoods) (j + 1) (now next) n × AtRest c j here
+        × (standing ≡ standingFor (lengthAt c j) load) × (leastNet (Weekly Regular) + load ≤ lengthAt c j)
+        × (at (now starts) j < weekStart (w + 1)) × (weekStart w < at (now ends) j)) ⌝ }
+    ensures { λ r. ⌜ (let c = courseAt starts ends nets loads s in Leads c (λ o. Counted c (Later c j) j here w load o) (j + 1) n next owed nogoods r) ⌝ }
+{
+    let Brought::To(there) = verdict_steps::advance(starts, ends, j + 1, here, w) else {
+        return Went { yes: false, n: n };
+    };
+    let rest = rules_reading::holds_week(starts[j], ends[j], w);
+    let after = verdict_steps::after_weekly(
+        there,
+        rest,
+        verdict_steps::is_regular(standing),
+        ends[j],
+    );
+    count_in(
+        starts,
+        ends,
+        nets,
+        loads,
+        s,
+        owed,
+        nogoods,
+        next,
+        j,
+        standing,
+        w,
+        after,
+        m,
+        n,
+    )
+}
+
+// It is weekly, in one of the weeks in which it has a minute.
+fn weekly(
+    starts: &[u32],
+    ends: &[u32],
+    nets: &[u32],
+    loads: &[u32],
+    s: u32,
+    owed: &mut [u32],
+    nogoods: &mut [u32],
+    next: &mut [u32],
+    j: usize,
+    load: u32,
+    standing: Standing,
+    here: State,
+    m: usize,
+    n: usize,
+) -> Went
+    requires { ⌜ (let c = courseNow starts ends nets loads s in Given c j m (now owed) (now nogoods) (j + 1) (now next) n × AtRest c j here
+        × (standing ≡ standingFor (lengthAt c j) load) × (leastNet (Weekly Regular) + load ≤ lengthAt c j)) ⌝ }
+    ensures { λ r. ⌜ (let c = courseAt starts ends nets loads s in Leads c (λ o. ReadWeekly c (Later c j) j here load o) (j + 1) n next owed nogoods r) ⌝ }
+{
+    let end = ends[j];
+    let mut w = starts[j] / recording::WEEK_MINUTES;
+    let mut many = n;
+    while recording::WEEK_MINUTES * w < end {
+        let went = in_week(
+            starts,
+            ends,
+            nets,
+            loads,
+            s,
+            owed,
+            nogoods,
+            next,
+            j,
+            load,
+            standing,
+            w,
+            here,
+            m,
+            many,
+        );
+        if went.yes {
+            return went;
+        }
+        many = went.n;
+        w += 1;
+    }
+    Went {
+        yes: false,
+        n: many,
+    }
+}
+
+// It is read as of a kind.
+fn read_as(
+    starts: &[u32],
+    ends: &[u32],
+    nets: &[u32],
+    loads: &[u32],
+    s: u32,
+    owed: &mut [u32],
+    nogoods: &mut [u32],
+    next: &mut [u32],
+    j: usize,
+    load: u32,
+    rest: LongRest,
+    here: State,
+    m: usize,
+    n: usize,
+) -> Went
+    requires { ⌜ (let c = courseNow starts ends nets loads s in Given c j m (now owed) (now nogoods) (j + 1) (now next) n × AtRest c j here × TakenAs c j load (rest .kind)) ⌝ }
+    ensures { λ r. ⌜ (let c = courseAt starts ends nets loads s in Leads c (λ o. ReadAs c (Later c j) j here load (rest .kind) o) (j + 1) n next owed nogoods r) ⌝ }
+{
+    let kind = rest.kind;
+    match kind {
+        Kind::Daily => daily(
+            starts,
+            ends,
+            nets,
+            loads,
+            s,
+            owed,
+            nogoods,
+            next,
+            j,
+            load,
+            here,
+            m,
+            n,
+        ),
+        Kind::Weekly(standing) => weekly(
+            starts,
+            ends,
+            nets,
+            loads,
+            s,
+            owed,
+            nogoods,
+            next,
+            j,
+            load,
+            standing,
+            here,
+            m,
+            n,
+        ),
+    }
+}
+
+// It is daily or weekly, with a load; where it can be a regular weekly rest it need not be daily.
+fn choose(
+    starts: &[u32],
+    ends: &[u32],
+    nets: &[u32],
+    loads: &[u32],
+    s: u32,
+    owed: &mut [u32],
+    nogoods: &mut [u32],
+    next: &mut [u32],
+    j: usize,
+    load: u32,
+    here: State,
+    m: usize,
+    n: usize,
+) -> Went
+    requires { ⌜ (let c = courseNow starts ends nets loads s in Given c j m (now owed) (now nogoods) (j + 1) (now next) n × AtRest c j here × (load ≤ totalAtMost)) ⌝ }
+    ensures { λ r. ⌜ (let c = courseAt starts ends nets loads s in Leads c (λ o. Reads c (Later c j) j here load o) (j + 1) n next owed nogoods r) ⌝ }
+{
+    let start = starts[j];
+    let end = ends[j];
+    if end - start < rules_reading::DAILY_NET + load {
+        return Went { yes: false, n: n };
+    }
+    let weekly = verdict_steps::as_weekly(start, end, load);
+    if rules_reading::REGULAR + load <= end - start {
+        return read_as(
+            starts,
+            ends,
+            nets,
+            loads,
+            s,
+            owed,
+            nogoods,
+            next,
+            j,
+            load,
+            weekly,
+            here,
+            m,
+            n,
+        );
+    }
+    let daily = verdict_steps::as_daily(start, end);
+    let went = read_as(
+        starts,
+        ends,
+        nets,
+        loads,
+        s,
+        owed,
+        nogoods,
+        next,
+        j,
+        load,
+        daily,
+        here,
+        m,
+        n,
+    );
+    if went.yes {
+        return went;
+    }
+    if end - start < rules_reading::WEEKLY_NET + load {
+        return went;
+    }
+    read_as(
+        starts,
+        ends,
+        nets,
+        loads,
+        s,
+        owed,
+        nogoods,
+        next,
+        j,
+        load,
+        weekly,
+        here,
+        m,
+        went.n,
+    )
+}
+
+// It has a load, and compensates for some of the debts in the slots from i on.
+pub fn pay(
+    starts: &[u32],
+    ends: &[u32],
+    nets: &[u32],
+    loads: &[u32],
+    s: u32,
+    owed: &mut [u32],
+    nogoods: &mut [u32],
+    next: &mut [u32],
+    j: usize,
+    i: usize,
+    load: u32,
+    here: State,
+    m: usize,
+    n: usize,
+) -> Went
+    requires { ⌜ (let c = courseNow starts ends nets loads s in Given c j m (now owed) (now nogoods) (j + 1) (now next) n × AtRest c j here × (i ≤ m) × (load ≤ totalAtMost)) ⌝ }
+    ensures { λ r. ⌜ (let c = courseAt starts ends nets loads s in Leads c (λ o. Pays (Reads c (Later c j) j here) (lengthAt c j) (j - i) i load o) (j + 1) n
+        next owed nogoods r) ⌝ }
+{
+    let d = verdict_steps::debtor(owed, m, i, load, ends[j] - starts[j]);
+    if d == m {
+        return choose(
+            starts,
+            ends,
+            nets,
+            loads,
+            s,
+            owed,
+            nogoods,
+            next,
+            j,
+            load,
+            here,
+            m,
+            n,
+        );
+    }
+    let debt = owed[d];
+    owed[d] = 0;
+    let went = pay(
+        starts,
+        ends,
+        nets,
+        loads,
+        s,
+        owed,
+        nogoods,
+        next,
+        j,
+        d + 1,
+        load + debt % verdict_steps::DEBT_UNIT,
+        here,
+        m,
+        n,
+    );
+    owed[d] = debt;
+    if went.yes {
+        return went;
+    }
+    pay(
+        starts,
+        ends,
+        nets,
+        loads,
+        s,
+        owed,
+        nogoods,
+        next,
+        j,
+        d + 1,
+        load,
+        here,
+        m,
+        went.n,
+    )
+}
