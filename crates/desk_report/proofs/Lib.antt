@@ -1,4 +1,3 @@
-pub mod NumberLaws
 pub mod Sizes
 pub mod RestLines
 pub mod Pages

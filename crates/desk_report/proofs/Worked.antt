@@ -14,7 +14,7 @@ use Rattle.rules.proofs.Breach.{verdict-pass}
 use Rattle.rules.proofs.OnlyDaily.{allDaily, daily-first}
 use Rattle.text_lines.specs.Form.{runName, digitAt, decimal, lineText, textOfLines, runsThen, weeksThenEnd, textOf}
 use Rattle.text_lines.specs.Reading.{same, numberFrom, numberAfter, runOr, lineOf, linesFrom, stageAfter, stageFrom, isText, wordsOf, textRead}
-use Rattle.desk_report.specs.Printed.{asLine, closed, verdictName, minutesName, judgedName, readingName, dailyName, refusedName, numberText, numbered, spanText, dailyText, restText}
+use Rattle.desk_report.specs.Printed.{asLine, closed, verdictName, minutesName, judgedName, readingName, dailyName, refusedName, numbered, spanText, dailyText, restText}
 use Rattle.desk_report.specs.Printed.{restsText, inputRead, deskText}
 use Rattle.desk_report.proofs.Answered.{text-is, desk-words, desk-over}
 
@@ -41,26 +41,26 @@ paper-pass = verdict-pass (minutesOf paperWords) (allDaily (minutesOf paperWords
 pub paper-printed : deskText paperText
     ≡ asLine verdictName ++ (minutesName ++ 32 ∷ 57 ∷ 54 ∷ 48 ∷ closed) ++ (judgedName ++ 32 ∷ 57 ∷ 54 ∷ 48 ∷ closed) ++ asLine readingName
     ++ (dailyName ++ 32 ∷ 50 ∷ 52 ∷ 48 ∷ 32 ∷ 57 ∷ 48 ∷ 48 ∷ closed) ++ closed ++ closed
-unfolding recording.opened digitAt numberText numbered spanText dailyText restText restsText
+unfolding recording.opened digitAt decimal numbered spanText dailyText restText restsText
 paper-printed = desk-words paperText paper-read ∙ text-is paperWords paper-measured paper-pass
 
 -- a text of no bytes, and one of 65,537, whatever they are
 pub nothing-printed : deskText [] ≡ asLine verdictName ++ (refusedName ++ 32 ∷ 56 ∷ closed) ++ closed
-unfolding deskText inputRead linesFrom stageFrom isText wordsOf textRead digitAt numberText numbered
+unfolding deskText inputRead linesFrom stageFrom isText wordsOf textRead digitAt decimal numbered
 nothing-printed = refl
 
 pub long-printed : (byte : ℕ) → deskText (replicate 65537 byte) ≡ asLine verdictName ++ (refusedName ++ 32 ∷ 57 ∷ closed) ++ closed
-unfolding digitAt numberText numbered
+unfolding digitAt decimal numbered
 long-printed byte = desk-over (replicate 65537 byte) (omega (arith, length-replicate 65537 byte))
 
 -- numbers at their edges
 pub record Numbers : Type 0 where
-  none : numberText 0 ≡ 48 ∷ []
-  nine : numberText 9 ≡ 57 ∷ []
-  ten : numberText 10 ≡ 49 ∷ 48 ∷ []
-  five-digits : numberText 99999 ≡ 57 ∷ 57 ∷ 57 ∷ 57 ∷ 57 ∷ []
-  most : numberText 120960 ≡ 49 ∷ 50 ∷ 48 ∷ 57 ∷ 54 ∷ 48 ∷ []
+  none : decimal 0 ≡ 48 ∷ []
+  nine : decimal 9 ≡ 57 ∷ []
+  ten : decimal 10 ≡ 49 ∷ 48 ∷ []
+  five-digits : decimal 99999 ≡ 57 ∷ 57 ∷ 57 ∷ 57 ∷ 57 ∷ []
+  most : decimal 120960 ≡ 49 ∷ 50 ∷ 48 ∷ 57 ∷ 54 ∷ 48 ∷ []
 
 pub numbers : Numbers
-unfolding digitAt numberText
+unfolding digitAt decimal
 numbers = record { none = refl; nine = refl; ten = refl; five-digits = refl; most = refl }

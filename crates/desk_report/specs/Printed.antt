@@ -1,7 +1,7 @@
 -- Document 01, "Bracket text": what the desk program prints.
 -- Assumes nothing.
 use mathlib.Core.List.{List, [], _∷_, _++_}
-use Prim.Native.Nat.{ℕ, _+_, _%_}
+use Prim.Native.Nat.{ℕ}
 use lib.Dec.{eqb, ltb}
 use lib.ListN.{length, drop, getD}
 use Rattle.recording.specs.Tests.{pick}
@@ -12,7 +12,7 @@ use Rattle.recording.specs.Operations.{measured}
 use Rattle.recording.specs.declared.Span.{Span}
 use Rattle.rules.specs.Reading.{weeklyKind, entryBytes}
 use Rattle.rules.specs.Verdict.{Verdict, pass, breach, verdict}
-use Rattle.text_lines.specs.Form.{lineEnd, closingLine, digitZero, base, digitAt}
+use Rattle.text_lines.specs.Form.{lineEnd, closingLine, decimal}
 use Rattle.text_lines.specs.Reading.{textRead}
 
 -- ---- lines, each ended by byte 10 and with no spaces but those shown
@@ -51,13 +51,9 @@ asLine l = l ++ lineEnd ∷ []
 abbrev pub closed : List ℕ
 closed = asLine closingLine
 
--- A number in decimal without leading zeros, 0 as `0`; none that is printed has more than six digits.
-unfoldable pub numberText : ℕ → List ℕ
-numberText n = digitAt 100000 n ++ digitAt 10000 n ++ digitAt 1000 n ++ digitAt 100 n ++ digitAt 10 n ++ (digitZero + n % base) ∷ []
-
 -- a number after a space
 abbrev pub spaced : ℕ → List ℕ
-spaced n = (space ∷ []) ++ numberText n
+spaced n = (space ∷ []) ++ decimal n
 
 -- a line of a name and one number
 unfoldable pub numbered : List ℕ → ℕ → List ℕ

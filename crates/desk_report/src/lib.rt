@@ -9,7 +9,7 @@ ghost use Rattle.recording.specs.Words.{minutesOf};
 ghost use Rattle.recording.specs.Operations.{totalAtMost, written};
 ghost use Rattle.rules.specs.Verdict.{pass, breach};
 ghost use Rattle.text.specs.Passes.{Put, places, roomy};
-ghost use Rattle.desk_report.specs.Printed.{numberText, spaced, numbered, spanText, dailyText, weeklyText, restText, articleText, breachText, verdictText, deskText, intoRoom};
+ghost use Rattle.desk_report.specs.Printed.{spaced, numbered, spanText, dailyText, weeklyText, restText, articleText, breachText, verdictText, deskText, intoRoom};
 ghost use Rattle.desk_report.specs.Composing.{pageAtMost, restsOf, Readable, refusalPage, pageOf, passHead, Read};
 
 // Bytes enough for whatever is printed.
@@ -33,27 +33,13 @@ fn wide(b: u8) -> u32
 
 // ---- lines
 
-// A number of at most six digits, in decimal.
-fn put_number(out: &mut [u8], at: usize, n: u32) -> usize
-    requires { ⌜ at + 6 ≤ places ⌝ }
-    ensures { λ r. ⌜ Put (now (out .entry)) at (numberText n) r (now (out .exit)) ⌝ }
-{
-    let a = text::put_digit(out, at, 100000, n);
-    let b = text::put_digit(out, a, 10000, n);
-    let c = text::put_digit(out, b, 1000, n);
-    let d = text::put_digit(out, c, 100, n);
-    let e = text::put_digit(out, d, 10, n);
-    text::put(out, e, (48 + n % 10) as u8);
-    e + 1
-}
-
 // A number after a space.
 fn put_spaced(out: &mut [u8], at: usize, n: u32) -> usize
     requires { ⌜ at + 7 ≤ places ⌝ }
-    ensures { λ r. ⌜ Put (now (out .entry)) at (spaced n) r (now (out .exit)) ⌝ }
+    ensures { λ r. ⌜ Put (now (out .entry)) at (spaced n) r (now (out .exit)) × (r ≤ at + 7) ⌝ }
 {
     let next = text::put_all(out, at, b" ");
-    put_number(out, next, n)
+    text::put_number(out, next, n)
 }
 
 // A line of a name and one number.
@@ -69,7 +55,7 @@ fn put_numbered(out: &mut [u8], at: usize, name: &[u8], n: u32) -> usize
 // A name, a start and an end.
 fn put_span(out: &mut [u8], at: usize, name: &[u8], start: u32, end: u32) -> usize
     requires { ⌜ at + length (now name) + 14 ≤ places ⌝ }
-    ensures { λ r. ⌜ Put (now (out .entry)) at (spanText (now (name .entry)) start end) r (now (out .exit)) ⌝ }
+    ensures { λ r. ⌜ Put (now (out .entry)) at (spanText (now (name .entry)) start end) r (now (out .exit)) × (r ≤ at + length (now (name .entry)) + 14) ⌝ }
 {
     let named = text::put_all(out, at, name);
     let begun = put_spaced(out, named, start);
@@ -135,7 +121,7 @@ fn put_rests(out: &mut [u8], at: usize, starts: &[u32], ends: &[u32], reading: &
 // The article of a breach.
 fn put_article(out: &mut [u8], at: usize, article: u32) -> usize
     requires { ⌜ at ≤ roomy ⌝ }
-    ensures { λ r. ⌜ Put (now (out .entry)) at (articleText article) r (now (out .exit)) ⌝ }
+    ensures { λ r. ⌜ Put (now (out .entry)) at (articleText article) r (now (out .exit)) × (r ≤ at + 3) ⌝ }
 {
     match article {
         1 => text::put_all(out, at, b"7"),
@@ -150,7 +136,7 @@ fn put_article(out: &mut [u8], at: usize, article: u32) -> usize
 // The line of a breach.
 fn put_breach(out: &mut [u8], at: usize, minute: u32, article: u32) -> usize
     requires { ⌜ at + 24 ≤ roomy ⌝ }
-    ensures { λ r. ⌜ Put (now (out .entry)) at (breachText minute article) r (now (out .exit)) ⌝ }
+    ensures { λ r. ⌜ Put (now (out .entry)) at (breachText minute article) r (now (out .exit)) × (r ≤ at + 20) ⌝ }
 {
     let named = text::put_all(out, at, b"(breach");
     let timed = put_spaced(out, named, minute);

@@ -128,9 +128,13 @@ plain-pick : (b : Bool) (xs ys : List ℕ) → plain xs ≡ true → plain ys �
 plain-pick true xs ys p q = p
 plain-pick false xs ys p q = q
 
+plain-one : (d : ℕ) → plain ((digitZero + d) ∷ []) ≡ true
+unfolding plain
+plain-one d = rw (ne-eqb (digitZero + d) lineEnd (λ e. omega arith))
+
 plain-digit : (p n : ℕ) → plain (digitAt p n) ≡ true
 unfolding plain digitAt
-plain-digit p n = plain-pick (ltb n p) [] ((digitZero + n / p % base) ∷ []) refl (rw (ne-eqb (digitZero + n / p % base) lineEnd (λ e. omega arith)))
+plain-digit p n = plain-pick (ltb n p) [] ((digitZero + n / p % base) ∷ []) refl (plain-one (n / p % base))
 
 plain-name : (a : ℕ) → plain (runName a) ≡ true
 unfolding plain runName
@@ -142,7 +146,8 @@ plain-decimal n =
     plain-append _ _
     (plain-append _ _
     (plain-append _ _
-    (plain-append _ _ (plain-digit 10000 n) (plain-digit 1000 n)) (plain-digit 100 n)) (plain-digit 10 n)) (plain-digit 1 n)
+    (plain-append _ _
+    (plain-append _ _ (plain-digit 100000 n) (plain-digit 10000 n)) (plain-digit 1000 n)) (plain-digit 100 n)) (plain-digit 10 n)) (plain-one (n % base))
 
 plain-line : (l : Line) → plain (lineText l) ≡ true
 unfolding plain lineText

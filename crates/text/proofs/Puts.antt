@@ -57,11 +57,11 @@ module _ (t : List ℕ) (at p n : ℕ) where
   unfolding digitAt
   digit-put h e = rw (le-ltb n p h) (record { next-is = refl; text-is = e })
 
-pick-at-most : {A : Type 0} (b : Bool) (xs ys : List A) (k : ℕ) → length xs ≤ k → length ys ≤ k → length (pick b xs ys) ≤ k
+pub pick-at-most : {A : Type 0} (b : Bool) (xs ys : List A) (k : ℕ) → length xs ≤ k → length ys ≤ k → length (pick b xs ys) ≤ k
 pick-at-most true xs ys k h l = h
 pick-at-most false xs ys k h l = l
 
-pub digit-short : (p n : ℕ) → length (digitAt p n) ≤ 1
+digit-short : (p n : ℕ) → length (digitAt p n) ≤ 1
 unfolding digitAt
 digit-short p n = pick-at-most (ltb n p) [] ((digitZero + n / p % base) ∷ []) 1 (omega arith) (omega arith)
 
@@ -73,11 +73,11 @@ name-short a =
     (pick-at-most (eqb a availability) _ _ 7 (omega arith)
     (pick-at-most (eqb a otherWork) _ _ 7 (omega arith) (omega arith)))
 
-pub number-short : (n : ℕ) → length (decimal n) ≤ 5
+pub number-short : (n : ℕ) → length (decimal n) ≤ 6
 unfolding decimal
 number-short n =
-    rw (length-append, length-append, length-append, length-append)
-    (omega (arith, digit-short 10000 n, digit-short 1000 n, digit-short 100 n, digit-short 10 n, digit-short 1 n))
+    rw (length-append, length-append, length-append, length-append, length-append)
+    (omega (arith, digit-short 100000 n, digit-short 10000 n, digit-short 1000 n, digit-short 100 n, digit-short 10 n))
 
 pub pick-short : (b : Bool) (bytes : List ℕ) → length (pick b bytes []) ≤ length bytes
 pick-short true bytes = omega arith

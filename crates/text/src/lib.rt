@@ -72,7 +72,7 @@ pub fn read_text(text: &[u8], words: &mut [u32]) -> Filling
 // ---- writing
 
 // A byte at a place, where the text reaches that far.
-pub fn put(text: &mut [u8], at: usize, b: u8)
+fn put(text: &mut [u8], at: usize, b: u8)
     ensures { λ _. ⌜ now (text .exit) ≡ set (now (text .entry)) at b ⌝ }
 {
     if at < text.len() {
@@ -94,9 +94,9 @@ pub fn put_all(text: &mut [u8], at: usize, bytes: &[u8]) -> usize
 }
 
 // The same, where they are wanted.
-fn put_if(text: &mut [u8], at: usize, wanted: bool, bytes: &[u8]) -> usize
+fn put_all_if(text: &mut [u8], at: usize, wanted: bool, bytes: &[u8]) -> usize
     requires { ⌜ at + length (now bytes) ≤ places ⌝ }
-    ensures { λ r. ⌜ Put (now (text .entry)) at (pick wanted (now (bytes .entry)) []) r (now (text .exit)) ⌝ }
+    ensures { λ r. ⌜ Put (now (text .entry)) at (pick wanted (now (bytes .entry)) []) r (now (text .exit)) × (r ≤ at + length (now (bytes .entry))) ⌝ }
 {
     if wanted {
         return put_all(text, at, bytes);
@@ -105,9 +105,9 @@ fn put_if(text: &mut [u8], at: usize, wanted: bool, bytes: &[u8]) -> usize
 }
 
 // The digit of n at a place of this value, where n reaches that far.
-pub fn put_digit(text: &mut [u8], at: usize, value: u32, n: u32) -> usize
+fn put_digit(text: &mut [u8], at: usize, value: u32, n: u32) -> usize
     requires { ⌜ (0 < value) × (at < places) ⌝ }
-    ensures { λ r. ⌜ Put (now (text .entry)) at (digitAt value n) r (now (text .exit)) ⌝ }
+    ensures { λ r. ⌜ Put (now (text .entry)) at (digitAt value n) r (now (text .exit)) × (r ≤ at + 1) ⌝ }
 {
     if n < value {
         return at;
@@ -116,22 +116,24 @@ pub fn put_digit(text: &mut [u8], at: usize, value: u32, n: u32) -> usize
     at + 1
 }
 
-// A number from 1 on, in decimal.
-fn put_number(text: &mut [u8], at: usize, n: u32) -> usize
-    requires { ⌜ at + 5 ≤ places ⌝ }
-    ensures { λ r. ⌜ Put (now (text .entry)) at (decimal n) r (now (text .exit)) ⌝ }
+// A number of at most six digits, in decimal.
+pub fn put_number(text: &mut [u8], at: usize, n: u32) -> usize
+    requires { ⌜ at + 6 ≤ places ⌝ }
+    ensures { λ r. ⌜ Put (now (text .entry)) at (decimal n) r (now (text .exit)) × (r ≤ at + 6) ⌝ }
 {
-    let a = put_digit(text, at, 10000, n);
-    let b = put_digit(text, a, 1000, n);
-    let c = put_digit(text, b, 100, n);
-    let d = put_digit(text, c, 10, n);
-    put_digit(text, d, 1, n)
+    let a = put_digit(text, at, 100000, n);
+    let b = put_digit(text, a, 10000, n);
+    let c = put_digit(text, b, 1000, n);
+    let d = put_digit(text, c, 100, n);
+    let e = put_digit(text, d, 10, n);
+    put(text, e, (48 + n % 10) as u8);
+    e + 1
 }
 
 // The word of a run in the text, by its activity.
 fn put_name(text: &mut [u8], at: usize, activity: u32) -> usize
     requires { ⌜ at + 7 ≤ places ⌝ }
-    ensures { λ r. ⌜ Put (now (text .entry)) at (runName activity) r (now (text .exit)) ⌝ }
+    ensures { λ r. ⌜ Put (now (text .entry)) at (runName activity) r (now (text .exit)) × (r ≤ at + 7) ⌝ }
 {
     match activity {
         0 => put_all(text, at, b"(rest "),
@@ -146,11 +148,11 @@ fn put_part(text: &mut [u8], at: usize, left: u32, activity: u32, n: u32) -> usi
     requires { ⌜ (at ≤ roomy) × (activity < activities) ⌝ }
     ensures { λ r. ⌜ Put (now (text .entry)) at (textOfLines (partLines left n (wordOf n activity))) r (now (text .exit)) ⌝ }
 {
-    let begun = put_if(text, at, left == recording::WEEK_MINUTES, b"(week\n");
+    let begun = put_all_if(text, at, left == recording::WEEK_MINUTES, b"(week\n");
     let named = put_name(text, begun, activity);
     let timed = put_number(text, named, n);
     let ended = put_all(text, timed, b")\n");
-    put_if(text, ended, left == n, b")\n")
+    put_all_if(text, ended, left == n, b")\n")
 }
 
 // What the week can take after n minutes; the next week's minutes where it is full.
@@ -232,7 +234,7 @@ fn put_recording(words: &[u32], text: &mut [u8]) -> usize
             n -= part;
         }
     }
-    let ended = put_if(text, at, left != recording::WEEK_MINUTES, b")\n");
+    let ended = put_all_if(text, at, left != recording::WEEK_MINUTES, b")\n");
     put_all(text, ended, b")\n")
 }
 

@@ -37,7 +37,7 @@ runName a =
     (pick (eqb a otherWork) (40 ∷ 119 ∷ 111 ∷ 114 ∷ 107 ∷ 32 ∷ [])
     (40 ∷ 100 ∷ 114 ∷ 105 ∷ 118 ∷ 101 ∷ 32 ∷ [])))
 
--- "n decimal from 1 to 10080 without leading zeros": the digit of n at a place of value p, where n reaches that far, and so the places in order
+-- "n decimal .. without leading zeros": the digit of n at a place of value p, where n reaches that far
 abbrev pub digitZero : ℕ
 digitZero = 48
 
@@ -47,8 +47,9 @@ base = 10
 unfoldable pub digitAt : ℕ → ℕ → List ℕ
 digitAt p n = pick (ltb n p) [] ((digitZero + n / p % base) ∷ [])
 
+-- so the places in order, the last of them also for 0; no number that is read or printed has more than six digits
 unfoldable pub decimal : ℕ → List ℕ
-decimal n = digitAt 10000 n ++ digitAt 1000 n ++ digitAt 100 n ++ digitAt 10 n ++ digitAt 1 n
+decimal n = digitAt 100000 n ++ digitAt 10000 n ++ digitAt 1000 n ++ digitAt 100 n ++ digitAt 10 n ++ (digitZero + n % base) ∷ []
 
 abbrev pub runAtMost : ℕ
 runAtMost = 10080

@@ -1,31 +1,16 @@
 -- `desk_report::begin_pass` meets its contract. Assumes nothing.
-use native.Mathlib.Omega.{arith}
 use Rattle.text.proofs.Puts.{put-then}
 use borrow.Author.Needs.{needs}
 use Rattle.desk_report.proofs.begin_pass.Statement.{statement}
 use Rattle.desk_report.proofs.begin_pass.Tie as tie
 
-put-numbered-requires-2 : tie.Need-put-numbered-requires-2
-put-numbered-requires-2 c κs = omega (
-  arith,
-  c .before .before .before .before .before .before .before .before .before .put-all .ensures .next-is,
-  c .before .before .before .before
-      .put-numbered .ensures .1,
-)
-
-put-all-requires-2 : tie.Need-put-all-requires-2
-put-all-requires-2 c κs = omega (
-  arith,
-  c .before .before .before .before .before .before .before .before .before .before .before .before .before .before .put-all .ensures .next-is,
-  c
-      .before .before .before .before .before .before .before .before .before .put-numbered .ensures .1,
-  c .before .before .before .before .put-numbered2 .ensures .1,
-)
-
 returns : tie.Need-returns
-returns c = put-then (put-then (put-then (c .before .before .before .before .before .before .before .before .before .before .before .before .before .before .before .before .before .put-all
-    .ensures) (c .before .before .before .before .before .before .before .before .before .before .before .before .put-numbered .ensures .0))
-    (c .before .before .before .before .before .before .before .put-numbered2 .ensures .0)) (c .before .before .put-all2 .ensures)
+returns c =
+    let ended = c .before .before .before .before .before .before .before in
+    let counted = ended .before .before .before .before .before in
+    let begun = counted .before .before .before .before .before in
+    let three = put-then (put-then (begun .put-all .ensures) (counted .put-numbered .ensures .0)) (ended .put-numbered2 .ensures .0) in
+    put-then three (c .before .before .put-all2 .ensures)
 
 pub begin-pass-spec : {M : Type 1} → statement M
 begin-pass-spec =
@@ -36,8 +21,8 @@ begin-pass-spec =
     (λ c. search needs)
     (λ c κs. search needs)
     (λ c. search needs)
-    put-numbered-requires-2
+    (λ c κs. search needs)
     (λ c. search needs)
-    put-all-requires-2
+    (λ c κs. search needs)
     (λ c. search needs)
     returns)

@@ -5,7 +5,7 @@ use Rattle.desk_report.proofs.put_spaced.Statement.{statement}
 use Rattle.desk_report.proofs.put_spaced.Tie as tie
 
 returns : tie.Need-returns
-returns c = put-then (c .before .before .before .before .before .before .put-all .ensures) (c .before .before .put-number .ensures)
+returns c = (put-then (c .before .before .before .before .before .before .put-all .ensures) (c .before .before .put-number .ensures .0), search needs)
 
 pub put-spaced-spec : {M : Type 1} → statement M
 put-spaced-spec =

@@ -1,19 +1,16 @@
 -- `desk_report::put_span` meets its contract. Assumes nothing.
-use native.Mathlib.Omega.{arith}
 use Rattle.text.proofs.Puts.{put-then}
 use Rattle.desk_report.specs.Printed.{spanText}
-use Rattle.desk_report.proofs.Sizes.{number-short}
 use borrow.Author.Needs.{needs}
 use Rattle.desk_report.proofs.put_span.Statement.{statement}
 use Rattle.desk_report.proofs.put_span.Tie as tie
 
-put-spaced-requires-2 : tie.Need-put-spaced-requires-2
-put-spaced-requires-2 c κs = omega (arith, number-short ((c .before .before .before .before .before .before .before .before .before .before .before) .args .start))
-
 returns : tie.Need-returns
 unfolding spanText
-returns c = put-then (put-then (c .before .before .before .before .before .before .before .before .before .before .put-all .ensures)
-    (c .before .before .before .before .before .before .put-spaced .ensures)) (c .before .before .put-spaced2 .ensures)
+returns c =
+    let begun = c .before .before .before .before .before .before in
+    let named = begun .before .before .before .before in
+    (put-then (put-then (named .put-all .ensures) (begun .put-spaced .ensures .0)) (c .before .before .put-spaced2 .ensures .0), search needs)
 
 pub put-span-spec : {M : Type 1} → statement M
 put-span-spec =
@@ -21,6 +18,6 @@ put-span-spec =
     (tie.spec
     (λ c κs. search needs)
     (λ c κs. search needs)
-    put-spaced-requires-2
+    (λ c κs. search needs)
     (λ c. search needs)
     returns)

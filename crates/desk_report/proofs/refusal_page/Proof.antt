@@ -1,21 +1,14 @@
 -- `desk_report::refusal_page` meets its contract. Assumes nothing.
-use native.Mathlib.Omega.{arith}
 use Rattle.text.proofs.Puts.{put-then}
 use borrow.Author.Needs.{needs}
 use Rattle.desk_report.proofs.refusal_page.Statement.{statement}
 use Rattle.desk_report.proofs.refusal_page.Tie as tie
 
-put-all-requires-2 : tie.Need-put-all-requires-2
-put-all-requires-2 c κs = omega (
-  arith,
-  c .before .before .before .before .before .before .before .before .before .put-all .ensures .next-is,
-  c .before .before .before .before .put-numbered
-      .ensures .1,
-)
-
 returns : tie.Need-returns
-returns c = put-then (put-then (c .before .before .before .before .before .before .before .before .before .before .before .before .put-all .ensures)
-    (c .before .before .before .before .before .before .before .put-numbered .ensures .0)) (c .before .before .put-all2 .ensures)
+returns c =
+    let told = c .before .before .before .before .before .before .before in
+    let begun = told .before .before .before .before .before in
+    put-then (put-then (begun .put-all .ensures) (told .put-numbered .ensures .0)) (c .before .before .put-all2 .ensures)
 
 pub refusal-page-spec : {M : Type 1} → statement M
 refusal-page-spec =
@@ -26,6 +19,6 @@ refusal-page-spec =
     (λ c. search needs)
     (λ c κs. search needs)
     (λ c. search needs)
-    put-all-requires-2
+    (λ c κs. search needs)
     (λ c. search needs)
     returns)

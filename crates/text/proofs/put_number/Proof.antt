@@ -1,73 +1,35 @@
 -- `text::put_number` meets its contract. Assumes nothing.
-use native.Mathlib.Omega.{arith}
+use mathlib.Core.Path.{refl}
 use Rattle.text_lines.specs.Form.{decimal}
-use Rattle.text.proofs.Puts.{put-then, digit-short}
+use Rattle.text.proofs.Puts.{put-then}
 use borrow.Author.Needs.{needs}
 use Rattle.text.proofs.put_number.Statement.{statement}
 use Rattle.text.proofs.put_number.Tie as tie
 
-put-digit-requires-2 : tie.Need-put-digit-requires-2
-put-digit-requires-2 c κs = omega (arith, c .before .before .before .put-digit .ensures .next-is, digit-short 10000 ((c .before .before .before .before .before .before) .args .n))
-
-put-digit-requires-3 : tie.Need-put-digit-requires-3
-put-digit-requires-3 c κs = omega (
-  arith,
-  c .before .before .before .before .before .before .before .put-digit .ensures .next-is,
-  c .before .before .before .put-digit2 .ensures .next-is,
-  digit-short 10000 ((c .before .before .before .before .before .before .before .before .before .before) .args .n),
-  digit-short 1000
-      ((c .before .before .before .before .before .before .before .before .before .before) .args .n),
-)
-
-put-digit-requires-4 : tie.Need-put-digit-requires-4
-put-digit-requires-4 c κs = omega (
-  arith,
-  c .before .before .before .before .before .before .before .before .before .before .before .put-digit .ensures .next-is,
-  c .before .before .before
-      .before .before .before .before .put-digit2 .ensures .next-is,
-  c .before .before .before .put-digit3 .ensures .next-is,
-  digit-short 10000
-      ((c .before .before .before .before .before .before .before .before .before .before .before .before .before .before) .args .n),
-  digit-short 1000
-      ((c .before .before .before .before .before .before .before .before .before .before .before .before .before .before) .args .n),
-  digit-short 100
-      ((c .before .before .before .before .before .before .before .before .before .before .before .before .before .before) .args .n),
-)
-
-put-digit-requires-5 : tie.Need-put-digit-requires-5
-put-digit-requires-5 c κs = omega (
-  arith,
-  c .before .before .before .before .before .before .before .before .before .before .before .before .before .before .before .put-digit .ensures
-      .next-is,
-  c .before .before .before .before .before .before .before .before .before .before .before .put-digit2 .ensures .next-is,
-  c .before .before .before .before .before .before
-      .before .put-digit3 .ensures .next-is,
-  c .before .before .before .put-digit4 .ensures .next-is,
-  digit-short 10000
-      ((c .before .before .before .before .before .before .before .before .before .before .before .before .before .before .before .before .before .before) .args .n),
-  digit-short 1000
-      ((c .before .before .before .before .before .before .before .before .before .before .before .before .before .before .before .before .before .before) .args .n),
-  digit-short 100
-      ((c .before .before .before .before .before .before .before .before .before .before .before .before .before .before .before .before .before .before) .args .n),
-  digit-short 10
-      ((c .before .before .before .before .before .before .before .before .before .before .before .before .before .before .before .before .before .before) .args .n),
-)
-
 returns : tie.Need-returns
 unfolding decimal
-returns c = put-then (put-then (put-then (put-then (c .before .before .before .before .before .before .before .before .before .before .before .before .before .before .before .before .before
-    .before .put-digit .ensures) (c .before .before .before .before .before .before .before .before .before .before .before .before .before .before .put-digit2 .ensures))
-    (c .before .before .before .before .before .before .before .before .before .before .put-digit3 .ensures)) (c .before .before .before .before .before .before .put-digit4 .ensures))
-    (c .before .before .put-digit5 .ensures)
+returns c =
+    let fifth = c .before .before .before .before .before .before in
+    let fourth = fifth .before .before .before .before in
+    let third = fourth .before .before .before .before in
+    let second = third .before .before .before .before in
+    let first = second .before .before .before .before in
+    let three = put-then (put-then (first .put-digit .ensures .0) (second .put-digit2 .ensures .0)) (third .put-digit3 .ensures .0) in
+    let five = put-then (put-then three (fourth .put-digit4 .ensures .0)) (fifth .put-digit5 .ensures .0) in
+    (put-then five (record { next-is = refl; text-is = c .before .before .put .ensures }), search needs)
 
 pub put-number-spec : {M : Type 1} → statement M
 put-number-spec =
     tie.close
     (tie.spec
     (λ c κs. search needs)
-    put-digit-requires-2
-    put-digit-requires-3
-    put-digit-requires-4
-    put-digit-requires-5
+    (λ c κs. search needs)
+    (λ c κs. search needs)
+    (λ c κs. search needs)
+    (λ c κs. search needs)
+    (λ c. search needs)
+    (λ c. search needs)
+    (λ c κs. search needs)
+    (λ c. search needs)
     (λ c. search needs)
     returns)
