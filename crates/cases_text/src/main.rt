@@ -1,5 +1,6 @@
 // Reading and writing on good and damaged texts. What it writes is compared with stdout.
 use recording::Filling;
+ghost use Prim.Native.Nat.{_≤_};
 
 // The two last digits of a number.
 fn say_number(n: u32) {
@@ -111,15 +112,26 @@ fn damaged() {
     read(b"(recording\n(week\n(rest 10079)\n)\n(week\n(rest 1)\n)\n)\n");
 }
 
+// Reads the text of n weeks of rest.
+fn read_weeks(n: usize)
+    requires { ⌜ n ≤ 13 ⌝ }
+{
+    let mut text = [0u8; 286];
+    let mut at = text::put_all(&mut text, 0, b"(recording\n");
+    let mut i = 0;
+    while i < n {
+        at = text::put_all(&mut text, at, b"(week\n(rest 10080)\n)\n");
+        i += 1;
+    }
+    let end = text::put_all(&mut text, at, b")\n");
+    read(&text[0..end]);
+}
+
 // Five run lines, or twelve weeks, and four words lent; then thirteen weeks, which are not of the form.
 fn too_many() {
     read(b"(recording\n(week\n(rest 1)\n(work 1)\n(rest 1)\n(work 1)\n(rest 1)\n)\n)\n");
-    read(
-        b"(recording\n(week\n(rest 10080)\n)\n(week\n(rest 10080)\n)\n(week\n(rest 10080)\n)\n(week\n(rest 10080)\n)\n(week\n(rest 10080)\n)\n(week\n(rest 10080)\n)\n(week\n(rest 10080)\n)\n(week\n(rest 10080)\n)\n(week\n(rest 10080)\n)\n(week\n(rest 10080)\n)\n(week\n(rest 10080)\n)\n(week\n(rest 10080)\n)\n)\n",
-    );
-    read(
-        b"(recording\n(week\n(rest 10080)\n)\n(week\n(rest 10080)\n)\n(week\n(rest 10080)\n)\n(week\n(rest 10080)\n)\n(week\n(rest 10080)\n)\n(week\n(rest 10080)\n)\n(week\n(rest 10080)\n)\n(week\n(rest 10080)\n)\n(week\n(rest 10080)\n)\n(week\n(rest 10080)\n)\n(week\n(rest 10080)\n)\n(week\n(rest 10080)\n)\n(week\n(rest 10080)\n)\n)\n",
-    );
+    read_weeks(12);
+    read_weeks(13);
 }
 
 fn written() {

@@ -20,13 +20,13 @@ use Rattle.recording.specs.declared.Measure.{Measure}
 use Rattle.recording.proofs.Walks.{judged-within}
 use Rattle.recording.proofs.LongRests.{few-rests}
 use Rattle.recording.proofs.Listing.{Measured, measured-is}
-use Rattle.rules.specs.Broken.{unless as unlessBroken}
+use Rattle.rules.specs.Broken.{unless}
 use Rattle.rules.specs.Fixed.{rule1, rule2, rule3, rule4, rule5, firstBroken, fixedTest}
 use Rattle.rules.specs.Reading.{entryBytes, readingSize}
 use Rattle.rules.specs.Verdict.{prefix, firstLawful, breachMinute, articleBy, article, Verdict, verdictBy, verdict}
 use Rattle.rules.specs.Operations.{Outcome, passed, breached, outcomeOf, outcome, fixedTested, readingTested, judged, entryAt}
 use Rattle.rules.proofs.EntryLaws.{first-size}
-use Rattle.text_lines.specs.Reading.{linesIn, wordsOf, isText, unless, textRead}
+use Rattle.text_lines.specs.Reading.{linesIn, wordsOf, isText, textRead}
 use Rattle.text.specs.Writing.{textOfMinutes, textWritten}
 use Rattle.interface.specs.Codes.{answerUnit, judgedUnit, countUnit, articleUnit, codeOf, itself, measureValue, outcomeValue, entryPlace, entryCode, answerIn, measureIn, outcomeIn}
 
@@ -42,10 +42,6 @@ told-then (by-value x) g = g x
 told-if : {A : Type 0} (b : Bool) {n : ℕ} {later : Answer A} → n < answerUnit → Told later → Told (refuseIf b n later)
 told-if true h t = by-number h
 told-if false h t = t
-
-told-unless : {A : Type 0} (b : Bool) {n : ℕ} {later : Answer A} → n < answerUnit → Told later → Told (unless b n later)
-told-unless true h t = t
-told-unless false h t = by-number h
 
 told-counted : {A : Type 0} {a : Answer (List A)} → Told a → Told (counted a)
 told-counted (by-number h) = by-number h
@@ -123,7 +119,7 @@ module _ (ws : List ℕ) where
 
 pub read-text-back : (text : List ℕ) (room : ℕ) → answerIn itself (codeOf itself (counted (textRead text room))) ≡ counted (textRead text room)
 unfolding textRead
-read-text-back text room = count-back (told-counted (told-unless (isText text) (omega arith) (told-if (ltb room (length (wordsOf (linesIn text)))) (omega arith) (by-value _))))
+read-text-back text room = count-back (told-counted (told-if (not (isText text)) (omega arith) (told-if (ltb room (length (wordsOf (linesIn text)))) (omega arith) (by-value _))))
 
 -- ---- the entry of a reading: the three bytes from its place on
 module _ (reading : List ℕ) (number : ℕ) where
@@ -159,7 +155,7 @@ outcome-back (breaching m {a} h) =
     let rule : (answerUnit + articleUnit * m + a - answerUnit) % articleUnit ≡ a = ap (λ v. v % articleUnit) parts ∙ digits-mod m h in
     rw past (λ i. breached (minute i) (rule i))
 
-broken-small : (a b c d e : Bool) → articleBy (unlessBroken a 1 (unlessBroken b 2 (unlessBroken c 3 (unlessBroken d 4 (unlessBroken e 5 0))))) < articleUnit
+broken-small : (a b c d e : Bool) → articleBy (unless a 1 (unless b 2 (unless c 3 (unless d 4 (unless e 5 0))))) < articleUnit
 broken-small false b c d e = omega arith
 broken-small true false c d e = omega arith
 broken-small true true false d e = omega arith

@@ -16,7 +16,7 @@ use Rattle.recording.proofs.WordLaws.{minutes-in, activity-in, minutes-append}
 use Rattle.recording.proofs.TestLaws.{less-or-not}
 use Rattle.text_lines.specs.Form.{runAtMost, sumOf, Runs, Week, Weeks, Allowed}
 use Rattle.text_lines.specs.Form as form
-use Rattle.text.specs.Writing.{joinedTo, joined, weeksWithin, weeksOf}
+use Rattle.text.specs.Writing.{joinedTo, joined, weeksWithin, weeksJoined}
 use Rattle.text.specs.Passes.{EachSome, none, next}
 use Rattle.text.proofs.WeekLines.{one-week, allRuns}
 
@@ -171,8 +171,8 @@ weeks-enough (suc j) (suc k) (a ∷ ms) h l =
     let d : length (drop weekMinutes (a ∷ ms)) ≡ suc (length ms) - weekMinutes = length-drop weekMinutes (a ∷ ms) in
     ap (λ (l : List (List ℕ)). joined (take weekMinutes (a ∷ ms)) ∷ l) (weeks-enough j k (drop weekMinutes (a ∷ ms)) (omega arith) (omega arith))
 
-pub weeks-next : (ms : List ℕ) → 1 ≤ length ms → weeksOf ms ≡ joined (take weekMinutes ms) ∷ weeksOf (drop weekMinutes ms)
-unfolding weeksOf weeksWithin
+pub weeks-next : (ms : List ℕ) → 1 ≤ length ms → weeksJoined ms ≡ joined (take weekMinutes ms) ∷ weeksJoined (drop weekMinutes ms)
+unfolding weeksJoined weeksWithin
 weeks-next [] h = absurd (omega arith)
 weeks-next (a ∷ ms) h =
     let d : length (drop weekMinutes (a ∷ ms)) ≡ suc (length ms) - weekMinutes = length-drop weekMinutes (a ∷ ms) in
@@ -208,8 +208,8 @@ weeks-few (suc k) (a ∷ ms) =
     go (inr x) d i f = omega arith
 
 -- "0 to 12 weeks": the weeks of a recording within the limit are allowed
-pub weeks-allowed : {ms : List ℕ} → Coded ms → length ms ≤ totalAtMost → Allowed (weeksOf ms)
-unfolding weeksOf
+pub weeks-allowed : {ms : List ℕ} → Coded ms → length ms ≤ totalAtMost → Allowed (weeksJoined ms)
+unfolding weeksJoined
 weeks-allowed {ms} c h = record { few = omega (arith, weeks-few (length ms) ms); each = weeks-each (length ms) c }
 
 weeks-minutes : (k : ℕ) {ms : List ℕ} → Coded ms → length ms ≤ k → minutesOf (allRuns (weeksWithin k ms)) ≡ ms
@@ -225,6 +225,6 @@ weeks-minutes (suc k) (minute {a} {ms} l c) h =
     ∙ take-append-drop weekMinutes w
 
 -- the runs of the weeks have the minutes
-pub all-minutes : {ms : List ℕ} → Coded ms → minutesOf (allRuns (weeksOf ms)) ≡ ms
-unfolding weeksOf
+pub all-minutes : {ms : List ℕ} → Coded ms → minutesOf (allRuns (weeksJoined ms)) ≡ ms
+unfolding weeksJoined
 all-minutes {ms} c = weeks-minutes (length ms) c (omega arith)

@@ -15,7 +15,7 @@ use Rattle.recording.specs.Weeks.{weekMinutes}
 use Rattle.recording.specs.Operations.{totalAtMost}
 use Rattle.recording.proofs.TestLaws.{less-or-not}
 use Rattle.text_lines.specs.Form.{lineEnd, recordingLine, weekLine, closingLine, lineText, textOfLines, runsThen, weeksThenEnd}
-use Rattle.text.specs.Writing.{joined, weeksWithin, weeksOf, textOfMinutes}
+use Rattle.text.specs.Writing.{joined, weeksWithin, weeksJoined, textOfMinutes}
 use Rattle.text.specs.Passes.{Put, roomy, InFront, sameWords, sameMinutes, EachSome, none, next, inWeek, linesLeft, partLines, leftAfter}
 use Rattle.text_lines.specs.declared.Line.{Line}
 use Rattle.text_lines.specs.declared.Line.the-variants as line
@@ -26,7 +26,7 @@ use Rattle.text.proofs.Puts.{put-same-length, ended, put-then, part-tex
 use Rattle.text.proofs.Joining.{Coded, no-minute, coded-take, coded-minutes, startsWith, joined-run, weeks-next}
 
 -- ---- a part of a run
-week-begins : (ms : List ℕ) → 1 ≤ length ms → weeksThenEnd (weeksOf ms) ≡ line.Week ∷ inWeek weekMinutes ms
+week-begins : (ms : List ℕ) → 1 ≤ length ms → weeksThenEnd (weeksJoined ms) ≡ line.Week ∷ inWeek weekMinutes ms
 unfolding inWeek weeksThenEnd
 week-begins ms h = rw (weeks-next ms h)
 
@@ -38,7 +38,7 @@ lines-begun : (left : ℕ) (ms : List ℕ) → 1 ≤ length ms → linesLeft lef
 unfolding linesLeft
 lines-begun left ms h = go (eqb left weekMinutes) refl
   where
-    go : (b : Bool) → eqb left weekMinutes ≡ b → pick b (weeksThenEnd (weeksOf ms)) (inWeek left ms) ≡ pick b (line.Week ∷ []) [] ++ inWeek left ms
+    go : (b : Bool) → eqb left weekMinutes ≡ b → pick b (weeksThenEnd (weeksJoined ms)) (inWeek left ms) ≡ pick b (line.Week ∷ []) [] ++ inWeek left ms
     go true e = week-begins ms h ∙ ap (λ (n : ℕ). line.Week ∷ inWeek n ms) (sym (eqb-true left weekMinutes e))
     go false e = refl
 
@@ -60,7 +60,7 @@ module _ (a : ℕ) (code : a < activities) {ms : List ℕ} (c : Coded ms) (s : s
 
   -- the week ends before the run, or with it
   full-part : (left n : ℕ) → 1 ≤ left → left ≤ n
-      → inWeek left (replicate n a ++ ms) ≡ line.Run (wordOf left a) ∷ line.Closing ∷ weeksThenEnd (weeksOf (replicate (n - left) a ++ ms))
+      → inWeek left (replicate n a ++ ms) ≡ line.Run (wordOf left a) ∷ line.Closing ∷ weeksThenEnd (weeksJoined (replicate (n - left) a ++ ms))
   unfolding inWeek runsThen
   full-part left n h l =
       let z : left + (n - left) ≡ n = omega arith in
@@ -165,7 +165,7 @@ unfolding textOfLines lineText linesLeft
 first-text ms = refl
 
 end-text : (left : ℕ) → textOfLines (linesLeft left (minutesOf [])) ≡ pick (not (eqb left weekMinutes)) (ended closingLine) [] ++ ended closingLine
-unfolding textOfLines lineText linesLeft inWeek weeksOf weeksWithin weeksThenEnd runsThen joined minutesOf
+unfolding textOfLines lineText linesLeft inWeek weeksJoined weeksWithin weeksThenEnd runsThen joined minutesOf
 end-text left = rw (take-nil left, drop-nil left) (go (eqb left weekMinutes))
   where
     go : (b : Bool) → textOfLines (pick b (line.Closing ∷ []) (line.Closing ∷ line.Closing ∷ [])) ≡ pick (not b) (ended closingLine) [] ++ ended closingLine

@@ -8,7 +8,7 @@ use Rattle.recording.specs.Words.{wordOf, rest, otherWork, driving}
 use Rattle.recording.specs.Opened.{opened}
 use Rattle.text_lines.specs.Form.{closing, closingLine, runName, digitAt, decimal, lineText, lineEnd, recordingLine, weekLine, textOfLines, runsThen, weeksThenEnd, textOf}
 use Rattle.text_lines.specs.Reading.{same, numberFrom, numberAfter, runOr, lineOf, linesFrom, stageAfter, stageFrom, isText, wordsOf, textRead}
-use Rattle.text.specs.Writing.{joinedTo, joined, weeksWithin, weeksOf, textWritten}
+use Rattle.text.specs.Writing.{joinedTo, joined, weeksWithin, weeksJoined, textWritten}
 
 abbrev r : ℕ → ℕ
 r n = wordOf n rest
@@ -55,7 +55,7 @@ pub record Worked : Type 0 where
 
 pub worked : Worked
 unfolding opened runName digitAt decimal lineText textOfLines runsThen weeksThenEnd same numberFrom numberAfter runOr lineOf linesFrom stageAfter stageFrom isText wordsOf textRead joinedTo
-    joined weeksWithin weeksOf textWritten
+    joined weeksWithin weeksJoined textWritten
 worked = record {
   paper = refl;
   empty = refl;

@@ -15,7 +15,7 @@ use Rattle.recording.specs.declared.Measure.{Measure}
 use Rattle.recording.proofs.Listing.{measured-is}
 use Rattle.text_lines.specs.Form.{OfTheForm}
 use Rattle.text_lines.specs.Reading.{linesIn, isText, wordsOf, textRead}
-use Rattle.text.specs.Writing.{weeksOf, textOfMinutes, textWritten}
+use Rattle.text.specs.Writing.{weeksJoined, textOfMinutes, textWritten}
 use Rattle.text.specs.Passes.{Put, EachSome, none, next, Writable}
 use Rattle.text.proofs.Joining.{coded-minutes, weeks-allowed, all-minutes}
 use Rattle.text.proofs.FormLaws.{form-is-read, words-read, put-in-front}
@@ -71,7 +71,7 @@ module _ (words text : List ℕ) where
 
 -- ---- what is written is of the form
 pub minutes-form : (ws : List ℕ) → length (minutesOf ws) ≤ totalAtMost → OfTheForm (textOfMinutes (minutesOf ws))
-minutes-form ws h = record { weeks = weeksOf (minutesOf ws); allowed = weeks-allowed (coded-minutes ws) h; text-is = refl }
+minutes-form ws h = record { weeks = weeksJoined (minutesOf ws); allowed = weeks-allowed (coded-minutes ws) h; text-is = refl }
 
 module _ (words : List ℕ) {m : Measure} (e : measured words ≡ answered m) where
   pub written-form : OfTheForm (textOfMinutes (minutesOf words))

@@ -16,7 +16,7 @@ use Rattle.text.specs.declared.Ahead.{Ahead}
 use Rattle.text.specs.declared.Judgement.{Judgement}
 use Rattle.text_lines.specs.Form.{runsThen, weeksThenEnd}
 use Rattle.text_lines.specs.Reading.{linesIn, isText, wordsOf}
-use Rattle.text.specs.Writing.{joined, weeksOf}
+use Rattle.text.specs.Writing.{joined, weeksJoined}
 
 -- ---- reading: what the first pass finds
 pub record Judged (text : List ℕ) (r : Judgement) : Type 0 where
@@ -39,10 +39,10 @@ sameMinutes a (w ∷ ws) = pick (eqb (activityIn w) a) (minutesIn w + sameMinute
 
 -- the lines of the minutes that are left where the week can take `left` more: a whole week that is not begun, or the rest of one
 unfoldable pub inWeek : ℕ → List ℕ → List Line
-inWeek left ms = runsThen (joined (take left ms)) (weeksThenEnd (weeksOf (drop left ms)))
+inWeek left ms = runsThen (joined (take left ms)) (weeksThenEnd (weeksJoined (drop left ms)))
 
 unfoldable pub linesLeft : ℕ → List ℕ → List Line
-linesLeft left ms = pick (eqb left weekMinutes) (weeksThenEnd (weeksOf ms)) (inWeek left ms)
+linesLeft left ms = pick (eqb left weekMinutes) (weeksThenEnd (weeksJoined ms)) (inWeek left ms)
 
 -- the lines of a run of n minutes that the week can take, with the week's own lines where it begins or ends there
 unfoldable pub partLines : ℕ → ℕ → ℕ → List Line

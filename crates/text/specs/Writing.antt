@@ -26,11 +26,11 @@ weeksWithin zero ms = []
 weeksWithin (suc n) [] = []
 weeksWithin (suc n) (a ∷ ms) = joined (take weekMinutes (a ∷ ms)) ∷ weeksWithin n (drop weekMinutes (a ∷ ms))
 
-unfoldable pub weeksOf : List ℕ → List (List ℕ)
-weeksOf ms = weeksWithin (length ms) ms
+unfoldable pub weeksJoined : List ℕ → List (List ℕ)
+weeksJoined ms = weeksWithin (length ms) ms
 
 abbrev pub textOfMinutes : List ℕ → List ℕ
-textOfMinutes ms = textOf (weeksOf ms)
+textOfMinutes ms = textOf (weeksJoined ms)
 
 -- "Writing text: 1, 2; then 10, too few bytes. .. Bytes beyond the text stay; the answer is its length." `counted` and `filled` of it are the
 -- result and the `room` bytes.

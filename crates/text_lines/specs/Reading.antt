@@ -1,12 +1,12 @@
 -- Document 01, "Bracket text": the form, said by reading line by line, and what reading a text answers.
 -- Assumes nothing.
-use mathlib.Core.Bool.{Bool, true, false}
+use mathlib.Core.Bool.{Bool, true, false, not}
 use mathlib.Core.List.{List, [], _∷_, _++_}
 use Prim.Native.Nat.{ℕ, _+_, _-_, _*_}
 use lib.Dec.{eqb, leb, ltb}
 use lib.ListN.{length}
 use Rattle.recording.specs.Tests.{_and_, pick}
-use Rattle.recording.specs.Answers.{Answer, refused, answered, refuseIf}
+use Rattle.recording.specs.Answers.{Answer, answered, refuseIf}
 use Rattle.recording.specs.Words.{wordOf, minutesIn, rest, availability, otherWork, driving}
 use Rattle.recording.specs.Weeks.{weekMinutes}
 use Rattle.text_lines.specs.declared.Line.{Line}
@@ -142,9 +142,5 @@ wordsOf (l ∷ ls) = wordsIn l ++ wordsOf ls
 
 -- "Reading text: 8, not of the form below; then 9, fewer words lent than run lines. It writes one word a run line, leaves later words, and gives
 -- their count." `counted` and `filled` of it are the result and the `room` words.
-abbrev pub unless : {A : Type 0} → Bool → ℕ → Answer A → Answer A
-unless true n later = later
-unless false n later = refused n
-
 unfoldable pub textRead : List ℕ → ℕ → Answer (List ℕ)
-textRead text room = unless (isText text) 8 (refuseIf (ltb room (length (wordsOf (linesIn text)))) 9 (answered (wordsOf (linesIn text))))
+textRead text room = refuseIf (not (isText text)) 8 (refuseIf (ltb room (length (wordsOf (linesIn text)))) 9 (answered (wordsOf (linesIn text))))
