@@ -62,7 +62,7 @@ pub text-is : (ws : List ℕ) {k : Measure} {v : Verdict} → measured ws ≡ an
 unfolding verdictText answerText
 text-is ws q e = rw (q, e) refl
 
-text-refused : (ws : List ℕ) {n : ℕ} → measured ws ≡ refused n → verdictText ws ≡ refusalPage n
+pub text-refused : (ws : List ℕ) {n : ℕ} → measured ws ≡ refused n → verdictText ws ≡ refusalPage n
 unfolding verdictText
 text-refused ws q = rw q refl
 

@@ -1,25 +1,29 @@
--- The document's own case, and what is printed for a refusal. Assumes nothing.
-use mathlib.Core.Path.{_≡_, refl, _∙_}
+-- The document's own case, a case of each other form that is printed, and numbers at their edges. Assumes nothing.
+use mathlib.Core.Path.{_≡_, refl, ap, _∙_}
 use mathlib.Core.List.{List, [], _∷_, _++_}
-use Prim.Native.Nat.{ℕ}
+use Prim.Native.Nat.{ℕ, zero, suc}
 use native.Mathlib.Omega.{arith}
 use lib.ListN.{replicate, length-replicate}
+use Rattle.recording.specs.Tests.{keep}
 use Rattle.recording.specs.Answers.{answered}
-use Rattle.recording.specs.Words.{wordOf, rest, otherWork, driving, minutesOf}
-use Rattle.recording.specs.Operations.{measured, measureOf}
+use Rattle.recording.specs.Words.{minutesOf}
+use Rattle.recording.specs.Operations.{faultOf, totalFrom, measured, measureOf}
 use Rattle.recording.specs.Opened as recording
+use Rattle.recording.proofs.ByWord.{endBy, closedBy, judgedEndBy, longRestsBy, judged-by, rests-by, totalBy, total-by}
 use Rattle.rules.specs.Opened as rules
-use Rattle.rules.specs.Verdict.{pass, verdict}
+use Rattle.rules.specs.Verdict.{pass, breach, verdict}
 use Rattle.rules.proofs.Breach.{verdict-pass}
 use Rattle.rules.proofs.OnlyDaily.{allDaily, daily-first}
+use Rattle.rules.proofs.Cases.{Case, passes, Says, AllSay, starred, worked, on-the-edge, d, w, r, times, daily, weekly}
 use Rattle.text_lines.specs.Form.{runName, digitAt, decimal, lineText, textOfLines, runsThen, weeksThenEnd, textOf}
 use Rattle.text_lines.specs.Reading.{same, numberFrom, numberAfter, runOr, lineOf, linesFrom, stageAfter, stageFrom, isText, wordsOf, textRead}
-use Rattle.desk_report.specs.Printed.{asLine, closed, verdictName, minutesName, judgedName, readingName, dailyName, refusedName, numbered, spanText, dailyText, restText}
-use Rattle.desk_report.specs.Printed.{restsText, inputRead, deskText}
-use Rattle.desk_report.proofs.Answered.{text-is, desk-words, desk-over}
+use Rattle.desk_report.specs.Printed.{asLine, closed, verdictName, minutesName, judgedName, readingName, dailyName, weeklyName, breachName, refusedName, numbered, spanText, dailyText}
+use Rattle.desk_report.specs.Printed.{weeklyText, restText, restsText, articleText, breachText, findingText, bracketed, verdictText, inputRead, deskText}
+use Rattle.desk_report.proofs.Answered.{text-is, text-refused, desk-words, desk-over}
 
+-- ---- the document's own case
 abbrev paperWords : List ℕ
-paperWords = wordOf 240 driving ∷ wordOf 660 rest ∷ wordOf 60 otherWork ∷ []
+paperWords = d 240 ∷ r 660 ∷ w 60 ∷ []
 
 -- `(recording`, `(week`, `(drive 240)`, `(rest 660)`, `(work 60)`, `)`, `)`
 abbrev paperText : List ℕ
@@ -29,9 +33,10 @@ paper-read : inputRead paperText ≡ answered paperWords
 unfolding inputRead runName digitAt decimal lineText textOfLines runsThen weeksThenEnd same numberFrom numberAfter runOr lineOf linesFrom stageAfter stageFrom isText wordsOf textRead
 paper-read = refl
 
-paper-measured : measured paperWords ≡ answered (measureOf (minutesOf paperWords))
-unfolding recording.opened
-paper-measured = refl
+-- words that weighing accepts
+weighed : (ws : List ℕ) {n : ℕ} → totalFrom 0 ws ≡ answered n → measured ws ≡ answered (measureOf (minutesOf ws))
+unfolding measured
+weighed ws q = rw q refl
 
 paper-pass : verdict (minutesOf paperWords) ≡ pass (0 ∷ 0 ∷ 0 ∷ [])
 unfolding recording.opened rules.opened
@@ -42,18 +47,93 @@ pub paper-printed : deskText paperText
     ≡ asLine verdictName ++ (minutesName ++ 32 ∷ 57 ∷ 54 ∷ 48 ∷ closed) ++ (judgedName ++ 32 ∷ 57 ∷ 54 ∷ 48 ∷ closed) ++ asLine readingName
     ++ (dailyName ++ 32 ∷ 50 ∷ 52 ∷ 48 ∷ 32 ∷ 57 ∷ 48 ∷ 48 ∷ closed) ++ closed ++ closed
 unfolding recording.opened digitAt decimal numbered spanText dailyText restText restsText
-paper-printed = desk-words paperText paper-read ∙ text-is paperWords paper-measured paper-pass
+paper-printed = desk-words paperText paper-read ∙ text-is paperWords (weighed paperWords refl) paper-pass
 
--- a text of no bytes, and one of 65,537, whatever they are
-pub nothing-printed : deskText [] ≡ asLine verdictName ++ (refusedName ++ 32 ∷ 56 ∷ closed) ++ closed
-unfolding deskText inputRead linesFrom stageFrom isText wordsOf textRead digitAt decimal numbered
-nothing-printed = refl
+-- ---- breaches: the verdicts of the cases "On the edge", by their number from 0
+abbrev caseAt : List Case → ℕ → Case
+caseAt [] i = passes []
+caseAt (c ∷ cs) zero = c
+caseAt (c ∷ cs) (suc i) = caseAt cs i
 
-pub long-printed : (byte : ℕ) → deskText (replicate 65537 byte) ≡ asLine verdictName ++ (refusedName ++ 32 ∷ 57 ∷ closed) ++ closed
-unfolding digitAt decimal numbered
-long-printed byte = desk-over (replicate 65537 byte) (omega (arith, length-replicate 65537 byte))
+say-at : (cs : List Case) → AllSay cs → (i : ℕ) → Says (caseAt cs i)
+say-at [] t i = on-the-edge .0
+say-at (c ∷ cs) t zero = t .0
+say-at (c ∷ cs) t (suc i) = say-at cs (t .1) i
 
--- numbers at their edges
+edge : (i : ℕ) → Says (caseAt (starred ++ worked) i)
+edge = say-at (starred ++ worked) on-the-edge
+
+breach-printed : (ws : List ℕ) {n m a : ℕ} → totalFrom 0 ws ≡ answered n → verdict (minutesOf ws) ≡ breach m a
+    → verdictText ws ≡ bracketed (numbered minutesName (totalBy ws) ++ breachText m a)
+breach-printed ws {n} {m} {a} q e = text-is ws (weighed ws q) e ∙ ap (λ (k : ℕ). bracketed (numbered minutesName k ++ breachText m a)) (total-by ws)
+
+-- ---- a pass with a given reading, word by word
+lines-by : (ws reading : List ℕ) → findingText (minutesOf ws) (pass reading)
+    ≡ numbered judgedName (judgedEndBy ws) ++ asLine readingName ++ restsText (longRestsBy ws) reading ++ closed
+lines-by ws reading = rw (judged-by ws, rests-by ws)
+
+-- `(verdict`, `(minutes N)`, `(breach m a)`, `)`, from the digits of N and m and the bytes of a
+abbrev breachPage : List ℕ → List ℕ → List ℕ → List ℕ
+breachPage total m a = asLine verdictName ++ (minutesName ++ 32 ∷ total ++ closed) ++ (breachName ++ 32 ∷ m ++ 32 ∷ a ++ closed) ++ closed
+
+-- `(verdict`, `(refused n)`, `)`
+abbrev refusedPage : ℕ → List ℕ
+refusedPage digit = asLine verdictName ++ (refusedName ++ 32 ∷ digit ∷ closed) ++ closed
+
+-- a day of 540 minutes of driving
+abbrev day : List ℕ
+day = d 270 ∷ r 45 ∷ d 270 ∷ []
+
+pub record Forms : Type 0 where
+  -- `(minutes 584)`, `(breach 315 7)`
+  article-7 : verdictText (d 135 ∷ r 14 ∷ d 135 ∷ r 30 ∷ d 270 ∷ [])
+      ≡ breachPage (53 ∷ 56 ∷ 52 ∷ []) (51 ∷ 49 ∷ 53 ∷ []) (55 ∷ [])
+  -- `(minutes 691)`, `(breach 691 6.1)`
+  article-6-1 : verdictText (d 270 ∷ r 45 ∷ d 270 ∷ r 45 ∷ d 61 ∷ [])
+      ≡ breachPage (54 ∷ 57 ∷ 49 ∷ []) (54 ∷ 57 ∷ 49 ∷ []) (54 ∷ 46 ∷ 49 ∷ [])
+  -- `(minutes 7231)`, `(breach 7231 6.2)`
+  article-6-2 : verdictText (times 3 (day ++ r 540 ∷ []) (times 3 (day ++ r 660 ∷ []) (d 121 ∷ [])))
+      ≡ breachPage (55 ∷ 50 ∷ 51 ∷ 49 ∷ []) (55 ∷ 50 ∷ 51 ∷ 49 ∷ []) (54 ∷ 46 ∷ 50 ∷ [])
+  -- `(minutes 14086)`, `(breach 14086 6.3)`
+  article-6-3 : verdictText (times 3 (day ++ r 540 ∷ []) (times 2 (day ++ r 660 ∷ []) (day ++ r 3630 ∷ times 3 (day ++ r 540 ∷ []) (day ++ r 45 ∷ d 1 ∷ []))))
+      ≡ breachPage (49 ∷ 52 ∷ 48 ∷ 56 ∷ 54 ∷ []) (49 ∷ 52 ∷ 48 ∷ 56 ∷ 54 ∷ []) (54 ∷ 46 ∷ 51 ∷ [])
+  -- `(minutes 901)`, `(breach 901 8.2)`
+  article-8-2 : verdictText (w 901 ∷ [])
+      ≡ breachPage (57 ∷ 48 ∷ 49 ∷ []) (57 ∷ 48 ∷ 49 ∷ []) (56 ∷ 46 ∷ 50 ∷ [])
+  -- `(minutes 5761)`, `(breach 5761 8)`
+  article-8 : verdictText (times 4 (w 840 ∷ r 600 ∷ []) (w 1 ∷ []))
+      ≡ breachPage (53 ∷ 55 ∷ 54 ∷ 49 ∷ []) (53 ∷ 55 ∷ 54 ∷ 49 ∷ []) (56 ∷ [])
+  -- `(judged 13741)`, `(reading`, `(weekly 6650 10380 0 0)`, `(weekly 10440 11880 1 3)`, `(daily 11940 13740)`, `)`
+  weekly-rests : findingText (minutesOf (w 6650 ∷ r 3730 ∷ w 60 ∷ r 1440 ∷ w 60 ∷ r 1800 ∷ w 1 ∷ [])) (pass (weekly 0 0 (weekly 1 3 (daily 1 []))))
+      ≡ (judgedName ++ 32 ∷ 49 ∷ 51 ∷ 55 ∷ 52 ∷ 49 ∷ closed) ++ asLine readingName
+      ++ (weeklyName ++ 32 ∷ 54 ∷ 54 ∷ 53 ∷ 48 ∷ 32 ∷ 49 ∷ 48 ∷ 51 ∷ 56 ∷ 48 ∷ 32 ∷ 48 ∷ 32 ∷ 48 ∷ closed)
+      ++ (weeklyName ++ 32 ∷ 49 ∷ 48 ∷ 52 ∷ 52 ∷ 48 ∷ 32 ∷ 49 ∷ 49 ∷ 56 ∷ 56 ∷ 48 ∷ 32 ∷ 49 ∷ 32 ∷ 51 ∷ closed)
+      ++ (dailyName ++ 32 ∷ 49 ∷ 49 ∷ 57 ∷ 52 ∷ 48 ∷ 32 ∷ 49 ∷ 51 ∷ 55 ∷ 52 ∷ 48 ∷ closed) ++ closed
+  -- a word of no minutes; a minute too many
+  no-minutes : verdictText (w 60 ∷ r 0 ∷ []) ≡ refusedPage 49
+  too-long : verdictText (r 120960 ∷ w 1 ∷ []) ≡ refusedPage 50
+  -- a text of no bytes, and one of 65,537, whatever they are
+  no-text : deskText [] ≡ refusedPage 56
+  long-text : (byte : ℕ) → deskText (replicate 65537 byte) ≡ refusedPage 57
+
+pub forms : Forms
+unfolding keep endBy closedBy totalBy faultOf totalFrom measured digitAt decimal numbered spanText dailyText weeklyText restText restsText articleText breachText deskText inputRead linesFrom
+    stageFrom isText wordsOf textRead
+forms = record {
+  article-7 = breach-printed _ refl (edge 4);
+  article-6-1 = breach-printed _ refl (edge 20);
+  article-6-2 = breach-printed _ refl (edge 24);
+  article-6-3 = breach-printed _ refl (edge 25);
+  article-8-2 = breach-printed _ refl (edge 8);
+  article-8 = breach-printed _ refl (edge 12);
+  weekly-rests = lines-by _ _;
+  no-minutes = text-refused _ refl;
+  too-long = text-refused _ refl;
+  no-text = refl;
+  long-text = λ byte. desk-over (replicate 65537 byte) (omega (arith, length-replicate 65537 byte));
+}
+
+-- ---- numbers at their edges
 pub record Numbers : Type 0 where
   none : decimal 0 ≡ 48 ∷ []
   nine : decimal 9 ≡ 57 ∷ []
