@@ -209,7 +209,7 @@ module _ (page out : List ℕ) where
   all-there h p = let t = le-ltb (length out) (length page) h in record { answer = rw t refl; content = p .text-is ∙ rw t (put-in-front page out h) }
 
 -- the front of the buffer is the page
-module _ (bytes : List ℕ) (short : length bytes ≤ pageAtMost) {u : List ℕ} {n : ℕ} (p : Put (blank pageAtMost) 0 bytes n u) where
+module _ {bytes : List ℕ} (short : length bytes ≤ pageAtMost) {u : List ℕ} {n : ℕ} (p : Put (blank pageAtMost) 0 bytes n u) where
   pub front-page : take n u ≡ bytes
   front-page =
       let h : length bytes ≤ length (blank pageAtMost) = omega (arith, length-replicate pageAtMost zero) in

@@ -45,40 +45,39 @@ lines-next starts ends reading i h =
     rw (d, e, k, w, v, f, g)
 
 -- where the rest i comes next: what is left, put from here on, makes what the whole makes
-module _ (old : List ℕ) (at : ℕ) (starts ends reading : List ℕ) where
-  pub record Going (out : List ℕ) (next i : ℕ) : Type 0 where
-    pub within : i ≤ length starts
-    pub room : next + lineAtMost * (length starts - i) ≤ roomy
-    pub bytes : sets old at (restsOf starts ends reading) ≡ sets out next (linesOn starts ends reading i)
-    pub place : at + length (restsOf starts ends reading) ≡ next + length (linesOn starts ends reading i)
+pub record Going (old : List ℕ) (at : ℕ) (starts ends reading : List ℕ) (out : List ℕ) (next i : ℕ) : Type 0 where
+  pub within : i ≤ length starts
+  pub room : next + lineAtMost * (length starts - i) ≤ roomy
+  pub bytes : sets old at (restsOf starts ends reading) ≡ sets out next (linesOn starts ends reading i)
+  pub place : at + length (restsOf starts ends reading) ≡ next + length (linesOn starts ends reading i)
 
-  pub going-first : Readable at starts ends reading → Going old at 0
-  going-first r = record { within = omega arith; room = omega (arith, r .room); bytes = refl; place = refl }
+pub going-first : {old : List ℕ} {at : ℕ} {starts ends reading : List ℕ} → Readable at starts ends reading → Going old at starts ends reading old at 0
+going-first r = record { within = omega arith; room = omega (arith, r .room); bytes = refl; place = refl }
 
-  module _ {out : List ℕ} {next i : ℕ} (g : Going out next i) where
-    pub going-on : {out′ : List ℕ} {next′ kind week carrier : ℕ} → i < length starts
-        → kind ≡ getD reading (entryBytes * i) 0 → week ≡ getD reading (entryBytes * i + 1) 0 → carrier ≡ getD reading (entryBytes * i + 2) 0
-        → Put out next (restText (getD starts i 0) (getD ends i 0) kind week carrier) next′ out′ → Going out′ next′ (i + 1)
-    going-on {out′} {next′} {kind} {week} {carrier} h a b c p =
-        let l : List ℕ = restText (getD starts i 0) (getD ends i 0) kind week carrier in
-        let e : linesOn starts ends reading i ≡ l ++ linesOn starts ends reading (i + 1) = rw (a, b, c) (lines-next starts ends reading i h) in
-        let s = rest-short (getD starts i 0) (getD ends i 0) kind week carrier in
-        record {
-          within = omega arith;
-          room = omega (arith, g .room, p .next-is, s);
-          bytes = g .bytes ∙ ap (sets out next) e ∙ sets-append out next l (linesOn starts ends reading (i + 1)) ∙ rw (p .next-is, p .text-is);
-          place = g .place ∙ ap (λ (x : List ℕ). next + length x) e ∙ rw (length-append) (omega (arith, p .next-is));
-        }
+module _ {old : List ℕ} {at : ℕ} {starts ends reading out : List ℕ} {next i : ℕ} (g : Going old at starts ends reading out next i) where
+  pub going-on : {out′ : List ℕ} {next′ kind week carrier : ℕ} → i < length starts
+      → kind ≡ getD reading (entryBytes * i) 0 → week ≡ getD reading (entryBytes * i + 1) 0 → carrier ≡ getD reading (entryBytes * i + 2) 0
+      → Put out next (restText (getD starts i 0) (getD ends i 0) kind week carrier) next′ out′ → Going old at starts ends reading out′ next′ (i + 1)
+  going-on {out′} {next′} {kind} {week} {carrier} h a b c p =
+      let l : List ℕ = restText (getD starts i 0) (getD ends i 0) kind week carrier in
+      let e : linesOn starts ends reading i ≡ l ++ linesOn starts ends reading (i + 1) = rw (a, b, c) (lines-next starts ends reading i h) in
+      let s = rest-short (getD starts i 0) (getD ends i 0) kind week carrier in
+      record {
+        within = omega arith;
+        room = omega (arith, g .room, p .next-is, s);
+        bytes = g .bytes ∙ ap (sets out next) e ∙ sets-append out next l (linesOn starts ends reading (i + 1)) ∙ rw (p .next-is, p .text-is);
+        place = g .place ∙ ap (λ (x : List ℕ). next + length x) e ∙ rw (length-append) (omega (arith, p .next-is));
+      }
 
-    lines-done : length starts ≤ i → linesOn starts ends reading i ≡ []
-    unfolding restsOf
-    lines-done h = let e : i ≡ length starts = omega (arith, g .within) in rw (e, drop-length)
+  lines-done : length starts ≤ i → linesOn starts ends reading i ≡ []
+  unfolding restsOf
+  lines-done h = let e : i ≡ length starts = omega (arith, g .within) in rw (e, drop-length)
 
-    pub going-done : length starts ≤ i → Put old at (restsOf starts ends reading) next out
-    going-done h = record {
-      next-is = omega (arith, g .place, ap length (lines-done h));
-      text-is = sym (g .bytes ∙ ap (sets out next) (lines-done h));
-    }
+  pub going-done : length starts ≤ i → Put old at (restsOf starts ends reading) next out
+  going-done h = record {
+    next-is = omega (arith, g .place, ap length (lines-done h));
+    text-is = sym (g .bytes ∙ ap (sets out next) (lines-done h));
+  }
 
-    pub going-length : length out ≡ length old
-    going-length = put-same-length old out at next (restsOf starts ends reading) (linesOn starts ends reading i) (g .bytes)
+  pub going-length : length out ≡ length old
+  going-length = put-same-length old out at next (restsOf starts ends reading) (linesOn starts ends reading i) (g .bytes)

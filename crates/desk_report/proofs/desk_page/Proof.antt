@@ -9,29 +9,39 @@ use Rattle.desk_report.proofs.desk_page.Statement.{statement}
 use Rattle.desk_report.proofs.desk_page.Tie as tie
 
 returns : tie.Need-returns
-returns c = rw (desk-over ((c .before .before .before .before .before .before .before) .args .text .now) (c .before .before .before .before .if1 .taken)) (c .before .before .refusal-page .ensures)
+returns c = rw (desk-over (c .before .before .before .before .before .before .before .args .text .now) (c .before .before .before .before .if1 .taken)) (c .before .before .refusal-page .ensures)
 
 array-share-prefix-words : tie.Need-array-share-prefix-words
-array-share-prefix-words c = read-words ((c .before .before .before .before .before .before .before .before .before .before) .args .text .now) textWords
-    (c .before .before .before .before .before .before .before .if1 .left) (omega arith) (sym (ap written (c .before .before .answer2 .given .1))
-    ∙ c .before .before .before .before .before .read-text .ensures .0) (c .before .before .before .before .before .read-text .ensures .1) .few
+array-share-prefix-words c =
+    let read = c .before .before .before .before .before in
+    let small = read .before .before in
+    let start = small .before .before .before in
+    read-words (start .args .text .now) textWords (small .if1 .left) (omega arith) (sym (ap written (c .before .before .answer2 .given .1)) ∙ read .read-text .ensures .0)
+    (read .read-text .ensures .1) .few
 
 slice-aggregate-verdict-page : tie.Need-slice-aggregate-verdict-page
-slice-aggregate-verdict-page c = read-words ((c .before .before .before .before .before .before .before .before .before .before .before) .args .text .now) textWords
-    (c .before .before .before .before .before .before .before .before .if1 .left) (omega arith) (sym (ap written (c .before .before .before .answer2 .given .1))
-    ∙ c .before .before .before .before .before .before .read-text .ensures .0) (c .before .before .before .before .before .before .read-text .ensures .1) .size
+slice-aggregate-verdict-page c =
+    let read = c .before .before .before .before .before .before in
+    let small = read .before .before in
+    let start = small .before .before .before in
+    read-words (start .args .text .now) textWords (small .if1 .left) (omega arith) (sym (ap written (c .before .before .before .answer2 .given .1)) ∙ read .read-text .ensures .0)
+    (read .read-text .ensures .1) .size
 
 returns-2 : tie.Need-returns-2
-returns-2 c = rw (read-refused ((c .before .before .before .before .before .before .before .before .before .before .before .before .before) .args .text .now) textWords
-    (c .before .before .before .before .before .before .before .before .before .before .if1 .left) (omega arith) (sym (ap written
-    (c .before .before .before .before .before .answer .given .1)) ∙ c .before .before .before .before .before .before .before .before .read-text .ensures .0))
-    (c .before .before .refusal-page2 .ensures)
+returns-2 c =
+    let read = c .before .before .before .before .before .before .before .before in
+    let small = read .before .before in
+    let start = small .before .before .before in
+    let told = sym (ap written (c .before .before .before .before .before .answer .given .1)) ∙ read .read-text .ensures .0 in
+    rw (read-refused (start .args .text .now) textWords (small .if1 .left) (omega arith) told) (c .before .before .refusal-page2 .ensures)
 
 returns-3 : tie.Need-returns-3
-returns-3 c = rw (read-words ((c .before .before .before .before .before .before .before .before .before .before .before .before .before .before) .args .text .now) textWords
-    (c .before .before .before .before .before .before .before .before .before .before .before .if1 .left) (omega arith) (sym (ap written
-    (c .before .before .before .before .before .before .answer2 .given .1)) ∙ c .before .before .before .before .before .before .before .before .before .read-text .ensures .0)
-    (c .before .before .before .before .before .before .before .before .before .read-text .ensures .1) .text) (c .before .before .verdict-page .ensures)
+returns-3 c =
+    let read = c .before .before .before .before .before .before .before .before .before in
+    let small = read .before .before in
+    let start = small .before .before .before in
+    let told = sym (ap written (c .before .before .before .before .before .before .answer2 .given .1)) ∙ read .read-text .ensures .0 in
+    rw (read-words (start .args .text .now) textWords (small .if1 .left) (omega arith) told (read .read-text .ensures .1) .text) (c .before .before .verdict-page .ensures)
 
 pub desk-page-spec : {M : Type 1} → statement M
 desk-page-spec =

@@ -1,27 +1,25 @@
 -- `desk_report::print_verdict` meets its contract. Assumes nothing.
-use Rattle.desk_report.specs.Printed.{verdictText}
 use Rattle.desk_report.proofs.Answered.{verdict-size, front-size, front-fits, front-short, front-handed}
 use borrow.Author.Needs.{needs}
 use Rattle.desk_report.proofs.print_verdict.Statement.{statement}
 use Rattle.desk_report.proofs.print_verdict.Tie as tie
 
 array-share-prefix-page : tie.Need-array-share-prefix-page
-array-share-prefix-page c = front-fits (verdictText ((c .before .before .before .before .before) .args .words .now)) (verdict-size
-    ((c .before .before .before .before .before) .args .words .now)) (c .before .verdict-page .ensures)
+array-share-prefix-page c = front-fits (verdict-size (c .before .before .before .before .before .args .words .now)) (c .before .verdict-page .ensures)
 
 slice-aggregate-hand-over : tie.Need-slice-aggregate-hand-over
-slice-aggregate-hand-over c = front-size (verdictText ((c .before .before .before .before .before .before) .args .words .now)) (verdict-size
-    ((c .before .before .before .before .before .before) .args .words .now)) (c .before .before .verdict-page .ensures)
+slice-aggregate-hand-over c = front-size (verdict-size (c .before .before .before .before .before .before .args .words .now)) (c .before .before .verdict-page .ensures)
 
 hand-over-requires : tie.Need-hand-over-requires
-hand-over-requires c κs = front-short (verdictText ((c .before .before .before .before .before .before .before) .args .words .now)) (verdict-size
-    ((c .before .before .before .before .before .before .before) .args .words .now)) (c .before .before .before .verdict-page .ensures)
+hand-over-requires c κs = front-short (verdict-size (c .before .before .before .before .before .before .before .args .words .now)) (c .before .before .before .verdict-page .ensures)
 
 returns : tie.Need-returns
-returns c = let k = front-handed (verdictText ((c .before .before .before .before .before .before .before .before .before .before) .args .words .now)) (verdict-size
-    ((c .before .before .before .before .before .before .before .before .before .before) .args .words .now)) (c .before .before .before .before .before .before .verdict-page .ensures)
-    ((c .before .before .before .before .before .before .before .before .before .before) .args .out .now) (c .before .before .hand-over .ensures .0)
-    (c .before .before .hand-over .ensures .1) in (k .answer, k .content)
+returns c =
+    let composed = c .before .before .before .before .before .before in
+    let start = composed .before .before .before .before in
+    let handed = c .before .before .hand-over .ensures in
+    let k = front-handed (verdict-size (start .args .words .now)) (composed .verdict-page .ensures) (start .args .out .now) (handed .0) (handed .1) in
+    (k .answer, k .content)
 
 pub print-verdict-spec : {M : Type 1} → statement M
 print-verdict-spec =

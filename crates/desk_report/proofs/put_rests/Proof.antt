@@ -14,31 +14,24 @@ abbrev μ-loop : tie.MeasureT-loop
 μ-loop out₀ at starts ends reading next₀ i₀ out next i = length starts - i
 
 loop-holds : tie.Need-loop-holds Inv-loop μ-loop
-loop-holds c = going-first ((c .before .before .before .before) .args .out .now) ((c .before .before .before .before) .args .at) ((c .before .before .before .before) .args .starts .now)
-    ((c .before .before .before .before) .args .ends .now) ((c .before .before .before .before) .args .reading .now) ((c .before .before .before .before) .pre)
+loop-holds c = going-first (c .before .before .before .before .pre)
 
 put-rest-requires : tie.Need-put-rest-requires Inv-loop μ-loop
 put-rest-requires c κs = omega (arith, c .before .before .before .before .before .before .before .before .before .before .loop .inv .room)
 
 loop-again : tie.Need-loop-again Inv-loop μ-loop
-loop-again c = going-on ((c .before .before .before .before .before .before .before .before .before .before .before .before .before .before .before .before .before .before) .args .out .now)
-    ((c .before .before .before .before .before .before .before .before .before .before .before .before .before .before .before .before .before .before) .args .at)
-    ((c .before .before .before .before .before .before .before .before .before .before .before .before .before .before .before .before .before .before) .args .starts .now)
-    ((c .before .before .before .before .before .before .before .before .before .before .before .before .before .before .before .before .before .before) .args .ends .now)
-    ((c .before .before .before .before .before .before .before .before .before .before .before .before .before .before .before .before .before .before) .args .reading .now)
-    (c .before .before .before .before .before .before .before .before .before .before .before .before .before .loop .inv) (omega arith)
-    (c .before .before .before .before .before .before .before .before .before .before .wide .ensures) (c .before .before .before .before .before .before .before .before .wide2 .ensures)
-    (c .before .before .before .before .before .before .wide3 .ensures) (c .before .before .put-rest .ensures)
+loop-again c =
+    let carried = c .before .before .before .before .before .before in
+    let counted = carried .before .before in
+    let kind = counted .before .before in
+    let loop = kind .before .before .before in
+    going-on (loop .loop .inv) (omega arith) (kind .wide .ensures) (counted .wide2 .ensures) (carried .wide3 .ensures) (c .before .before .put-rest .ensures)
 
 same-length : tie.Need-same-length Inv-loop μ-loop
-same-length c = going-length ((c .before .before .before .before .before .before) .args .out .now) ((c .before .before .before .before .before .before) .args .at)
-    ((c .before .before .before .before .before .before) .args .starts .now) ((c .before .before .before .before .before .before) .args .ends .now)
-    ((c .before .before .before .before .before .before) .args .reading .now) (c .before .loop .inv)
+same-length c = going-length (c .before .loop .inv)
 
 returns : tie.Need-returns Inv-loop μ-loop
-returns c = going-done ((c .before .before .before .before .before .before) .args .out .now) ((c .before .before .before .before .before .before) .args .at)
-    ((c .before .before .before .before .before .before) .args .starts .now) ((c .before .before .before .before .before .before) .args .ends .now)
-    ((c .before .before .before .before .before .before) .args .reading .now) (c .before .loop .inv) (omega arith)
+returns c = going-done (c .before .loop .inv) (omega arith)
 
 pub put-rests-spec : {M : Type 1} → statement M
 put-rests-spec =
