@@ -179,18 +179,24 @@ weeks-next (a ∷ ms) h =
     ap (λ (l : List (List ℕ)). joined (take weekMinutes (a ∷ ms)) ∷ l)
     (weeks-enough (length ms) (length (drop weekMinutes (a ∷ ms))) (drop weekMinutes (a ∷ ms)) (omega arith) (omega arith))
 
+-- the first week's part of n minutes, which is whole where some are left
+first-part : (n : ℕ) {part : ℕ} → 1 ≤ n → part ≡ min weekMinutes n → (1 ≤ part) × (part ≤ weekMinutes)
+first-part n h p = (omega arith, omega arith)
+
+full-part : (n : ℕ) {part left sum : ℕ} → part ≡ min weekMinutes n → left ≡ n - weekMinutes → 1 ≤ left → sum ≡ part → weekMinutes - sum ≡ 0
+full-part n p l h s = omega arith
+
 weeks-each : (k : ℕ) {ms : List ℕ} → Coded ms → Weeks (weeksWithin k ms)
 unfolding weeksWithin
 weeks-each zero c = form.none
 weeks-each (suc k) no-minute = form.none
 weeks-each (suc k) (minute {a} {ms} h c) =
     let w = a ∷ ms in
-    let t : length (take weekMinutes w) ≡ min weekMinutes (length w) = length-take weekMinutes w in
-    let d : length (drop weekMinutes w) ≡ length w - weekMinutes = length-drop weekMinutes w in
     let e : Coded (take weekMinutes w) = coded-take weekMinutes (minute h c) in
-    let s : sumOf (joined (take weekMinutes w)) ≡ length (take weekMinutes w) = joined-sum e in
-    one-week (weeksWithin k (drop weekMinutes w)) (joined-week e (omega arith) (omega arith)) (weeks-each k (coded-drop weekMinutes (minute h c)))
-    (λ x. omega (arith, weeks-there k (drop weekMinutes w) x))
+    let t = length-take weekMinutes w in
+    let p = first-part (length w) (omega arith) t in
+    one-week (weeksWithin k (drop weekMinutes w)) (joined-week e (p .0) (p .1)) (weeks-each k (coded-drop weekMinutes (minute h c)))
+    (λ x. full-part (length w) t (length-drop weekMinutes w) (weeks-there k (drop weekMinutes w) x) (joined-sum e))
 
 weeks-few : (k : ℕ) (ms : List ℕ) → weekMinutes * length (weeksWithin k ms) < length ms + weekMinutes
 unfolding weeksWithin
