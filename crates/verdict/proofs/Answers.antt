@@ -1,11 +1,11 @@
 -- What the verdict answers at each return. Assumes nothing.
 use mathlib.Core.Path.{_≡_, refl, sym, ap, subst, _∙_}
-use mathlib.Core.Bool.{true, false, not}
+use mathlib.Core.Bool.{Bool, true, false, not}
 use mathlib.Core.List.{List, [], _∷_, _++_}
 use mathlib.Core.Option.{Option, none, some}
 use Prim.Native.Nat.{ℕ, zero, suc, _*_, _≤_, _<_}
 use native.Mathlib.Omega.{arith}
-use lib.ListN.{length, take, drop}
+use lib.ListN.{length, take, drop, take-append-drop}
 use lib.Seq.{length-take-le, take-length}
 use borrow.Author.Tests.{lt-ltb, le-ltb}
 use Rattle.recording.specs.Answers.{Answer, refused, answered, andThen}
@@ -23,7 +23,7 @@ use Rattle.rules.specs.Operations.{judged, Outcome, passed, breached, outcome, 
 use Rattle.rules.proofs.Breach.{first-sound, verdict-pass, some-first}
 use Rattle.verdict_completion.specs.Completable.{Course, Lies}
 use Rattle.verdict_first_reading.specs.First.{Least, restsOnly}
-use Rattle.verdict.specs.Verdicts.{Cut, HasReading, Finding, unbroken, broken, findingOf, found, Whole}
+use Rattle.verdict.specs.Verdicts.{Cut, HasReading, Finding, unbroken, broken, findingOf, found, Whole, WrittenIf}
 use Rattle.verdict.specs.declared.Rests.{Rests}
 use Rattle.verdict.proofs.Lawfulness.{to-has, starts-size, ends-size, nets-size, rests-lie, rests-few, judged-low, whole-there, reading-size, first-least-there}
 
@@ -97,37 +97,37 @@ module _ (ws : List ℕ) where
     whole : prefix (k .total) (minutesOf ws) ≡ minutesOf ws
     whole = ap (λ (n : ℕ). take n (minutesOf ws)) total-is ∙ take-length (minutesOf ws)
 
-    -- the long rests of the whole, as one walk leaves them in three slices
-    module _ {r : Rests} {starts ends nets : List ℕ} (c : Cut ws (k .total) r starts ends nets) where
-      abbrev lentRests : Course
-      lentRests = restsOnly (take (r .count) starts) (take (r .count) ends) (take (r .count) nets) (r .judged)
-
-      pub starts-there : r .count ≡ length (take (r .count) starts)
-      starts-there = starts-size ws (k .total) within c
-
-      pub ends-there : r .count ≡ length (take (r .count) ends)
-      ends-there = ends-size ws (k .total) within c
-
-      pub nets-there : r .count ≡ length (take (r .count) nets)
-      nets-there = nets-size ws (k .total) within c
-
-      pub ruling-there : (length (minutesOf ws) ≤ totalAtMost) × (k .total ≡ length (minutesOf ws)) × Whole (minutesOf ws) (take (r .count) starts) (take (r .count) ends) (take (r .count) nets) r
-      ruling-there = (within, total-is, whole-there ws (k .total) within c total-is)
-
-      pub rests-there : Lies lentRests × (length (take (r .count) starts) ≤ longRestsAtMost) × (r .judged ≤ totalAtMost)
-      rests-there = (rests-lie ws (k .total) within c, rests-few ws (k .total) within c, judged-low ws (k .total) within c)
-
-      pub size-there : {n : ℕ} → n ≡ readingSize (minutesOf ws) → n ≡ entryBytes * length (take (r .count) starts)
-      size-there = reading-size ws (k .total) within c total-is
-
-      pub least-there : {f : List ℕ} → firstLawful (minutesOf ws) ≡ some f → Least lentRests f
-      least-there = first-least-there ws (k .total) within c total-is
-
     found-is : found ws ≡ answered (findingOf (verdict (minutesOf ws)))
     found-is = ap (λ (a : Answer Measure). andThen a (λ _. answered (findingOf (verdict (minutesOf ws))))) q
 
     pub found-told : {f : Finding} → f ≡ findingOf (verdict (minutesOf ws)) → answered f ≡ found ws
     found-told e = ap answered e ∙ sym found-is
+
+-- the long rests of the whole, as one walk leaves them in three slices
+module _ {ws : List ℕ} {k : Measure} {r : Rests} {starts ends nets : List ℕ} (cut : Cut ws (k .total) r starts ends nets) (q : measured ws ≡ answered k) where
+  abbrev lentRests : Course
+  lentRests = restsOnly (take (r .count) starts) (take (r .count) ends) (take (r .count) nets) (r .judged)
+
+  pub starts-there : r .count ≡ length (take (r .count) starts)
+  starts-there = starts-size ws (k .total) (within ws q) cut
+
+  pub ends-there : r .count ≡ length (take (r .count) ends)
+  ends-there = ends-size ws (k .total) (within ws q) cut
+
+  pub nets-there : r .count ≡ length (take (r .count) nets)
+  nets-there = nets-size ws (k .total) (within ws q) cut
+
+  pub ruling-there : (length (minutesOf ws) ≤ totalAtMost) × (k .total ≡ length (minutesOf ws)) × Whole (minutesOf ws) (take (r .count) starts) (take (r .count) ends) (take (r .count) nets) r
+  ruling-there = (within ws q, total-is ws q, whole-there ws (k .total) (within ws q) cut (total-is ws q))
+
+  pub rests-there : Lies lentRests × (length (take (r .count) starts) ≤ longRestsAtMost) × (r .judged ≤ totalAtMost)
+  rests-there = (rests-lie ws (k .total) (within ws q) cut, rests-few ws (k .total) (within ws q) cut, judged-low ws (k .total) (within ws q) cut)
+
+  pub size-there : {n : ℕ} → n ≡ readingSize (minutesOf ws) → n ≡ entryBytes * length (take (r .count) starts)
+  size-there = reading-size ws (k .total) (within ws q) cut (total-is ws q)
+
+  pub least-there : {f : List ℕ} → firstLawful (minutesOf ws) ≡ some f → Least lentRests f
+  least-there = first-least-there ws (k .total) (within ws q) cut (total-is ws q)
 
 -- ---- the verdict and its buffer
 module _ (ws old : List ℕ) where
@@ -152,8 +152,11 @@ module _ (ws old : List ℕ) where
       unfolding judged
       judged-is = rw (q, le-ltb (length old) (entryBytes * k .count) h) refl
 
-      pub told-breach : {m a : ℕ} → broken m a ≡ findingOf (verdict (minutesOf ws)) → Told (answered (breached m a)) old
-      told-breach e = told (judged-is ∙ ap answered (sym (breach-found (verdict (minutesOf ws)) e))) refl refl
+      pub told-breach : {m a : ℕ} {new : List ℕ} → broken m a ≡ findingOf (verdict (minutesOf ws)) → new ≡ take (entryBytes * k .count) old
+          → Told (answered (breached m a)) (new ++ drop (entryBytes * k .count) old)
+      told-breach e left =
+          told (judged-is ∙ ap answered (sym (breach-found (verdict (minutesOf ws)) e))) refl
+          (ap (λ (l : List ℕ). l ++ drop (entryBytes * k .count) old) left ∙ take-append-drop (entryBytes * k .count) old)
 
       size-is : entryBytes * k .count ≡ readingSize (minutesOf ws)
       unfolding readingSize
@@ -174,3 +177,11 @@ module _ (ws old : List ℕ) where
           told (judged-is ∙ ap answered (verdict-pass (minutesOf ws) (f .0) (f .1)))
           (ap (λ (x : ℕ). answered (passed x)) (sym n))
           (ap (λ (l : List ℕ). l ++ drop (entryBytes * k .count) old) (w (f .0) (f .1)) ∙ ap (λ (x : ℕ). f .0 ++ drop x old) (sym n))
+
+-- ---- the reading is written where it is wanted, and only there
+module _ {wanted : Bool} {c : Course} {old new : List ℕ} where
+  pub wrote : wanted ≡ true → ((f : List ℕ) → Least c f → new ≡ f) → WrittenIf wanted c old new
+  wrote t w = record { written = λ _. w; left = λ f. clash wanted t f }
+
+  pub let-be : wanted ≡ false → new ≡ old → WrittenIf wanted c old new
+  let-be f e = record { written = λ t. clash wanted t f; left = λ _. e }

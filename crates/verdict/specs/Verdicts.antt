@@ -21,7 +21,7 @@ use Rattle.rules.specs.Reading.{entryBytes, readingSize}
 use Rattle.rules.specs.ReadingRules.{weeklyGap}
 use Rattle.verdict_completion.specs.Completable.{Course, at, count}
 use Rattle.rules_fixed.specs.Nets.{netsFrom}
-use Rattle.verdict_first_reading.specs.First.{KeptBy, restsOnly}
+use Rattle.verdict_first_reading.specs.First.{KeptBy, Least, restsOnly}
 use Rattle.verdict.specs.declared.Judgement.{Judgement}
 use Rattle.verdict.specs.declared.Judgement.the-variants as judgement
 use Rattle.verdict.specs.declared.Outcome.{Outcome as Told}
@@ -56,6 +56,15 @@ findingBy (judgement.Breached b) = answered (broken (b .minute) (b .article))
 abbrev pub findingIn : Ruling → Finding
 findingIn ruling.Lawful = unbroken
 findingIn (ruling.Unlawful b) = broken (b .minute) (b .article)
+
+abbrev pub isUnbroken : Finding → Bool
+isUnbroken unbroken = true
+isUnbroken (broken m a) = false
+
+-- where it is wanted the first reading of these rests that keeps rules 6 to 11 is written, and only there
+pub record WrittenIf (wanted : Bool) (c : Course) (old new : List ℕ) : Type 0 where
+  pub written : wanted ≡ true → (f : List ℕ) → Least c f → new ≡ f
+  pub left : wanted ≡ false → new ≡ old
 
 -- ---- the long rests of the first m minutes, in three slices, with their count, S, the smallest broken fixed rule and the first breach
 pub record Cut (words : List ℕ) (m : ℕ) (r : Rests) (starts ends nets : List ℕ) : Type 0 where

@@ -6,7 +6,7 @@ use verdict_sweep::Swept;
 ghost use mathlib.Core.Path.{_≡_};
 ghost use mathlib.Core.Bool.{not};
 ghost use mathlib.Core.Option.{some};
-ghost use Prim.Native.Nat.{ℕ, _+_, _≤_, _<_};
+ghost use Prim.Native.Nat.{ℕ, _+_, _*_, _≤_, _<_};
 ghost use lib.ListN.{length};
 ghost use Rattle.recording.specs.Words.{minutesOf};
 ghost use Rattle.recording.specs.Answers.{answered};
@@ -15,10 +15,11 @@ ghost use Rattle.recording.specs.Rests.{longRestsAtMost};
 ghost use Rattle.rules.specs.Verdict.{breachMinute, verdict};
 ghost use Rattle.rules_fixed.specs.Account.{accountFrom, opening};
 ghost use Rattle.rules.specs.Operations.{judged, outcome, readingAfter};
-ghost use Rattle.verdict_completion.specs.Completable.{at, Lies};
+ghost use Rattle.rules.specs.Reading.{entryBytes};
+ghost use Rattle.verdict_completion.specs.Completable.{at, count, Lies};
 ghost use Rattle.verdict_first_reading.specs.First.{restsOnly};
 ghost use Rattle.verdict.specs.Verdicts.{outcomeBy, broken, findingOf, found, findingBy, findingIn, Cut, Some, ByRule, HasReading, Bound, AllRests, Whole, dayStart, DayReadable};
-ghost use Rattle.verdict.specs.Verdicts.{LastDay, DayTop, restsAlone, Sooner, NextDemand, FirstWithout, laterOf, NextActive};
+ghost use Rattle.verdict.specs.Verdicts.{LastDay, DayTop, restsAlone, Sooner, NextDemand, FirstWithout, laterOf, NextActive, isUnbroken, WrittenIf};
 
 // A breach: the length of the shortest stretch without a lawful reading, and its article, 1 to 6.
 pub struct Breach {
@@ -506,6 +507,50 @@ fn ruling_of(
     Ruling::Unlawful(breach)
 }
 
+// Whether a recording has a lawful reading.
+fn passes(ruling: Ruling) -> bool
+    ensures { λ r. ⌜ r ≡ isUnbroken (findingIn ruling) ⌝ }
+{
+    match ruling {
+        Ruling::Lawful => true,
+        Ruling::Unlawful(_) => false,
+    }
+}
+
+// The first reading of the long rests that keeps rules 6 to 11, where it is wanted; else the reading is left as it was.
+fn write_if(
+    wanted: bool,
+    starts: &[u32],
+    ends: &[u32],
+    nets: &[u32],
+    s: u32,
+    reading: &mut [u8],
+    nogoods: &mut [u32],
+    front: &mut [u32],
+    other: &mut [u32],
+    known: &mut [u32],
+    beside: &mut [u32],
+)
+    requires { ⌜ (let c = restsOnly (now starts) (now ends) (now nets) s in
+        Lies c × (count c ≤ longRestsAtMost) × (s ≤ totalAtMost) × (length (now reading) ≡ entryBytes * count c)) ⌝ }
+    ensures { λ _. ⌜ WrittenIf wanted (restsOnly (now (starts .entry)) (now (ends .entry)) (now (nets .entry)) s) (now (reading .entry)) (now (reading .exit)) ⌝ }
+{
+    if wanted {
+        verdict_first_reading::write_first(
+            starts,
+            ends,
+            nets,
+            s,
+            reading,
+            nogoods,
+            front,
+            other,
+            known,
+            beside,
+        );
+    }
+}
+
 // The verdict on a recording with this measure: refusal 4; a pass writes the first lawful reading. The nogoods and the four fronts are room for the
 // search, of any length.
 pub fn verdict_within(
@@ -544,19 +589,21 @@ pub fn verdict_within(
         front,
         other,
     );
+    let pass = passes(ruling);
+    write_if(
+        pass,
+        &starts[..k],
+        &ends[..k],
+        &nets[..k],
+        whole.judged,
+        &mut reading[..size],
+        nogoods,
+        front,
+        other,
+        known,
+        beside,
+    );
     let Ruling::Unlawful(breach) = ruling else {
-        verdict_first_reading::write_first(
-            &starts[..k],
-            &ends[..k],
-            &nets[..k],
-            whole.judged,
-            &mut reading[..size],
-            nogoods,
-            front,
-            other,
-            known,
-            beside,
-        );
         return Outcome::Passed(size as u32);
     };
     Outcome::Breached(breach)

@@ -9,52 +9,60 @@ use Rattle.verdict.proofs.judge.Statement.{statement}
 use Rattle.verdict.proofs.judge.Tie as tie
 
 returns : tie.Need-returns
-returns c = found-refused (now ((c .before .before .before .before .before) .args .words))
-    (refused-there _ (c .before .before .before .weigh .ensures) (c .before .enum-told .given .1) (c .refusal-of .ensures))
+returns c =
+    let start = c .before .before .before .before .before in
+    found-refused (now (start .args .words)) (refused-there _ (c .before .before .before .weigh .ensures) (c .before .enum-told .given .1) (c .refusal-of .ensures))
 
 rests-of-requires : tie.Need-rests-of-requires
-rests-of-requires c κs = (
-  within (now ((c .before .before .before .before .before .before .before .before) .args .words))
-      (measured-there _ (c .before .before .before .before .before .before .weigh .ensures) (c .before .before .before .before .weighing .given .1)),
-  search needs,
-  search needs,
-  search needs,
-)
+rests-of-requires c κs =
+    let at-weigh = c .before .before .before .before .before .before in
+    let start = at-weigh .before .before in
+    (within (now (start .args .words)) (measured-there _ (at-weigh .weigh .ensures) (c .before .before .before .before .weighing .given .1)), search needs, search needs, search needs)
 
 slice-aggregate-ruling-of : tie.Need-slice-aggregate-ruling-of
-slice-aggregate-ruling-of c = starts-there (now ((c .before .before .before .before .before .before .before .before .before .before .before .before .before) .args .words))
-    (measured-there _ (c .before .before .before .before .before .before .before .before .before .before .before .weigh .ensures)
-    (c .before .before .before .before .before .before .before .before .before .weighing .given .1)) (c .before .before .before .before .rests-of .ensures)
+slice-aggregate-ruling-of c =
+    let at-weighing = c .before .before .before .before .before .before .before .before .before in
+    let at-weigh = at-weighing .before .before in
+    starts-there (c .before .before .before .before .rests-of .ensures) (measured-there _ (at-weigh .weigh .ensures) (at-weighing .weighing .given .1))
 
 slice-aggregate-ruling-of-2 : tie.Need-slice-aggregate-ruling-of-2
-slice-aggregate-ruling-of-2 c = ends-there (now ((c .before .before .before .before .before .before .before .before .before .before .before .before .before .before) .args .words))
-    (measured-there _ (c .before .before .before .before .before .before .before .before .before .before .before .before .weigh .ensures)
-    (c .before .before .before .before .before .before .before .before .before .before .weighing .given .1)) (c .before .before .before .before .before .rests-of .ensures)
+slice-aggregate-ruling-of-2 c =
+    let at-rests-of = c .before .before .before .before .before in
+    let at-weighing = at-rests-of .before .before .before .before .before in
+    let at-weigh = at-weighing .before .before in
+    ends-there (at-rests-of .rests-of .ensures) (measured-there _ (at-weigh .weigh .ensures) (at-weighing .weighing .given .1))
 
 slice-aggregate-ruling-of-3 : tie.Need-slice-aggregate-ruling-of-3
-slice-aggregate-ruling-of-3 c = nets-there (now ((c .before .before .before .before .before .before .before .before .before .before .before .before .before .before .before) .args .words))
-    (measured-there _ (c .before .before .before .before .before .before .before .before .before .before .before .before .before .weigh .ensures)
-    (c .before .before .before .before .before .before .before .before .before .before .before .weighing .given .1)) (c .before .before .before .before .before .before .rests-of .ensures)
+slice-aggregate-ruling-of-3 c =
+    let at-rests-of = c .before .before .before .before .before .before in
+    let at-weighing = at-rests-of .before .before .before .before .before in
+    let at-weigh = at-weighing .before .before in
+    nets-there (at-rests-of .rests-of .ensures) (measured-there _ (at-weigh .weigh .ensures) (at-weighing .weighing .given .1))
 
 ruling-of-requires : tie.Need-ruling-of-requires
-ruling-of-requires c κs = ruling-there (now ((c .before .before .before .before .before .before .before .before .before .before .before .before .before .before .before .before .before .before)
-    .args .words)) (measured-there _ (c .before .before .before .before .before .before .before .before .before .before .before .before .before .before .before .before .weigh .ensures)
-    (c .before .before .before .before .before .before .before .before .before .before .before .before .before .before .weighing .given .1))
-    (c .before .before .before .before .before .before .before .before .before .rests-of .ensures)
+ruling-of-requires c κs =
+    let at-rests-of = c .before .before .before .before .before .before .before .before .before in
+    let at-weighing = at-rests-of .before .before .before .before .before in
+    let at-weigh = at-weighing .before .before in
+    ruling-there (at-rests-of .rests-of .ensures) (measured-there _ (at-weigh .weigh .ensures) (at-weighing .weighing .given .1))
 
 returns-2 : tie.Need-returns-2
-returns-2 c = found-told (now ((c .before .before .before .before .before .before .before .before .before .before .before .before .before .before .before .before .before .before .before .before
-    .before .before .before .before) .args .words)) (measured-there _ (c .before .before .before .before .before .before .before .before .before .before .before .before .before .before .before
-    .before .before .before .before .before .before .before .weigh .ensures)
-    (c .before .before .before .before .before .before .before .before .before .before .before .before .before .before .before .before .before .before .before .before .weighing .given .1))
-    (sym (ap findingIn (c .enum-told2 .given .1)) ∙ c .before .before .before .before .before .ruling-of .ensures)
+returns-2 c =
+    let at-ruling-of = c .before .before .before .before .before in
+    let at-weighing = at-ruling-of .before .before .before .before .before .before .before .before .before .before .before .before .before .before .before in
+    let at-weigh = at-weighing .before .before in
+    let start = at-weigh .before .before in
+    let measured = measured-there _ (at-weigh .weigh .ensures) (at-weighing .weighing .given .1) in
+    found-told (now (start .args .words)) measured (sym (ap findingIn (c .enum-told2 .given .1)) ∙ at-ruling-of .ruling-of .ensures)
 
 returns-3 : tie.Need-returns-3
-returns-3 c = found-told (now ((c .before .before .before .before .before .before .before .before .before .before .before .before .before .before .before .before .before .before .before .before
-    .before .before .before .before .before) .args .words)) (measured-there _ (c .before .before .before .before .before .before .before .before .before .before .before .before .before .before
-    .before .before .before .before .before .before .before .before .before .weigh .ensures)
-    (c .before .before .before .before .before .before .before .before .before .before .before .before .before .before .before .before .before .before .before .before .before .weighing .given .1))
-    (sym (ap findingIn (c .before .ruling .given .1)) ∙ c .before .before .before .before .before .before .ruling-of .ensures)
+returns-3 c =
+    let at-ruling-of = c .before .before .before .before .before .before in
+    let at-weighing = at-ruling-of .before .before .before .before .before .before .before .before .before .before .before .before .before .before .before in
+    let at-weigh = at-weighing .before .before in
+    let start = at-weigh .before .before in
+    let measured = measured-there _ (at-weigh .weigh .ensures) (at-weighing .weighing .given .1) in
+    found-told (now (start .args .words)) measured (sym (ap findingIn (c .before .ruling .given .1)) ∙ at-ruling-of .ruling-of .ensures)
 
 pub judge-spec : {M : Type 1} → statement M
 judge-spec =
