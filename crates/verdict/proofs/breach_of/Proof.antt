@@ -7,45 +7,43 @@ use Rattle.verdict.proofs.breach_of.Statement.{statement}
 use Rattle.verdict.proofs.breach_of.Tie as tie
 
 least-without-requires : tie.Need-least-without-requires
-least-without-requires c κs = (
-  (c .before .before .before .before .before .before .before .before .before .before .before .before) .pre .0,
-  (c .before .before .before .before .before .before .before .before .before .before .before .before) .pre .1,
-  least-in-whole
-      (minutesOf (now ((c .before .before .before .before .before .before .before .before .before .before .before .before) .args .words)))
-      ((c .before .before .before .before .before .before .before .before .before .before .before .before) .pre .4)
-      ((c .before .before .before .before .before .before .before .before .before .before .before .before) .pre .3)
-      ((c .before .before .before .before .before .before .before .before .before .before .before .before) .pre .2) (c .before .before .before .if1 .taken),
-)
+least-without-requires c κs =
+    let start = c .before .before .before .before .before .before .before .before .before .before .before .before in (
+      start .pre .0,
+      start .pre .1,
+      least-in-whole (minutesOf (now (start .args .words))) (start .pre .4) (start .pre .3) (start .pre .2) (c .before .before .before .if1 .taken),
+    )
 
 returns : tie.Need-returns
-returns c = breach-whole (minutesOf (now ((c .before .before .before .before .before .before .before .before .before .before .before .before .before .before .before .before .before .before
-    .before) .args .words))) ((c .before .before .before .before .before .before .before .before .before .before .before .before .before .before .before .before .before .before .before) .pre .4)
-    ((c .before .before .before .before .before .before .before .before .before .before .before .before .before .before .before .before .before .before .before) .pre .3)
-    (c .before .before .before .before .before .before .before .before .before .before .if1 .taken) (c .before .before .before .before .before .before .least-without .ensures)
+returns c =
+    let at-least-without = c .before .before .before .before .before .before in
+    let at-if1 = at-least-without .before .before .before .before in
+    let start = at-if1 .before .before .before .before .before .before .before .before .before in
+    breach-whole (minutesOf (now (start .args .words))) (start .pre .4) (start .pre .3) (at-if1 .if1 .taken) (at-least-without .least-without .ensures)
 
 least-without-requires-2 : tie.Need-least-without-requires-2
-least-without-requires-2 c κs = (
-  (c .before .before .before .before .before .before .before .before .before .before .before .before) .pre .0,
-  (c .before .before .before .before .before .before .before .before .before .before .before .before) .pre .1,
-  least-in-fixed
-      (minutesOf (now ((c .before .before .before .before .before .before .before .before .before .before .before .before) .args .words)))
-      ((c .before .before .before .before .before .before .before .before .before .before .before .before) .pre .4)
-      ((c .before .before .before .before .before .before .before .before .before .before .before .before) .pre .3) (c .before .before .before .if1 .left),
-)
+least-without-requires-2 c κs =
+    let start = c .before .before .before .before .before .before .before .before .before .before .before .before in (
+      start .pre .0,
+      start .pre .1,
+      least-in-fixed (minutesOf (now (start .args .words))) (start .pre .4) (start .pre .3) (c .before .before .before .if1 .left),
+    )
 
 returns-2 : tie.Need-returns-2
-returns-2 c = breach-under (minutesOf (now ((c .before .before .before .before .before .before .before .before .before .before .before .before .before .before .before .before .before .before
-    .before .before .before) .args .words))) ((c .before .before .before .before .before .before .before .before .before .before .before .before .before .before .before .before .before .before
-    .before .before .before) .pre .4) ((c .before .before .before .before .before .before .before .before .before .before .before .before .before .before .before .before .before .before .before
-    .before .before) .pre .3) (c .before .before .before .before .before .before .before .before .before .before .before .before .if1 .left)
-    (c .before .before .before .before .before .before .before .before .least-without2 .ensures) (c .if2 .taken)
+returns-2 c =
+    let at-least-without2 = c .before .before .before .before .before .before .before .before in
+    let at-if1 = at-least-without2 .before .before .before .before in
+    let start = at-if1 .before .before .before .before .before .before .before .before .before in
+    breach-under (minutesOf (now (start .args .words))) (start .pre .4) (start .pre .3) (at-if1 .if1 .left)
+    (at-least-without2 .least-without2 .ensures) (c .if2 .taken)
 
 returns-3 : tie.Need-returns-3
-returns-3 c = breach-here (minutesOf (now ((c .before .before .before .before .before .before .before .before .before .before .before .before .before .before .before .before .before .before
-    .before .before .before) .args .words))) ((c .before .before .before .before .before .before .before .before .before .before .before .before .before .before .before .before .before .before
-    .before .before .before) .pre .4) ((c .before .before .before .before .before .before .before .before .before .before .before .before .before .before .before .before .before .before .before
-    .before .before) .pre .3) (c .before .before .before .before .before .before .before .before .before .before .before .before .if1 .left)
-    (c .before .before .before .before .before .before .before .before .least-without2 .ensures) (c .if2 .left)
+returns-3 c =
+    let at-least-without2 = c .before .before .before .before .before .before .before .before in
+    let at-if1 = at-least-without2 .before .before .before .before in
+    let start = at-if1 .before .before .before .before .before .before .before .before .before in
+    breach-here (minutesOf (now (start .args .words))) (start .pre .4) (start .pre .3) (at-if1 .if1 .left)
+    (at-least-without2 .least-without2 .ensures) (c .if2 .left)
 
 pub breach-of-spec : {M : Type 1} → statement M
 breach-of-spec =

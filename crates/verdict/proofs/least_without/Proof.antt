@@ -11,113 +11,83 @@ use Rattle.verdict.proofs.least_without.Statement.{statement}
 use Rattle.verdict.proofs.least_without.Tie as tie
 
 last-day-requires : tie.Need-last-day-requires
-last-day-requires c κs = (
-  all-lie ((c .before .before .before .before .before .before .before .before .before .before) .pre .1)
-      ((c .before .before .before .before .before .before .before .before .before .before) .pre .0),
-  all-few
-      ((c .before .before .before .before .before .before .before .before .before .before) .pre .1) ((c .before .before .before .before .before .before .before .before .before .before) .pre .0),
-  omega (
-    arith,
-    (c .before .before .before .before .before .before .before .before .before .before) .pre .0,
-    (c .before .before .before .before .before .before .before .before .before .before) .pre .2 .within,
-  ),
-  bound-above
-      (minutesOf (now ((c .before .before .before .before .before .before .before .before .before .before) .args .words))) _
-      ((c .before .before .before .before .before .before .before .before .before .before) .pre .2),
-)
+last-day-requires c κs =
+    let start = c .before .before .before .before .before .before .before .before .before .before in (
+      all-lie (start .pre .1) (start .pre .0),
+      all-few (start .pre .1) (start .pre .0),
+      omega (arith, start .pre .0, start .pre .2 .within),
+      bound-above (minutesOf (now (start .args .words))) _ (start .pre .2),
+    )
 
 day-start-requires : tie.Need-day-start-requires
-day-start-requires c κs = (
-  omega (
-    arith,
-    c .before .before .before .before .before .before .last-day .ensures .within,
-    all-lie
-        ((c .before .before .before .before .before .before .before .before .before .before .before .before .before .before .before .before .before) .pre .1)
-        ((c .before .before .before .before .before .before .before .before .before .before .before .before .before .before .before .before .before) .pre .0) .ends-too,
-  ),
-  ends-low
-      (all-lie ((c .before .before .before .before .before .before .before .before .before .before .before .before .before .before .before .before .before) .pre .1)
-      ((c .before .before .before .before .before .before .before .before .before .before .before .before .before .before .before .before .before) .pre .0)),
-)
+day-start-requires c κs =
+    let at-last-day = c .before .before .before .before .before .before in
+    let start = at-last-day .before .before .before .before .before .before .before .before .before .before .before in (
+      omega (arith, at-last-day .last-day .ensures .within, all-lie (start .pre .1) (start .pre .0) .ends-too),
+      ends-low (all-lie (start .pre .1) (start .pre .0)),
+    )
 
 day-top-requires : tie.Need-day-top-requires
-day-top-requires c κs = bound-above (minutesOf (now ((c .before .before .before .before .before .before .before .before .before .before .before .before .before .before .before .before .before
-    .before) .args .words))) _ ((c .before .before .before .before .before .before .before .before .before .before .before .before .before .before .before .before .before .before) .pre .2)
+day-top-requires c κs =
+    let at-last-day = c .before .before .before .before .before .before .before in
+    let start = at-last-day .before .before .before .before .before .before .before .before .before .before .before in
+    bound-above (minutesOf (now (start .args .words))) _ (start .pre .2)
 
 slice-aggregate-first-without : tie.Need-slice-aggregate-first-without
-slice-aggregate-first-without c = first-starts (all-lie ((c .before .before .before .before .before .before .before .before .before .before .before .before .before .before .before .before .before
-    .before .before .before) .pre .1) ((c .before .before .before .before .before .before .before .before .before .before .before .before .before .before .before .before .before .before .before
-    .before) .pre .0)) _ (c .before .before .before .before .before .before .before .before .before .last-day .ensures .within)
+slice-aggregate-first-without c =
+    let at-last-day = c .before .before .before .before .before .before .before .before .before in
+    let start = at-last-day .before .before .before .before .before .before .before .before .before .before .before in
+    first-starts (all-lie (start .pre .1) (start .pre .0)) _ (at-last-day .last-day .ensures .within)
 
 slice-aggregate-first-without-2 : tie.Need-slice-aggregate-first-without-2
-slice-aggregate-first-without-2 c = first-ends (all-lie ((c .before .before .before .before .before .before .before .before .before .before .before .before .before .before .before .before .before
-    .before .before .before .before) .pre .1) ((c .before .before .before .before .before .before .before .before .before .before .before .before .before .before .before .before .before .before
-    .before .before .before) .pre .0)) _ (c .before .before .before .before .before .before .before .before .before .before .last-day .ensures .within)
+slice-aggregate-first-without-2 c =
+    let at-last-day = c .before .before .before .before .before .before .before .before .before .before in
+    let start = at-last-day .before .before .before .before .before .before .before .before .before .before .before in
+    first-ends (all-lie (start .pre .1) (start .pre .0)) _ (at-last-day .last-day .ensures .within)
 
 slice-aggregate-first-without-3 : tie.Need-slice-aggregate-first-without-3
-slice-aggregate-first-without-3 c = first-nets (all-lie ((c .before .before .before .before .before .before .before .before .before .before .before .before .before .before .before .before .before
-    .before .before .before .before .before) .pre .1) ((c .before .before .before .before .before .before .before .before .before .before .before .before .before .before .before .before .before
-    .before .before .before .before .before) .pre .0)) _ (c .before .before .before .before .before .before .before .before .before .before .before .last-day .ensures .within)
+slice-aggregate-first-without-3 c =
+    let at-last-day = c .before .before .before .before .before .before .before .before .before .before .before in
+    let start = at-last-day .before .before .before .before .before .before .before .before .before .before .before in
+    first-nets (all-lie (start .pre .1) (start .pre .0)) _ (at-last-day .last-day .ensures .within)
 
 first-without-requires : tie.Need-first-without-requires
-first-without-requires c κs = (
-  lies-first (all-lie ((c .before .before .before .before .before .before .before .before .before .before .before .before .before .before .before .before .before
-      .before .before .before .before .before .before .before .before) .pre .1)
-      ((c .before .before .before .before .before .before .before .before .before .before .before .before .before .before .before .before .before .before .before .before .before .before .before
-      .before .before) .pre .0)) _ (c .before .before .before .before .before .before .before .before .before .before .before .before .before .before .last-day .ensures .within) _
-      (omega (arith, c .before .before .before .before .before .before .before .day-start .ensures)),
-  omega (
-    arith,
-    first-starts (all-lie ((c .before .before .before .before .before .before .before .before .before .before .before .before .before .before .before .before .before .before .before
-        .before .before .before .before .before .before) .pre .1) ((c .before .before .before .before .before .before .before .before .before .before .before .before .before .before .before .before
-        .before .before .before .before .before .before .before .before .before) .pre .0)) _
-        (c .before .before .before .before .before .before .before .before .before .before .before .before .before .before .last-day .ensures .within),
-    c .before .before .before .before .before .before .before .before .before .before .before .before .before .before .last-day .ensures .within,
-    all-few
-        ((c .before .before .before .before .before .before .before .before .before .before .before .before .before .before .before .before .before .before .before .before .before .before .before
-        .before .before) .pre .1) ((c .before .before .before .before .before .before .before .before .before .before .before .before .before .before .before .before .before .before .before .before
-        .before .before .before .before .before) .pre .0),
-  ),
-  omega (
-    arith,
-    c .before .before .before .before .before .before .before .day-start .ensures,
-    from-low ((c .before .before .before .before
-        .before .before .before .before .before .before .before .before .before .before .before .before .before .before .before .before .before .before .before .before .before) .pre .1)
-        (c .before .before .before .before .before .before .before .before .before .before .before .before .before .before .last-day .ensures)
-        (c .before .before .before .before .before .before .day-top .ensures),
-  ),
-  omega (
-    arith,
-    c .before .before .before .before .before .before .day-top .ensures .below,
-    (c .before .before .before .before .before .before .before .before .before .before .before .before .before .before .before .before .before .before .before .before .before .before .before
-        .before .before) .pre .2 .within,
-    (c .before .before .before .before .before .before .before .before .before .before .before .before .before .before .before .before .before .before .before
-        .before .before .before .before .before .before) .pre .0,
-  ),
-)
+first-without-requires c κs =
+    let at-day-top = c .before .before .before .before .before .before in
+    let at-day-start = at-day-top .before in
+    let at-last-day = at-day-start .before .before .before .before .before .before .before in
+    let start = at-last-day .before .before .before .before .before .before .before .before .before .before .before in (
+      lies-first (all-lie (start .pre .1) (start .pre .0)) _ (at-last-day .last-day .ensures .within) _ (omega (arith, at-day-start .day-start .ensures)),
+      omega (
+        arith,
+        first-starts (all-lie (start .pre .1) (start .pre .0)) _ (at-last-day .last-day .ensures .within),
+        at-last-day .last-day .ensures .within,
+        all-few (start .pre .1) (start .pre .0),
+      ),
+      omega (arith, at-day-start .day-start .ensures, from-low (start .pre .1) (at-last-day .last-day .ensures) (at-day-top .day-top .ensures)),
+      omega (arith, at-day-top .day-top .ensures .below, start .pre .2 .within, start .pre .0),
+    )
 
 next-active-requires : tie.Need-next-active-requires
-next-active-requires c κs = (
-  (c .before .before .before .before .before .before .before .before .before .before .before .before .before .before .before .before .before .before .before .before
-      .before .before .before .before .before .before .before .before .before .before .before .before) .pre .0,
-  omega (
-    arith,
-    c .before .before .before .before .before .before .first-without .ensures .within,
-    c .before .before .before .before .before .before .before .before .before .before .before .before .before .day-top .ensures .below,
-  ),
-  (c .before .before .before .before .before .before .before .before .before .before .before .before .before .before .before .before .before .before .before .before .before .before .before
-      .before .before .before .before .before .before .before .before .before) .pre .2 .within,
-)
+next-active-requires c κs =
+    let at-first-without = c .before .before .before .before .before .before in
+    let at-day-top = at-first-without .before .before .before .before .before .before .before in
+    let at-last-day = at-day-top .before .before .before .before .before .before .before .before in
+    let start = at-last-day .before .before .before .before .before .before .before .before .before .before .before in (
+      start .pre .0,
+      omega (arith, at-first-without .first-without .ensures .within, at-day-top .day-top .ensures .below),
+      start .pre .2 .within,
+    )
 
 returns : tie.Need-returns
-returns c = least-found ((c .before .before .before .before .before .before .before .before .before .before .before .before .before .before .before .before .before .before .before .before .before
-    .before .before .before .before .before .before .before .before .before .before .before .before) .pre .1)
-    ((c .before .before .before .before .before .before .before .before .before .before .before .before .before .before .before .before .before .before .before .before .before .before .before
-    .before .before .before .before .before .before .before .before .before .before) .pre .2)
-    (c .before .before .before .before .before .before .before .before .before .before .before .before .before .before .before .before .before .before .before .before .before .before .last-day
-    .ensures) (c .before .before .before .before .before .before .before .before .before .before .before .before .before .before .before .day-start .ensures)
-    (c .before .before .before .before .before .before .before .before .before .before .before .before .before .before .day-top .ensures)
-    (c .before .before .before .before .before .before .before .first-without .ensures) (c .next-active .ensures)
+returns c =
+    let at-first-without = c .before .before .before .before .before .before .before in
+    let at-day-top = at-first-without .before .before .before .before .before .before .before in
+    let at-day-start = at-day-top .before in
+    let at-last-day = at-day-start .before .before .before .before .before .before .before in
+    let start = at-last-day .before .before .before .before .before .before .before .before .before .before .before in
+    least-found (start .pre .1) (start .pre .2) (at-last-day .last-day .ensures) (at-day-start .day-start .ensures) (at-day-top .day-top .ensures)
+    (at-first-without .first-without .ensures) (c .next-active .ensures)
 
 pub least-without-spec : {M : Type 1} → statement M
 least-without-spec =

@@ -9,35 +9,33 @@ use Rattle.verdict.proofs.ruling_of.Statement.{statement}
 use Rattle.verdict.proofs.ruling_of.Tie as tie
 
 lawful-by-requires : tie.Need-lawful-by-requires
-lawful-by-requires c κs = let r = whole-rests ((c .before .before .before .before .before .before .before .before .before .before) .pre .2)
-    ((c .before .before .before .before .before .before .before .before .before .before) .pre .0) in (r .0, r .1, r .2)
+lawful-by-requires c κs =
+    let start = c .before .before .before .before .before .before .before .before .before .before in
+    let r = whole-rests (start .pre .2) (start .pre .0) in
+    (r .0, r .1, r .2)
 
 returns : tie.Need-returns
-returns c = lawful-found _ (sym (c .if1 .taken) ∙ whole-lawful
-    ((c .before .before .before .before .before .before .before .before .before .before .before .before .before .before .before .before .before .before) .pre .2)
-    ((c .before .before .before .before .before .before .before .before .before .before .before .before .before .before .before .before .before .before) .pre .0)
-    (c .before .before .before .before .before .before .before .lawful-by .ensures))
+returns c =
+    let at-lawful-by = c .before .before .before .before .before .before .before in
+    let start = at-lawful-by .before .before .before .before .before .before .before .before .before .before .before in
+    lawful-found _ (sym (c .if1 .taken) ∙ whole-lawful (start .pre .2) (start .pre .0) (at-lawful-by .lawful-by .ensures))
 
 breach-of-requires : tie.Need-breach-of-requires
-breach-of-requires c κs = (
-  (c .before .before .before .before .before .before .before .before .before .before .before .before .before .before .before .before .before .before .before .before
-      .before .before) .pre .0,
-  (c .before .before .before .before .before .before .before .before .before .before .before .before .before .before .before .before .before .before .before .before
-      .before .before) .pre .2 .rests,
-  (c .before .before .before .before .before .before .before .before .before .before .before .before .before .before .before .before .before .before .before
-      .before .before .before) .pre .1,
-  (c .before .before .before .before .before .before .before .before .before .before .before .before .before .before .before .before .before .before .before
-      .before .before .before) .pre .2 .first,
-  none-is (minutesOf (now ((c .before .before .before .before .before .before .before .before .before .before .before .before .before .before .before
-      .before .before .before .before .before .before .before) .args .words)))
-      (sym (c .before .before .before .before .if1 .left) ∙ whole-lawful
-      ((c .before .before .before .before .before .before .before .before .before .before .before .before .before .before .before .before .before .before .before .before .before .before) .pre .2)
-      ((c .before .before .before .before .before .before .before .before .before .before .before .before .before .before .before .before .before .before .before .before .before .before) .pre .0)
-      (c .before .before .before .before .before .before .before .before .before .before .before .lawful-by .ensures)),
-)
+breach-of-requires c κs =
+    let at-lawful-by = c .before .before .before .before .before .before .before .before .before .before .before in
+    let start = at-lawful-by .before .before .before .before .before .before .before .before .before .before .before in (
+      start .pre .0,
+      start .pre .2 .rests,
+      start .pre .1,
+      start .pre .2 .first,
+      none-is (minutesOf (now (start .args .words))) (sym (c .before .before .before .before .if1 .left) ∙ whole-lawful (start .pre .2) (start .pre .0)
+          (at-lawful-by .lawful-by .ensures)),
+    )
 
 returns-2 : tie.Need-returns-2
-returns-2 c = c .before .before .before .before .before .before .breach-of .ensures
+returns-2 c =
+    let at-breach-of = c .before .before .before .before .before .before in
+    at-breach-of .breach-of .ensures
 
 pub ruling-of-spec : {M : Type 1} → statement M
 ruling-of-spec =
