@@ -19,28 +19,34 @@ loop-holds c = (omega arith, form-start _ _ _ _)
 
 item-at-requires : tie.Need-item-at-requires Inv-loop μ-loop
 item-at-requires c κs =
-    let l = (c .before .before .before .before .before .before .before) .pre .0 in
+    let start = c .before .before .before .before .before .before .before in
+    let l = start .pre .0 in
     (omega (arith, l .few), omega (arith, l .starts-in), omega (arith, l .ends-in), omega (arith, l .nets-in), omega (arith, l .reading-in), omega (arith, l .loads-in))
 
 cast-formed-item : tie.Need-cast-formed-item Inv-loop μ-loop
-cast-formed-item c = omega (arith, (c .before .before .before .before .before .before .before .before) .pre .0 .few)
+cast-formed-item c =
+    let start = c .before .before .before .before .before .before .before .before in
+    omega (arith, start .pre .0 .few)
 
 formed-item-requires : tie.Need-formed-item-requires Inv-loop μ-loop
 formed-item-requires c κs =
-    let p = (c .before .before .before .before .before .before .before .before) .pre in
+    let start = c .before .before .before .before .before .before .before .before in
+    let p = start .pre in
     let l = c .before .before .loop .i in
     rw (c .item-at .ensures) (sane-item _ _ _ _ _ _ _ (p .0) (λ j. omega (arith, c .before .before .before .before .shared-slice-known4 .given j)) (omega arith) (omega (arith, p .1 l)))
 
 returns : tie.Need-returns Inv-loop μ-loop
 returns c =
-    let a = (c .before .before .before .before .before .before .before .before .before .before) .args in
+    let start = c .before .before .before .before .before .before .before .before .before .before in
+    let a = start .args in
     let f = c .before .before .before .before .loop .inv .1 in
     let e = c .before .before .item-at .ensures in
     form-broken _ _ _ _ f (a .nets .now) (a .loads .now) (omega arith) (sym (rw e at (c .before .formed-item .ensures)) ∙ not-true _ (c .if1 .taken))
 
 loop-again : tie.Need-loop-again Inv-loop μ-loop
 loop-again c =
-    let a = (c .before .before .before .before .before .before .before .before .before .before) .args in
+    let start = c .before .before .before .before .before .before .before .before .before .before in
+    let a = start .args in
     let f = c .before .before .before .before .loop .inv .1 in
     let e = c .before .before .item-at .ensures in
     (omega arith, form-on _ _ _ _ f (a .nets .now) (a .loads .now) (omega arith) (sym (rw e at (c .before .formed-item .ensures)) ∙ not-false _ (c .if1 .left)))

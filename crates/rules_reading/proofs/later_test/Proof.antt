@@ -8,61 +8,88 @@ use Rattle.rules_reading.proofs.later_test.Statement.{statement}
 use Rattle.rules_reading.proofs.later_test.Tie as tie
 
 form-test-requires : tie.Need-form-test-requires
-form-test-requires c κs = ((c .before .before .before .before .before) .pre .0, zeros-at longRestsAtMost)
+form-test-requires c κs =
+    let start = c .before .before .before .before .before in
+    (start .pre .0, zeros-at longRestsAtMost)
 
 returns : tie.Need-returns
 returns c = later-six _ _ _ _ _ (sym (not-true _ (c .if1 .taken)) ∙ c .before .form-test .ensures)
 
 rest-walk-requires : tie.Need-rest-walk-requires
-rest-walk-requires c κs = ((c .before .before .before .before .before .before .before .before .before .before) .pre .0, zeros-at longRestsAtMost, zeros-at 256, zeros-at 256, refl, refl)
+rest-walk-requires c κs =
+    let start = c .before .before .before .before .before .before .before .before .before .before in
+    (start .pre .0, zeros-at longRestsAtMost, zeros-at 256, zeros-at 256, refl, refl)
 
 returns-2 : tie.Need-returns-2
 returns-2 c =
-    let n = not-false _ (c .before .before .before .before .before .before .before .before .before .if1 .left) in
-    let f = c .before .before .before .before .before .before .before .before .before .before .form-test .ensures in
-    let w = c .before .before .before .before .before .rest-walk .ensures in
+    let at-rest-walk = c .before .before .before .before .before in
+    let at-if1 = at-rest-walk .before .before .before .before in
+    let at-form-test = at-if1 .before in
+    let n = not-false _ (at-if1 .if1 .left) in
+    let f = at-form-test .form-test .ensures in
+    let w = at-rest-walk .rest-walk .ensures in
     later-seven _ _ _ _ _ (sym n ∙ f) (rw (c .enum-told .given .1) at w)
 
 gap-rule-requires : tie.Need-gap-rule-requires
-gap-rule-requires c κs = (rw (c .before .t .given .1) at (c .before .before .before .before .before .before .rest-walk .ensures)) .last
+gap-rule-requires c κs =
+    let at-rest-walk = c .before .before .before .before .before .before in
+    (rw (c .before .t .given .1) at (at-rest-walk .rest-walk .ensures)) .last
 
 returns-3 : tie.Need-returns-3
 returns-3 c =
-    let n = not-false _ (c .before .before .before .before .before .before .before .before .before .before .before .before .before .if1 .left) in
-    let f = c .before .before .before .before .before .before .before .before .before .before .before .before .before .before .form-test .ensures in
-    let w = c .before .before .before .before .before .before .before .before .before .rest-walk .ensures in
+    let at-rest-walk = c .before .before .before .before .before .before .before .before .before in
+    let at-if1 = at-rest-walk .before .before .before .before in
+    let at-form-test = at-if1 .before in
+    let n = not-false _ (at-if1 .if1 .left) in
+    let f = at-form-test .form-test .ensures in
+    let w = at-rest-walk .rest-walk .ensures in
     let h = rw (c .before .before .before .before .t .given .1) at w in
     later-broken _ _ _ _ _ (sym n ∙ f) h (c .before .before .gap-rule .ensures) (c .before .smaller-of .ensures) (c .if2 .taken)
 
 pairs-test-requires : tie.Need-pairs-test-requires
 pairs-test-requires c κs =
-    let p = (c .before .before .before .before .before .before .before .before .before .before .before .before .before .before .before .before .before .before .before .before .before .before) .pre in
-    let w = c .before .before .before .before .before .before .before .before .before .before .before .rest-walk .ensures in
-    let h = rw (c .before .before .before .before .before .before .t .given .1) at w in
+    let at-t = c .before .before .before .before .before .before in
+    let at-rest-walk = at-t .before .before .before .before .before in
+    let start = at-rest-walk .before .before .before .before .before .before .before .before .before .before .before in
+    let p = start .pre in
+    let w = at-rest-walk .rest-walk .ensures in
+    let h = rw (at-t .t .given .1) at w in
     (p .0 .starts-in, p .0 .ends-in, p .1, h .weekly-size, h .regular-size, h .few-weeklies, h .few-regulars)
 
 returns-4 : tie.Need-returns-4
 returns-4 c =
-    let z = c .before .before .before .before .before .before .before .before .before .before .before .before in
-    let p = (z .before .before .before .before .before .before .before .before .before .before .before .before) .pre in
-    let n = not-false _ (c .before .before .before .before .before .before .before .before .before .before .before .before .before .before .before .before .before .if1 .left) in
-    let f = c .before .before .before .before .before .before .before .before .before .before .before .before .before .before .before .before .before .before .form-test .ensures in
-    let w = c .before .before .before .before .before .before .before .before .before .before .before .before .before .rest-walk .ensures in
-    let h = rw (c .before .before .before .before .before .before .before .before .t .given .1) at w in
-    let g = c .before .before .before .before .before .before .gap-rule .ensures in
-    let m = c .before .before .before .before .before .smaller-of .ensures in
+    let at-smaller-of = c .before .before .before .before .before in
+    let at-gap-rule = at-smaller-of .before in
+    let at-t = at-gap-rule .before .before in
+    let at-rest-walk = at-t .before .before .before .before .before in
+    let at-if1 = at-rest-walk .before .before .before .before in
+    let at-form-test = at-if1 .before in
+    let start = at-form-test .before .before .before .before .before .before in
+    let p = start .pre in
+    let n = not-false _ (at-if1 .if1 .left) in
+    let f = at-form-test .form-test .ensures in
+    let w = at-rest-walk .rest-walk .ensures in
+    let h = rw (at-t .t .given .1) at w in
+    let g = at-gap-rule .gap-rule .ensures in
+    let m = at-smaller-of .smaller-of .ensures in
     rw (c .if3 .taken) at (later-last _ _ _ _ _ (sym n ∙ f) h g m (c .before .before .before .before .if2 .left) (p .1) (c .before .pairs-test .ensures))
 
 returns-5 : tie.Need-returns-5
 returns-5 c =
-    let z = c .before .before .before .before .before .before .before .before .before .before .before .before in
-    let p = (z .before .before .before .before .before .before .before .before .before .before .before .before) .pre in
-    let n = not-false _ (c .before .before .before .before .before .before .before .before .before .before .before .before .before .before .before .before .before .if1 .left) in
-    let f = c .before .before .before .before .before .before .before .before .before .before .before .before .before .before .before .before .before .before .form-test .ensures in
-    let w = c .before .before .before .before .before .before .before .before .before .before .before .before .before .rest-walk .ensures in
-    let h = rw (c .before .before .before .before .before .before .before .before .t .given .1) at w in
-    let g = c .before .before .before .before .before .before .gap-rule .ensures in
-    let m = c .before .before .before .before .before .smaller-of .ensures in
+    let at-smaller-of = c .before .before .before .before .before in
+    let at-gap-rule = at-smaller-of .before in
+    let at-t = at-gap-rule .before .before in
+    let at-rest-walk = at-t .before .before .before .before .before in
+    let at-if1 = at-rest-walk .before .before .before .before in
+    let at-form-test = at-if1 .before in
+    let start = at-form-test .before .before .before .before .before .before in
+    let p = start .pre in
+    let n = not-false _ (at-if1 .if1 .left) in
+    let f = at-form-test .form-test .ensures in
+    let w = at-rest-walk .rest-walk .ensures in
+    let h = rw (at-t .t .given .1) at w in
+    let g = at-gap-rule .gap-rule .ensures in
+    let m = at-smaller-of .smaller-of .ensures in
     rw (c .if3 .left) at (later-last _ _ _ _ _ (sym n ∙ f) h g m (c .before .before .before .before .if2 .left) (p .1) (c .before .pairs-test .ensures))
 
 pub later-test-spec : {M : Type 1} → statement M

@@ -9,35 +9,52 @@ returns : tie.Need-returns
 returns c = test-refused _ _ (refused-there _ (c .before .before .before .weigh .ensures) (c .before .enum-told .given .1) (c .refusal-of .ensures))
 
 returns-2 : tie.Need-returns-2
-returns-2 c = test-sized _ _ (measured-there _ (c .before .before .before .before .before .weigh .ensures) (c .before .before .before .weighing .given .1)) (c .if1 .taken)
+returns-2 c =
+    let at-weigh = c .before .before .before .before .before in
+    test-sized _ _ (measured-there _ (at-weigh .weigh .ensures) (c .before .before .before .weighing .given .1)) (c .if1 .taken)
 
 survey-of-requires : tie.Need-survey-of-requires
 survey-of-requires c κs =
-    let w = c .before .before .before .before .before .before .before .before .weigh .ensures in
-    let q = measured-there _ w (c .before .before .before .before .before .before .weighing .given .1) in
+    let at-weighing = c .before .before .before .before .before .before in
+    let at-weigh = at-weighing .before .before in
+    let w = at-weigh .weigh .ensures in
+    let q = measured-there _ w (at-weighing .weighing .given .1) in
     measured-is _ q .within
 
 returns-3 : tie.Need-returns-3
 returns-3 c =
-    let w = c .before .before .before .before .before .before .before .before .before .before .before .before .before .before .weigh .ensures in
-    let q = measured-there _ w (c .before .before .before .before .before .before .before .before .before .before .before .before .weighing .given .1) in
-    let v = c .before .before .before .before .before .survey-of .ensures in
-    test-fixed _ _ q v (c .before .before .before .before .before .before .before .before .before .if1 .left) (c .if2 .taken)
+    let at-survey-of = c .before .before .before .before .before in
+    let at-if1 = at-survey-of .before .before .before .before in
+    let at-weighing = at-if1 .before .before .before in
+    let at-weigh = at-weighing .before .before in
+    let w = at-weigh .weigh .ensures in
+    let q = measured-there _ w (at-weighing .weighing .given .1) in
+    let v = at-survey-of .survey-of .ensures in
+    test-fixed _ _ q v (at-if1 .if1 .left) (c .if2 .taken)
 
 later-test-requires : tie.Need-later-test-requires
 later-test-requires c κs =
-    let a = (c .before .before .before .before .before .before .before .before .before .before .before .before .before .before .before .before .before .before .before .before) .args in
-    let w = c .before .before .before .before .before .before .before .before .before .before .before .before .before .before .before .before .before .weigh .ensures in
-    let q = measured-there _ w (c .before .before .before .before .before .before .before .before .before .before .before .before .before .before .before .weighing .given .1) in
-    let v = c .before .before .before .before .before .before .before .before .survey-of .ensures in
-    (laid _ _ q v (c .before .before .before .before .before .before .before .before .before .before .before .before .if1 .left), judged-most _ (a .reading .now) q v)
+    let at-survey-of = c .before .before .before .before .before .before .before .before in
+    let at-if1 = at-survey-of .before .before .before .before in
+    let at-weighing = at-if1 .before .before .before in
+    let at-weigh = at-weighing .before .before in
+    let start = at-weigh .before .before .before in
+    let a = start .args in
+    let w = at-weigh .weigh .ensures in
+    let q = measured-there _ w (at-weighing .weighing .given .1) in
+    let v = at-survey-of .survey-of .ensures in
+    (laid _ _ q v (at-if1 .if1 .left), judged-most _ (a .reading .now) q v)
 
 returns-4 : tie.Need-returns-4
 returns-4 c =
-    let w = c .before .before .before .before .before .before .before .before .before .before .before .before .before .before .before .before .before .before .weigh .ensures in
-    let q = measured-there _ w (c .before .before .before .before .before .before .before .before .before .before .before .before .before .before .before .before .weighing .given .1) in
-    let v = c .before .before .before .before .before .before .before .before .before .survey-of .ensures in
-    let l = c .before .before .before .before .before .before .before .before .before .before .before .before .before .if1 .left in
+    let at-survey-of = c .before .before .before .before .before .before .before .before .before in
+    let at-if1 = at-survey-of .before .before .before .before in
+    let at-weighing = at-if1 .before .before .before in
+    let at-weigh = at-weighing .before .before in
+    let w = at-weigh .weigh .ensures in
+    let q = measured-there _ w (at-weighing .weighing .given .1) in
+    let v = at-survey-of .survey-of .ensures in
+    let l = at-if1 .if1 .left in
     test-later _ _ q v l (c .before .before .before .before .if2 .left) (c .later-test .ensures)
 
 pub reading-test-spec : {M : Type 1} → statement M

@@ -19,7 +19,8 @@ abbrev μ-loop : tie.MeasureT-loop
 
 loop-holds : tie.Need-loop-holds Inv-loop μ-loop
 loop-holds c =
-    let p = (c .before .before .before .before .before .before .before) .pre in
+    let start = c .before .before .before .before .before .before .before in
+    let p = start .pre in
     (omega arith, refl, walk-start _ _ _ _ _ _ _ _ _ (p .0) (p .1) (p .2) (p .3) (p .4) (p .5))
 
 item-at-requires : tie.Need-item-at-requires Inv-loop μ-loop
@@ -29,46 +30,61 @@ item-at-requires c κs =
 
 as-read-requires : tie.Need-as-read-requires Inv-loop μ-loop
 as-read-requires c κs =
+    let at-known = c .before .before .before .before .before .before .before in
     let v = c .before .before .before .loop .inv .2 in
     let h = c .before .before .loop-test .taken in
-    rw (c .item-at .ensures) (item-sane _ _ _ _ _ _ v h (λ j. omega (arith, c .before .before .before .before .before .before .before .shared-slice-known4 .given j)))
+    rw (c .item-at .ensures) (item-sane _ _ _ _ _ _ v h (λ j. omega (arith, at-known .shared-slice-known4 .given j)))
 
 long-enough-requires : tie.Need-long-enough-requires Inv-loop μ-loop
 long-enough-requires c κs =
+    let at-known = c .before .before .before .before .before .before .before .before in
     let v = c .before .before .before .before .loop .inv .2 in
     let h = c .before .before .before .loop-test .taken in
-    let z = item-sane _ _ _ _ _ _ v h (λ j. omega (arith, c .before .before .before .before .before .before .before .before .shared-slice-known4 .given j)) in
+    let z = item-sane _ _ _ _ _ _ v h (λ j. omega (arith, at-known .shared-slice-known4 .given j)) in
     rw (c .as-read .ensures, c .before .item-at .ensures) (z .ordered, z .load)
 
 same-length : tie.Need-same-length Inv-loop μ-loop
-same-length c = c .before .before .before .before .before .before .loop .inv .1
+same-length c =
+    let at-loop = c .before .before .before .before .before .before in
+    at-loop .loop .inv .1
 
 same-length-2 : tie.Need-same-length-2 Inv-loop μ-loop
 same-length-2 c =
-    let p = (c .before .before .before .before .before .before .before .before .before .before .before .before .before .before) .pre in
-    c .before .before .before .before .before .before .loop .inv .2 .weekly-size ∙ sym (p .4)
+    let at-loop = c .before .before .before .before .before .before in
+    let start = at-loop .before .before .before .before .before .before .before .before in
+    let p = start .pre in
+    at-loop .loop .inv .2 .weekly-size ∙ sym (p .4)
 
 same-length-3 : tie.Need-same-length-3 Inv-loop μ-loop
 same-length-3 c =
-    let p = (c .before .before .before .before .before .before .before .before .before .before .before .before .before .before) .pre in
-    c .before .before .before .before .before .before .loop .inv .2 .regular-size ∙ sym (p .5)
+    let at-loop = c .before .before .before .before .before .before in
+    let start = at-loop .before .before .before .before .before .before .before .before in
+    let p = start .pre in
+    at-loop .loop .inv .2 .regular-size ∙ sym (p .5)
 
 returns : tie.Need-returns Inv-loop μ-loop
 returns c =
-    let v = c .before .before .before .before .before .before .loop .inv .2 in
-    let h = c .before .before .before .before .before .loop-test .taken in
+    let at-test = c .before .before .before .before .before in
+    let at-loop = at-test .before in
+    let v = at-loop .loop .inv .2 in
+    let h = at-test .loop-test .taken in
     let e = c .before .before .before .item-at .ensures in
     too-short _ _ _ _ _ _ v h (rw e at (c .before .before .as-read .ensures)) (rw e at (c .before .long-enough .ensures)) (not-true _ (c .if1 .taken))
 
 end-of-requires : tie.Need-end-of-requires Inv-loop μ-loop
-end-of-requires c κs = c .before .before .before .before .before .before .loop .inv .2 .laid .ends-in
+end-of-requires c κs =
+    let at-loop = c .before .before .before .before .before .before in
+    at-loop .loop .inv .2 .laid .ends-in
 
 tally-after-requires : tie.Need-tally-after-requires Inv-loop μ-loop
 tally-after-requires c κs =
-    let v = c .before .before .before .before .before .before .before .loop .inv .2 in
-    let h = c .before .before .before .before .before .before .loop-test .taken in
+    let at-test = c .before .before .before .before .before .before in
+    let at-loop = at-test .before in
+    let at-known = at-loop .before .before .before .before in
+    let v = at-loop .loop .inv .2 in
+    let h = at-test .loop-test .taken in
     let e = c .before .before .before .before .item-at .ensures in (
-      rw e (item-sane _ _ _ _ _ _ v h (λ j. omega (arith, c .before .before .before .before .before .before .before .before .before .before .before .shared-slice-known4 .given j))),
+      rw e (item-sane _ _ _ _ _ _ v h (λ j. omega (arith, at-known .shared-slice-known4 .given j))),
       c .before .before .before .as-read .ensures,
       omega (arith, v .short, v .laid .few, h),
       v .last,
@@ -76,49 +92,68 @@ tally-after-requires c κs =
 
 bump-requires : tie.Need-bump-requires Inv-loop μ-loop
 bump-requires c κs =
-    let v = c .before .before .before .before .before .before .before .before .before .before .loop .inv .2 in
-    let h = c .before .before .before .before .before .before .before .before .before .loop-test .taken in
+    let at-test = c .before .before .before .before .before .before .before .before .before in
+    let at-loop = at-test .before in
+    let v = at-loop .loop .inv .2 in
+    let h = at-test .loop-test .taken in
     λ j. omega (arith, v .few-weeklies j, v .laid .few, h)
 
 bump-requires-2 : tie.Need-bump-requires-2 Inv-loop μ-loop
 bump-requires-2 c κs =
-    let v = c .before .before .before .before .before .before .before .before .before .before .before .before .before .before .before .loop .inv .2 in
-    let h = c .before .before .before .before .before .before .before .before .before .before .before .before .before .before .loop-test .taken in
+    let at-test = c .before .before .before .before .before .before .before .before .before .before .before .before .before .before in
+    let at-loop = at-test .before in
+    let v = at-loop .loop .inv .2 in
+    let h = at-test .loop-test .taken in
     λ j. omega (arith, v .few-regulars j, v .laid .few, h)
 
 pay-requires : tie.Need-pay-requires Inv-loop μ-loop
 pay-requires c κs =
-    let v = c .before .before .before .before .before .before .before .before .before .before .before .before .before .before .before .before .before .before .before .before .loop .inv .2 in
-    let h = c .before .before .before .before .before .before .before .before .before .before .before .before .before .before .before .before .before .before .before .loop-test .taken in
-    let e = c .before .before .before .before .before .before .before .before .before .before .before .before .before .before .before .before .before .item-at .ensures in
-    let a = c .before .before .before .before .before .before .before .before .before .before .before .before .before .before .before .before .as-read .ensures in
-    let l = c .before .before .before .before .before .before .before .before .before .before .before .before .before .before .before .long-enough .ensures in
-    let f = not-false _ (c .before .before .before .before .before .before .before .before .before .before .before .before .before .before .if1 .left) in
+    let at-if1 = c .before .before .before .before .before .before .before .before .before .before .before .before .before .before in
+    let at-long-enough = at-if1 .before in
+    let at-as-read = at-long-enough .before in
+    let at-item-at = at-as-read .before in
+    let at-test = at-item-at .before .before in
+    let at-loop = at-test .before in
+    let v = at-loop .loop .inv .2 in
+    let h = at-test .loop-test .taken in
+    let e = at-item-at .item-at .ensures in
+    let a = at-as-read .as-read .ensures in
+    let l = at-long-enough .long-enough .ensures in
+    let f = not-false _ (at-if1 .if1 .left) in
     pay-room _ _ _ _ _ _ v h (rw e at a) (rw e at l) f (c .reduction .ensures)
 
 loop-less : tie.Need-loop-less Inv-loop μ-loop
-loop-less c = omega (
-  arith,
-  c .before .before .before .before .before .before .before .before .before .before .before .before .before .before .before .before .before .before .before .before
-      .before .before .loop-test .taken,
-)
+loop-less c =
+    let at-end-of = c .before .before .before .before .before .before .before .before .before .before .before .before .before .before .before .before in
+    let at-test = at-end-of .before .before .before .before .before .before in
+    omega (arith, at-test .loop-test .taken)
 
 loop-again : tie.Need-loop-again Inv-loop μ-loop
 loop-again c =
-    let z = c .before .before .before .before .before .before .before .before .before .before .before in
-    let v = z .before .before .before .before .before .before .before .before .before .before .before .before .loop .inv in
-    let z = c .before .before .before .before .before .before .before .before .before .before .before in
-    let h = z .before .before .before .before .before .before .before .before .before .before .before .loop-test .taken in
-    let e = c .before .before .before .before .before .before .before .before .before .before .before .before .before .before .before .before .before .before .before .before .item-at .ensures in
-    let a = c .before .before .before .before .before .before .before .before .before .before .before .before .before .before .before .before .before .before .before .as-read .ensures in
-    let l = c .before .before .before .before .before .before .before .before .before .before .before .before .before .before .before .before .before .before .long-enough .ensures in
-    let f = not-false _ (c .before .before .before .before .before .before .before .before .before .before .before .before .before .before .before .before .before .if1 .left) in
-    let o = c .before .before .before .before .before .before .before .before .before .before .before .before .before .before .before .before .end-of .ensures in
-    let t = c .before .before .before .before .before .before .before .before .before .before .before .before .before .before .before .tally-after .ensures in
-    let w = c .before .before .before .before .before .before .before .before .before .before .before .before .before .before .is-weekly .ensures in
-    let g = c .before .before .before .before .before .before .before .before .before .is-regular .ensures in
-    let bw = c .before .before .before .before .before .before .before .before .before .before .before .before .bump .ensures in
-    let bg = c .before .before .before .before .before .before .before .bump2 .ensures in
+    let at-bump2 = c .before .before .before .before .before .before .before in
+    let at-is-regular = at-bump2 .before .before in
+    let at-bump = at-is-regular .before .before .before in
+    let at-is-weekly = at-bump .before .before in
+    let at-tally-after = at-is-weekly .before in
+    let at-end-of = at-tally-after .before in
+    let at-if1 = at-end-of .before in
+    let at-long-enough = at-if1 .before in
+    let at-as-read = at-long-enough .before in
+    let at-item-at = at-as-read .before in
+    let at-test = at-item-at .before .before in
+    let at-loop = at-test .before in
+    let v = at-loop .loop .inv in
+    let h = at-test .loop-test .taken in
+    let e = at-item-at .item-at .ensures in
+    let a = at-as-read .as-read .ensures in
+    let l = at-long-enough .long-enough .ensures in
+    let f = not-false _ (at-if1 .if1 .left) in
+    let o = at-end-of .end-of .ensures in
+    let t = at-tally-after .tally-after .ensures in
+    let w = at-is-weekly .is-weekly .ensures in
+    let g = at-is-regular .is-regular .ensures in
+    let bw = at-bump .bump .ensures in
+    let bg = at-bump2 .bump2 .ensures in
     let d = c .before .before .before .reduction .ensures in
     let p = c .before .before .pay .ensures in (
       omega (arith, h),
@@ -130,10 +165,14 @@ same-length-4 : tie.Need-same-length-4 Inv-loop μ-loop
 same-length-4 c = c .before .loop .inv .1
 
 same-length-5 : tie.Need-same-length-5 Inv-loop μ-loop
-same-length-5 c = c .before .loop .inv .2 .weekly-size ∙ sym ((c .before .before .before .before .before .before .before .before .before) .pre .4)
+same-length-5 c =
+    let start = c .before .before .before .before .before .before .before .before .before in
+    c .before .loop .inv .2 .weekly-size ∙ sym (start .pre .4)
 
 same-length-6 : tie.Need-same-length-6 Inv-loop μ-loop
-same-length-6 c = c .before .loop .inv .2 .regular-size ∙ sym ((c .before .before .before .before .before .before .before .before .before) .pre .5)
+same-length-6 c =
+    let start = c .before .before .before .before .before .before .before .before .before in
+    c .before .loop .inv .2 .regular-size ∙ sym (start .pre .5)
 
 returns-2 : tie.Need-returns-2 Inv-loop μ-loop
 returns-2 c = walk-through _ _ _ _ _ _ (c .before .loop .inv .2) (omega arith) (c .before .loop .inv .0)
