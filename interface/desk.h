@@ -62,11 +62,6 @@ struct desk_span {
 /* The long rests, one record each; refusal 1, 2, or 3 where the list has fewer than k records. The value is k. */
 uint64_t desk_list(const uint32_t *words, size_t words_count, struct desk_span *list, size_t list_count);
 
-/* The starts and ends of the long rests, into two slices; refusal 1, 2, or 3 where one of them has fewer than k elements.
- * The value is k. */
-uint64_t desk_list_rests(const uint32_t *words, size_t words_count, uint32_t *starts, size_t starts_count, uint32_t *ends,
-                         size_t ends_count);
-
 /* The smallest of rules 1 to 5 that the first m minutes break, or 0; refusal 1, 2 or 5. */
 uint64_t desk_fixed_test(const uint32_t *words, size_t words_count, uint32_t m);
 

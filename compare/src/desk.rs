@@ -12,9 +12,6 @@ pub fn desk(operation: Operation, input: &Input) -> Answer {
                 .to_vec()
         }),
         Operation::List => desk_list(words, &mut after.lent_words, &mut after.lent_ends).map(one),
-        Operation::ListRests => {
-            hours_desk::list_rests(words, &mut after.lent_words, &mut after.lent_ends).map(one)
-        }
         Operation::FixedTest => hours_desk::fixed_test(words, number as u32).map(one),
         Operation::ReadingTest => hours_desk::reading_test(words, bytes).map(one),
         Operation::Entry => hours_desk::entry(bytes, number).map(|part| placed(bytes, part)),

@@ -108,7 +108,6 @@ pub fn verdicts_of_recording(dice: &mut Dice, words: &[u32]) -> Vec<Try> {
 fn turned_away(dice: &mut Dice, recording: &Input, tries: &mut Vec<Try>) {
     for operation in [
         Operation::List,
-        Operation::ListRests,
         Operation::FixedTest,
         Operation::ReadingTest,
         Operation::WriteText,
@@ -134,7 +133,6 @@ fn weighed(dice: &mut Dice, recording: &Input, readings: &[Vec<u8>], tries: &mut
     let outcome = judge.outcome();
     let course = Course::new(&recording.words, &limits);
     list(dice, recording, course.long_rests.len(), tries);
-    list_rests(dice, recording, course.long_rests.len(), tries);
     fixed_tests(dice, recording, course.total as u32, &outcome, tries);
     let first = match &outcome {
         Outcome::Pass(reading) => reading.clone(),
@@ -158,8 +156,7 @@ fn weighed(dice: &mut Dice, recording: &Input, readings: &[Vec<u8>], tries: &mut
 }
 
 fn list(dice: &mut Dice, recording: &Input, count: usize, tries: &mut Vec<Try>) {
-    let other = one_of(dice, &[Room::ShortByOne, Room::Empty, Room::Longer]);
-    for room in [Room::JustFits, other] {
+    for room in [Room::JustFits, Room::ShortByOne, Room::Empty, Room::Longer] {
         let records = room.length(dice, count);
         let input = Input {
             lent_words: lent(dice, records),
@@ -167,24 +164,6 @@ fn list(dice: &mut Dice, recording: &Input, count: usize, tries: &mut Vec<Try>) 
             ..recording.clone()
         };
         tries.push(attempt(Operation::List, beside(records, count), input));
-    }
-}
-
-fn list_rests(dice: &mut Dice, recording: &Input, count: usize, tries: &mut Vec<Try>) {
-    let other = one_of(dice, &[Room::ShortByOne, Room::Empty, Room::Longer]);
-    for (starts, ends) in [
-        (Room::JustFits, Room::JustFits),
-        (other, Room::JustFits),
-        (Room::Longer, other),
-    ] {
-        let (starts, ends) = (starts.length(dice, count), ends.length(dice, count));
-        let input = Input {
-            lent_words: lent(dice, starts),
-            lent_ends: lent(dice, ends),
-            ..recording.clone()
-        };
-        let variant = beside(starts.min(ends), count);
-        tries.push(attempt(Operation::ListRests, variant, input));
     }
 }
 

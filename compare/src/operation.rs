@@ -9,7 +9,6 @@ use second::Refusal;
 pub enum Operation {
     Weigh,
     List,
-    ListRests,
     FixedTest,
     ReadingTest,
     Entry,
@@ -20,10 +19,9 @@ pub enum Operation {
 }
 
 impl Operation {
-    pub const ALL: [Operation; 10] = [
+    pub const ALL: [Operation; 9] = [
         Operation::Weigh,
         Operation::List,
-        Operation::ListRests,
         Operation::FixedTest,
         Operation::ReadingTest,
         Operation::Entry,
@@ -37,7 +35,6 @@ impl Operation {
         match self {
             Operation::Weigh => "weighing",
             Operation::List => "listing long rests",
-            Operation::ListRests => "listing into two slices",
             Operation::FixedTest => "fixed test",
             Operation::ReadingTest => "reading test",
             Operation::Entry => "entry",
@@ -53,7 +50,6 @@ impl Operation {
         match self {
             Operation::Weigh => "weigh",
             Operation::List => "list",
-            Operation::ListRests => "slices",
             Operation::FixedTest => "fixed",
             Operation::ReadingTest => "reading",
             Operation::Entry => "entry",
@@ -68,7 +64,7 @@ impl Operation {
     pub fn refusals(self) -> &'static [u8] {
         match self {
             Operation::Weigh => &[1, 2],
-            Operation::List | Operation::ListRests => &[1, 2, 3],
+            Operation::List => &[1, 2, 3],
             Operation::FixedTest => &[1, 2, 5],
             Operation::ReadingTest => &[1, 2, 6],
             Operation::Entry | Operation::EntryRefusal => &[6, 7],
@@ -89,8 +85,8 @@ pub struct Input {
     pub number: usize,
     /// The lent buffer of bytes: a reading or a text.
     pub lent_bytes: Vec<u8>,
-    /// The lent buffers of numbers: the words of a text, or starts and ends, also
-    /// those of the records of a list.
+    /// The lent buffers of numbers: the words of a text, or the starts and ends of
+    /// the records of a list.
     pub lent_words: Vec<u32>,
     pub lent_ends: Vec<u32>,
 }
@@ -123,9 +119,7 @@ pub fn second(operation: Operation, input: &Input) -> Answer {
                 measure.long_rests as u64,
             ]
         }),
-        Operation::List | Operation::ListRests => {
-            second_list(words, &mut after.lent_words, &mut after.lent_ends)
-        }
+        Operation::List => second_list(words, &mut after.lent_words, &mut after.lent_ends),
         Operation::FixedTest => second::fixed::test(words, number).map(one),
         Operation::ReadingTest => second::reading::test(words, bytes).map(one),
         Operation::Entry => second_entry(bytes, number),
@@ -149,8 +143,7 @@ pub fn verdict_values(verdict: Verdict) -> Vec<u64> {
     }
 }
 
-/// The second program lists into one slice of records, as long as the shorter
-/// of the two.
+/// The records' starts and ends go to a list, and come back whatever the answer.
 fn second_list(words: &[u32], starts: &mut [u32], ends: &mut [u32]) -> Result<Vec<u64>, Refusal> {
     let mut list: Vec<Span> = (starts.iter().zip(ends.iter()))
         .map(|(&start, &end)| Span {

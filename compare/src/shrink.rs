@@ -173,7 +173,7 @@ fn fitted(operation: Operation, input: &Input, words: Vec<u32>) -> Vec<Input> {
     };
     let mut fitted = same.clone();
     match operation {
-        Operation::List | Operation::ListRests => {
+        Operation::List => {
             resize(&mut fitted.lent_words, rests);
             resize(&mut fitted.lent_ends, rests);
         }

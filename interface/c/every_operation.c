@@ -53,8 +53,6 @@ int main(void)
     const uint32_t no_minutes[] = {WORD(0, AVAILABILITY)};
     const uint8_t reading[] = {0, 0, 0, 1, 0, 0};
     struct desk_span list[3] = {{7, 8}, {7, 8}, {7, 8}};
-    uint32_t starts[3] = {7, 7, 7};
-    uint32_t ends[3] = {7, 7, 7};
     uint32_t read[8] = {7, 7, 7, 7, 7, 7, 7, 7};
     uint8_t text[128];
     uint64_t length;
@@ -67,11 +65,6 @@ int main(void)
     for (size_t i = 0; i < 3; i++)
         printf("  %" PRIu32 " to %" PRIu32 "\n", list[i].start, list[i].end);
     print_value("listing long rests", desk_list(words, 5, list, 1));
-
-    print_value("listing into two slices", desk_list_rests(words, 5, starts, 3, ends, 3));
-    for (size_t i = 0; i < 3; i++)
-        printf("  %" PRIu32 " to %" PRIu32 "\n", starts[i], ends[i]);
-    print_value("listing into two slices", desk_list_rests(words, 5, starts, 3, ends, 1));
 
     print_value("fixed test", desk_fixed_test(words, 5, 3661));
     print_value("fixed test", desk_fixed_test(long_day, 1, 901));

@@ -7,7 +7,7 @@ ghost use lib.ListN.{length};
 ghost use Rattle.recording.specs.Answers.{answered};
 ghost use Rattle.recording.specs.Operations.{measured};
 ghost use Rattle.rules.specs.Operations.{judged, outcome, readingAfter};
-ghost use Rattle.verdict.specs.Verdicts.{outcomeBy};
+ghost use Rattle.verdict.specs.Outcomes.{outcomeBy};
 ghost use Rattle.interface.specs.Codes.{codeOf, outcomeValue};
 
 // The words of three entries, and of 32.

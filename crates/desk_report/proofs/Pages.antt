@@ -3,16 +3,16 @@ use mathlib.Core.Path.{_≡_, sym, ap, _∙_}
 use mathlib.Core.List.{List, [], _∷_, _++_, map, append-assoc}
 use Prim.Native.Nat.{ℕ, _+_, _*_, _≤_}
 use native.Mathlib.Omega.{arith}
-use lib.ListN.{length, take, drop, getD, length-append, length-take, length-map, length-replicate}
+use lib.ListN.{length, take, drop, getD, length-append, length-take, length-map}
 use lib.Seq.{sets-eq, take-at}
-use Rattle.recording.specs.Words.{minutesIn, activityIn, minutesOf}
+use Rattle.recording.specs.Words.{minutesOf}
 use Rattle.recording.specs.Rests.{judgedEnd, longRests, longRestsAtMost}
 use Rattle.recording.specs.Operations.{totalAtMost}
-use Rattle.recording.specs.Scan.{afterRun, placeOf, origin, writtenFrom, Scanned}
+use Rattle.recording.specs.Scan.{placeOf, origin, writtenFrom, Scanned}
 use Rattle.recording.specs.declared.Span.{Span}
 use Rattle.recording.specs.declared.Place.{Place}
 use Rattle.recording.proofs.LongRests.{few-rests}
-use Rattle.recording.proofs.Scanning.{run-sensible, scan-end, scan-count, scan-written}
+use Rattle.recording.proofs.Scanning.{scan-total, scan-end, scan-count, scan-written}
 use Rattle.rules.specs.Reading.{entryBytes, readingSize}
 use Rattle.rules.specs.Verdict.{Verdict, pass, breach}
 use Rattle.text.specs.Passes.{Put, places}
@@ -21,17 +21,6 @@ use Rattle.desk_report.specs.Printed.{asLine, closed, verdictName, minut
 use Rattle.desk_report.specs.Composing.{pageAtMost, lineAtMost, restsOf, Readable, refusalPage, pageOf, passHead}
 use Rattle.desk_report.proofs.Sizes.{numbered-short, rest-short, breach-short}
 use Rattle.desk_report.proofs.RestLines.{rests-lines}
-
--- ---- the scan over the words: N, S, k and the long rests
-place-total : (p : Place) (ws : List ℕ) → p .from ≤ p .now → p .count ≤ p .now → placeOf p ws .now ≡ p .now + length (minutesOf ws)
-unfolding placeOf minutesOf
-place-total p [] h k = omega arith
-place-total p (w ∷ ws) h k =
-    let s = run-sensible p (activityIn w) (minutesIn w) h k in
-    place-total (afterRun p (activityIn w) (minutesIn w)) ws (s .from) (s .count) ∙ rw (length-append, length-replicate) (omega (arith, s .now))
-
-scan-total : (ws : List ℕ) → placeOf origin ws .now ≡ length (minutesOf ws)
-scan-total ws = omega (arith, place-total origin ws (omega arith) (omega arith))
 
 -- ---- a breach
 pub breach-whole : (ws : List ℕ) (m a : ℕ) {p : Place} {t u : List ℕ} {next : ℕ} → p ≡ placeOf origin ws

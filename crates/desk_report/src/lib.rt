@@ -24,13 +24,6 @@ const TEXT_WORDS: usize = 7282;
 // Bytes enough for any reading: three for each long rest.
 const READING_BYTES: usize = 3 * recording::LONG_RESTS;
 
-// A byte as a wider number.
-fn wide(b: u8) -> u32
-    ensures { λ r. ⌜ r ≡ b ⌝ }
-{
-    b as u32
-}
-
 // ---- lines
 
 // A number after a space.
@@ -109,9 +102,9 @@ fn put_rests(out: &mut [u8], at: usize, starts: &[u32], ends: &[u32], reading: &
     let mut next = at;
     let mut i = 0;
     while i < starts.len() {
-        let kind = wide(reading[3 * i]);
-        let week = wide(reading[3 * i + 1]);
-        let carrier = wide(reading[3 * i + 2]);
+        let kind = recording::wide(reading[3 * i]);
+        let week = recording::wide(reading[3 * i + 1]);
+        let carrier = recording::wide(reading[3 * i + 2]);
         next = put_rest(out, next, starts[i], ends[i], kind, week, carrier);
         i += 1;
     }

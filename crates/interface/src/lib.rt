@@ -6,16 +6,13 @@ use rules_fixed::Tested;
 use verdict::Outcome;
 ghost use mathlib.Core.Path.{_≡_};
 ghost use lib.ListN.{length};
-ghost use Prim.Native.Nat.{min};
 ghost use Rattle.recording.specs.Answers.{counted, filled};
 ghost use Rattle.recording.specs.Operations.{measured, listed, written};
-ghost use Rattle.recording.specs.Scan.{eachOf};
-ghost use Rattle.recording.specs.declared.Span.{Span};
-ghost use Rattle.rules_fixed.specs.Walk.{tested};
+ghost use Rattle.rules_fixed.specs.Tested.{tested};
 ghost use Rattle.rules.specs.Operations.{fixedTested, readingTested, entryAt, entryRefusal, judged, outcome, readingAfter};
 ghost use Rattle.text_lines.specs.Reading.{textRead};
 ghost use Rattle.text.specs.Writing.{textWritten};
-ghost use Rattle.verdict.specs.Verdicts.{outcomeBy};
+ghost use Rattle.verdict.specs.Outcomes.{outcomeBy};
 ghost use Rattle.interface.specs.Codes.{codeOf, itself, measureValue, outcomeValue, entryCode};
 
 // An answer is this and its value; less is a refusal.
@@ -74,18 +71,7 @@ pub extern "C" fn desk_weigh(words: &[u32]) -> u64
     ANSWER + (minutes + COUNT * (measure.count as u64))
 }
 
-// Listing long rests into two slices: a refusal's number; or ANSWER and their count.
-#[no_mangle]
-pub extern "C" fn desk_list_rests(words: &[u32], starts: &mut [u32], ends: &mut [u32]) -> u64
-    ensures { λ r. ⌜ r ≡ codeOf itself (counted (listed (now (words .entry)) (min (length (now (starts .entry))) (length (now (ends .entry)))))) ⌝ }
-    ensures { λ r. ⌜ now (starts .exit) ≡ filled (eachOf (λ (s : Span). s .start) (listed (now (words .entry)) (min (length (now (starts .entry))) (length (now (ends .entry))))))
-        (now (starts .entry)) ⌝ }
-    ensures { λ r. ⌜ now (ends .exit) ≡ filled (eachOf (λ (s : Span). s .end) (listed (now (words .entry)) (min (length (now (starts .entry))) (length (now (ends .entry)))))) (now (ends .entry)) ⌝ }
-{
-    count_code(recording::list_rests(words, starts, ends))
-}
-
-// Listing long rests into a list of records: a refusal's number; or ANSWER and their count.
+// Listing long rests: a refusal's number; or ANSWER and their count.
 #[no_mangle]
 pub extern "C" fn desk_list(words: &[u32], list: &mut [Span]) -> u64
     ensures { λ r. ⌜ r ≡ codeOf itself (counted (listed (now (words .entry)) (length (now (list .entry))))) ⌝ }

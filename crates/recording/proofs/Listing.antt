@@ -1,17 +1,15 @@
--- Weighing, and listing into two slices: what stands at each return. Assumes nothing.
+-- Weighing: what stands at each return; and what is written over the front of a slice. Assumes nothing.
 use mathlib.Core.Path.{_≡_, refl, sym, ap, _∙_}
-use mathlib.Core.List.{List, [], _∷_, _++_, map}
-use Prim.Native.Nat.{ℕ, _+_, _≤_, _<_, min}
+use mathlib.Core.List.{List, _++_, map}
+use Prim.Native.Nat.{ℕ, _+_, _≤_}
 use native.Mathlib.Omega.{arith}
-use lib.Dec.{ltb}
 use lib.ListN.{length, drop, length-map}
 use lib.Seq.{sets, sets-eq}
-use borrow.Author.Tests.{lt-ltb, le-ltb}
-use Rattle.recording.specs.Answers.{Answer, refused, answered, andThen, refuseIf, counted, filled}
+use Rattle.recording.specs.Answers.{Answer, refused, answered, andThen}
 use Rattle.recording.specs.Words.{minutesOf}
 use Rattle.recording.specs.Rests.{judgedEnd, longRests}
-use Rattle.recording.specs.Operations.{totalAtMost, totalFrom, measureOf, measured, listed, weighed, written}
-use Rattle.recording.specs.Scan.{totalled, faultIn, refusalIn, origin, placeOf, writtenFrom, Scanned, eachOf, Listed}
+use Rattle.recording.specs.Operations.{totalAtMost, totalFrom, measureOf, measured, weighed}
+use Rattle.recording.specs.Scan.{totalled, faultIn, refusalIn, origin, placeOf}
 use Rattle.recording.specs.declared.Total.{Total}
 use Rattle.recording.specs.declared.Total.the-variants as total
 use Rattle.recording.specs.declared.Weighing.{Weighing}
@@ -21,7 +19,7 @@ use Rattle.recording.specs.declared.Measure.{Measure}
 use Rattle.recording.specs.declared.Span.{Span}
 use Rattle.recording.specs.declared.Filling.the-variants as filling
 use Rattle.recording.proofs.WordLaws.{total-is}
-use Rattle.recording.proofs.Scanning.{scan-end, scan-count, scan-written}
+use Rattle.recording.proofs.Scanning.{scan-end, scan-count}
 
 -- ---- weighing
 module _ (ws : List ℕ) where
@@ -68,30 +66,9 @@ module _ (ws : List ℕ) where
   pub measured-there : {w : Weighing} {m : Measure} → weighed w ≡ measured ws → w ≡ weighing.Weighed m → measured ws ≡ answered m
   measured-there e q = sym e ∙ ap weighed q
 
--- ---- listing
+-- ---- a number of each long rest in front of a slice
 pub in-front : (f : Span → ℕ) (rs : List Span) (out : List ℕ) → length rs ≤ length out → sets out 0 (map f rs) ≡ map f rs ++ drop (length (map f rs)) out
 in-front f rs out h =
     let k : 0 + length (map f rs) ≤ length out = rw length-map (omega arith) in
     let z : 0 + length (map f rs) ≡ length (map f rs) = omega arith in
     sets-eq (map f rs) out 0 k ∙ ap (λ (n : ℕ). map f rs ++ drop n out) z
-
-module _ (ws s e : List ℕ) where
-  pub list-refused : {n : ℕ} → measured ws ≡ refused n → Listed ws s e (filling.Refused n) s e
-  unfolding listed
-  list-refused q = record { answer = rw q; begun = rw q; ended = rw q }
-
-  pub list-short : {m : Measure} → measured ws ≡ answered m → min (length s) (length e) < m .count → Listed ws s e (filling.Refused 3) s e
-  unfolding listed
-  list-short {m} q h = let t = lt-ltb (min (length s) (length e)) (m .count) h in record { answer = rw (q, t); begun = rw (q, t); ended = rw (q, t) }
-
-  pub list-done : {m : Measure} {p : Place} {s′ e′ : List ℕ} → measured ws ≡ answered m → m .count ≤ length s → m .count ≤ length e
-      → Scanned ws s e p s′ e′ → Listed ws s e (filling.Written (m .count)) s′ e′
-  unfolding listed
-  list-done {m} q h g k =
-      let t = le-ltb (min (length s) (length e)) (m .count) (omega arith) in
-      let c : m .count ≡ length (longRests (minutesOf ws)) = ap (λ (x : Measure). x .count) (measured-is ws q .is) in
-      record {
-        answer = rw (q, t) (ap answered c);
-        begun = k .begun ∙ scan-written (λ x. x .start) ws s ∙ rw (q, t) (in-front (λ x. x .start) (longRests (minutesOf ws)) s (omega arith));
-        ended = k .ended ∙ scan-written (λ x. x .end) ws e ∙ rw (q, t) (in-front (λ x. x .end) (longRests (minutesOf ws)) e (omega arith));
-      }

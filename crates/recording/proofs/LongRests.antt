@@ -96,12 +96,9 @@ ordered-count : {to from : ℕ} {rs : List Span} → Ordered to from rs → from
 ordered-count none h = omega arith
 ordered-count (next l n e o) h = omega (arith, ordered-count o e)
 
--- 540 × k is within the minutes, and with a minute of another activity after each too
+-- 540 × k is within the minutes, with a minute of another activity after each
 pub rests-within : (ms : List ℕ) → suc longRestMinutes * length (longRests ms) ≤ length ms
 rests-within ms = omega (arith, ordered-count (rests-ordered ms) zero-le, judged-within ms)
-
-pub long-minutes-within : (ms : List ℕ) → longRestMinutes * length (longRests ms) ≤ length ms
-long-minutes-within ms = omega (arith, rests-within ms)
 
 -- "k at most 223"
 pub few-rests : (ms : List ℕ) → length ms ≤ totalAtMost → length (longRests ms) ≤ longRestsAtMost

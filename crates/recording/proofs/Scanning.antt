@@ -114,6 +114,17 @@ place-written f p (w ∷ ws) out =
     ∙ pick-written f (endsRest p (activityIn w) (minutesIn w)) (restAt p) (restsOn q ws) (p .count) (q .count) out (run-count p (activityIn w) (minutesIn w))
     ∙ sym (ap (λ (rs : List Span). sets out (p .count) (map f rs)) (rests-next p w ws))
 
+-- the minutes that a walk has gone through
+place-total : (p : Place) (ws : List ℕ) → p .from ≤ p .now → p .count ≤ p .now → placeOf p ws .now ≡ p .now + length (minutesOf ws)
+unfolding placeOf minutesOf
+place-total p [] h k = omega arith
+place-total p (w ∷ ws) h k =
+    let s = run-sensible p (activityIn w) (minutesIn w) h k in
+    place-total (afterRun p (activityIn w) (minutesIn w)) ws (s .from) (s .count) ∙ rw (length-append, length-replicate) (omega (arith, s .now))
+
+pub scan-total : (ws : List ℕ) → placeOf origin ws .now ≡ length (minutesOf ws)
+scan-total ws = omega (arith, place-total origin ws (omega arith) (omega arith))
+
 pub scan-end : (ws : List ℕ) → placeOf origin ws .from ≡ judgedEnd (minutesOf ws)
 scan-end ws = place-end origin ws ∙ sym (judged-by ws)
 
@@ -170,7 +181,7 @@ module _ {ws : List ℕ} {p : Place} {i : ℕ} (k : Walking ws p i) (h : i ≡ l
   write-done f out = rw (h, drop-length) refl
 
 -- what is written over is as long as before
-written-length : (f : Span → ℕ) (p : Place) (ws out : List ℕ) → length (writtenFrom f p ws out) ≡ length out
+pub written-length : (f : Span → ℕ) (p : Place) (ws out : List ℕ) → length (writtenFrom f p ws out) ≡ length out
 written-length f p ws out = ap length (place-written f p ws out) ∙ length-sets out (p .count) (map f (restsOn p ws))
 
 pub same-length : (f : Span → ℕ) (p q : Place) (ws us out out′ : List ℕ) → writtenFrom f p ws out ≡ writtenFrom f q us out′ → length out′ ≡ length out

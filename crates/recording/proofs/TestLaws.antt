@@ -75,15 +75,6 @@ less-or-not a b = go (ltb a b) refl
     go true e = inl (ltb-true a b e)
     go false e = inr (ltb-false a b e)
 
--- the library's way to say that a test holds
-pub to-T : (b : Bool) → b ≡ true → T b
-to-T true e = tt
-to-T false e = false≢true e
-
-pub from-T : (b : Bool) → T b → b ≡ true
-from-T true t = refl
-from-T false t = absurd t
-
 -- ---- over lists
 pub pick-append : {A : Type 0} (b : Bool) (x : A) (xs ys : List A) → pick b (x ∷ (xs ++ ys)) (xs ++ ys) ≡ pick b (x ∷ xs) xs ++ ys
 pick-append true x xs ys = refl

@@ -1,23 +1,20 @@
--- What the inner functions of this layer answer. Nothing here has to be believed: no public contract but that of listing into two slices cites
--- it, and `Listed` goes by the definitions of Operations.antt.
+-- What the inner functions of this layer answer. Nobody has to believe it: no public contract cites it.
 -- Assumes nothing.
 use mathlib.Core.Path.{_≡_}
-use mathlib.Core.Bool.{Bool, true, false}
-use mathlib.Core.List.{List, [], _∷_, map}
+use mathlib.Core.Bool.{Bool, false}
+use mathlib.Core.List.{List, [], _∷_}
 use Prim.Native.Nat.{ℕ, _+_, _-_, min}
 use lib.Dec.{leb, eqb}
-use lib.ListN.{length, set}
+use lib.ListN.{set}
 use Rattle.recording.specs.Tests.{pick, one}
-use Rattle.recording.specs.Answers.{Answer, refused, answered, counted, filled}
+use Rattle.recording.specs.Answers.{Answer, refused, answered}
 use Rattle.recording.specs.Words.{wordOf, minutesIn, activityIn}
 use Rattle.recording.specs.Rests.{longRestMinutes}
 use Rattle.recording.specs.Weeks.{isRest}
-use Rattle.recording.specs.Operations.{listed, written}
 use Rattle.recording.specs.declared.Total.{Total}
 use Rattle.recording.specs.declared.Total.the-variants as total
 use Rattle.recording.specs.declared.Weighing.{Weighing}
 use Rattle.recording.specs.declared.Weighing.the-variants as weighing
-use Rattle.recording.specs.declared.Filling.{Filling}
 use Rattle.recording.specs.declared.Place.{Place}
 use Rattle.recording.specs.declared.Span.{Span}
 
@@ -69,13 +66,3 @@ pub record Scanned (words starts ends : List ℕ) (r : Place) (starts′ ends′
   pub place : r ≡ placeOf origin words
   pub begun : starts′ ≡ writtenFrom (λ s. s .start) origin words starts
   pub ended : ends′ ≡ writtenFrom (λ s. s .end) origin words ends
-
--- ---- listing into two slices: one number of each long rest
-abbrev pub eachOf : {A B : Type 0} → (A → B) → Answer (List A) → Answer (List B)
-eachOf f (refused n) = refused n
-eachOf f (answered xs) = answered (map f xs)
-
-pub record Listed (words starts ends : List ℕ) (r : Filling) (starts′ ends′ : List ℕ) : Type 0 where
-  pub answer : written r ≡ counted (listed words (min (length starts) (length ends)))
-  pub begun : starts′ ≡ filled (eachOf (λ (s : Span). s .start) (listed words (min (length starts) (length ends)))) starts
-  pub ended : ends′ ≡ filled (eachOf (λ (s : Span). s .end) (listed words (min (length starts) (length ends)))) ends

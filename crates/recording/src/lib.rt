@@ -1,11 +1,11 @@
 // A recording of a driver's activity, minute by minute. What is said of it stands in specs/.
 ghost use mathlib.Core.Path.{_≡_};
-ghost use Prim.Native.Nat.{_+_, _≤_};
+ghost use Prim.Native.Nat.{_+_, _≤_, min};
 ghost use lib.ListN.{length, set};
 ghost use Rattle.recording.specs.Tests.{pick};
 ghost use Rattle.recording.specs.Words.{minutesOf};
 ghost use Rattle.recording.specs.Operations.{totalAtMost, totalFrom, measured, weighed};
-ghost use Rattle.recording.specs.Scan.{totalled, faultIn, refusalIn, endsRest, afterRun, placeOf, origin, Scanned, Listed};
+ghost use Rattle.recording.specs.Scan.{totalled, faultIn, refusalIn, endsRest, afterRun, placeOf, origin, Scanned};
 
 // The minutes from `start` up to `end`, which is not included. Callers in C lend a list of them.
 #[repr(C)]
@@ -56,8 +56,25 @@ pub const WEEK_MINUTES: u32 = 10080;
 // The most long rests that a recording can have.
 pub const LONG_RESTS: usize = 223;
 
+// A byte as a wider number.
+pub fn wide(b: u8) -> u32
+    ensures { λ r. ⌜ r ≡ b ⌝ }
+{
+    b as u32
+}
+
+// The lesser of two numbers.
+pub fn lesser(a: u32, b: u32) -> u32
+    ensures { λ r. ⌜ r ≡ min a b ⌝ }
+{
+    if a < b {
+        return a;
+    }
+    b
+}
+
 // The total, or the refusal of the first word at fault: 1 where its minutes are 0, else 2 where the total passes the limit.
-pub fn total_of(words: &[u32]) -> Total
+fn total_of(words: &[u32]) -> Total
     ensures { λ r. ⌜ totalled r ≡ totalFrom 0 (now (words .entry)) ⌝ }
 {
     let mut sum: u32 = 0;
@@ -79,7 +96,7 @@ pub fn total_of(words: &[u32]) -> Total
 }
 
 // The number of a refusal, and 0 of a total.
-pub fn fault_of(t: Total) -> u32
+fn fault_of(t: Total) -> u32
     ensures { λ r. ⌜ r ≡ faultIn t ⌝ }
 {
     match t {
@@ -89,7 +106,7 @@ pub fn fault_of(t: Total) -> u32
 }
 
 // Whether a run of n minutes of this activity ends a long rest.
-pub fn ends_rest(p: Place, activity: u32, n: u32) -> bool
+fn ends_rest(p: Place, activity: u32, n: u32) -> bool
     requires { ⌜ p .from ≤ p .now ⌝ }
     ensures { λ r. ⌜ r ≡ endsRest p activity n ⌝ }
 {
@@ -103,7 +120,7 @@ pub fn ends_rest(p: Place, activity: u32, n: u32) -> bool
 }
 
 // The place after a run of n minutes of one activity.
-pub fn after_run(p: Place, activity: u32, n: u32) -> Place
+fn after_run(p: Place, activity: u32, n: u32) -> Place
     requires { ⌜ (p .from ≤ p .now) × (p .count ≤ p .now) × (p .now + n ≤ totalAtMost) ⌝ }
     ensures { λ r. ⌜ r ≡ afterRun p activity n ⌝ }
 {
@@ -180,7 +197,7 @@ pub fn refusal_of(w: Weighing) -> u32
 }
 
 // Writes v at k if it is wanted and there is such a place.
-pub fn put_if(s: &mut [u32], wanted: bool, k: u32, v: u32)
+fn put_if(s: &mut [u32], wanted: bool, k: u32, v: u32)
     ensures { λ r. ⌜ now (s .exit) ≡ pick wanted (set (now (s .entry)) k v) (now (s .entry)) ⌝ }
 {
     if wanted {
@@ -213,23 +230,4 @@ pub fn scan(words: &[u32], starts: &mut [u32], ends: &mut [u32]) -> Place
         i += 1;
     }
     p
-}
-
-// The long rests' starts and ends into two lent slices: refusals 1 and 2, then 3 where one of them is too short.
-pub fn list_rests(words: &[u32], starts: &mut [u32], ends: &mut [u32]) -> Filling
-    ensures { λ r. ⌜ Listed (now (words .entry)) (now (starts .entry)) (now (ends .entry)) r (now (starts .exit)) (now (ends .exit)) ⌝ }
-{
-    let weighing = weigh(words);
-    let Weighing::Weighed(measure) = weighing else {
-        return Filling::Refused(refusal_of(weighing));
-    };
-    let count = measure.count;
-    if starts.len() < count as usize {
-        return Filling::Refused(3);
-    }
-    if ends.len() < count as usize {
-        return Filling::Refused(3);
-    }
-    scan(words, starts, ends);
-    Filling::Written(count)
 }

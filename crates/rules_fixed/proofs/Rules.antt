@@ -95,10 +95,7 @@ module _ (xs : List ℕ) where
       at (inl h) = leb-true _ fortnightAtMost (below-at _ _ t w h)
       at (inr h) = omega (arith, week-none w (omega arith), week-none (w + 1) (omega arith))
 
-  -- the driving of the week that runs, and of the one before
-  pub thisWeek : ℕ
-  thisWeek = drivingTime xs - upTo xs (weekStart (weekOf (length xs)))
-
+  -- the driving of the week before
   abbrev pub weekBefore : ℕ → ℕ
   weekBefore zero = 0
   weekBefore (suc w) = drivingIn xs (week w)

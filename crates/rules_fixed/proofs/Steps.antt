@@ -131,10 +131,6 @@ module _ (s : Account) (k : Bounded s) where
       at true = rest-bounded
       at false = busy-bounded a
 
-pub rest-now : (s : Account) → restMinute s .now ≡ s .now + 1
-unfolding restMinute
-rest-now s = refl
-
 pub minute-now : (s : Account) (a : ℕ) → minuteAfter s a .now ≡ s .now + 1
 unfolding minuteAfter restMinute busyMinute
 minute-now s a = at (isRest a)

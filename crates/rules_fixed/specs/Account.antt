@@ -1,7 +1,6 @@
 -- The account of the fixed rules, defined minute by minute. Nobody has to believe it: proofs/AccountRight.antt shows that it answers the fixed rules as
 -- document 01 says them.
 -- Assumes nothing.
-use mathlib.Core.Bool.{Bool, true, false}
 use mathlib.Core.List.{List, [], _∷_}
 use Prim.Native.Nat.{ℕ, zero, suc, _+_, _-_}
 use lib.Dec.{leb, eqb}

@@ -1,3 +1,4 @@
+pub mod Tested
 pub mod Account
 pub mod Nets
 pub mod Walk

@@ -1,23 +1,18 @@
--- What the inner functions of this layer keep and answer, and what the fixed test's enum says. Assumes nothing.
+-- What the inner functions of this layer keep and answer. Nobody has to believe it: no public contract cites it.
+-- Assumes nothing.
 use mathlib.Core.Path.{_≡_}
 use mathlib.Core.List.{List}
 use Prim.Native.Nat.{ℕ, _+_, _≤_}
-use lib.ListN.{take, replicate}
-use Rattle.recording.specs.Answers.{Answer, refused, answered}
+use lib.ListN.{replicate}
+use lib.Seq.{sets}
 use Rattle.recording.specs.Words.{minutesOf}
+use Rattle.recording.specs.Rests.{longRests}
 use Rattle.recording.specs.Weeks.{weekMinutes}
-use Rattle.recording.specs.Scan.{cutAt, origin, placeOf, writtenFrom}
+use Rattle.recording.specs.Scan.{origin, placeOf, writtenFrom}
 use Rattle.rules_fixed.specs.Account.{accountFrom, opening}
-use Rattle.rules_fixed.specs.Nets.{netOf}
+use Rattle.rules_fixed.specs.Nets.{netsFrom}
 use Rattle.rules_fixed.specs.declared.Account.{Account}
 use Rattle.rules_fixed.specs.declared.Survey.{Survey}
-use Rattle.rules_fixed.specs.declared.Tested.{Tested}
-use Rattle.rules_fixed.specs.declared.Tested.the-variants as tests
-
--- the paper's number and value of each case
-abbrev pub tested : Tested → Answer ℕ
-tested (tests.Refused n) = refused n
-tested (tests.Answer n) = answered n
 
 -- no part of an account is past its minute
 pub record Bounded (s : Account) : Type 0 where
@@ -36,10 +31,10 @@ pub record Ran (s : Account) (a n : ℕ) (r : Account) : Type 0 where
   pub bounded : Bounded r
   pub now : r .now ≡ s .now + n
 
--- the first m minutes: their place, the long rests' starts, ends and numbers by rule 9, their account
-pub record Surveyed (words : List ℕ) (m : ℕ) (starts ends nets : List ℕ) (r : Survey) (starts′ ends′ nets′ : List ℕ) : Type 0 where
-  pub place : r .place ≡ placeOf origin (cutAt m words)
-  pub begun : starts′ ≡ writtenFrom (λ s. s .start) origin (cutAt m words) starts
-  pub ended : ends′ ≡ writtenFrom (λ s. s .end) origin (cutAt m words) ends
-  pub numbered : nets′ ≡ writtenFrom (netOf (take m (minutesOf words))) origin (cutAt m words) nets
-  pub account : r .account ≡ accountFrom opening (take m (minutesOf words))
+-- a recording: the place at its end, the long rests' starts, ends and numbers by rule 9, the account
+pub record Surveyed (words starts ends nets : List ℕ) (r : Survey) (starts′ ends′ nets′ : List ℕ) : Type 0 where
+  pub place : r .place ≡ placeOf origin words
+  pub begun : starts′ ≡ writtenFrom (λ s. s .start) origin words starts
+  pub ended : ends′ ≡ writtenFrom (λ s. s .end) origin words ends
+  pub numbered : nets′ ≡ sets nets 0 (netsFrom 0 (longRests (minutesOf words)))
+  pub account : r .account ≡ accountFrom opening (minutesOf words)

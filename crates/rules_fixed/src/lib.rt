@@ -1,17 +1,20 @@
-// The fixed rules, 1 to 5, in one walk over a recording.
+// The fixed rules, 1 to 5, in one walk over a recording; and what the later rules ask of its long rests.
 use recording::Place;
 use recording::Weighing;
 use rules::Driven;
 ghost use mathlib.Core.Path.{_≡_};
-ghost use Prim.Native.Nat.{_+_, _<_, _≤_, min};
-ghost use lib.ListN.{length};
+ghost use Prim.Native.Nat.{_+_, _<_, _≤_};
+ghost use lib.ListN.{length, take};
+ghost use lib.Seq.{sets};
 ghost use Rattle.recording.specs.Words.{minutesOf};
+ghost use Rattle.recording.specs.Rests.{longRestsAtMost};
 ghost use Rattle.recording.specs.Operations.{totalAtMost};
 ghost use Rattle.rules.specs.Fixed.{rested};
 ghost use Rattle.rules.specs.Operations.{fixedTested};
-ghost use Rattle.rules_fixed.specs.Account.{dayAfter, weekNext, brokenAt, smaller, firstBreak};
-ghost use Rattle.rules_fixed.specs.Nets.{regularNet};
-ghost use Rattle.rules_fixed.specs.Walk.{Bounded, Ran, Surveyed, tested};
+ghost use Rattle.rules_fixed.specs.Account.{dayAfter, weekNext, brokenAt, smaller, firstBreak, accountFrom, opening};
+ghost use Rattle.rules_fixed.specs.Nets.{regularNet, netsIn, Within};
+ghost use Rattle.rules_fixed.specs.Walk.{Bounded, Ran, Surveyed};
+ghost use Rattle.rules_fixed.specs.Tested.{tested};
 ghost use Rattle.rules_fixed.specs.Parts.{drivingOf, inWeek, drivenMore, dayMore, weekMore, partAfter, sameBreaches, Taken};
 
 // The day that runs: its start P, its driving, and how many days that began in its week were extended.
@@ -52,7 +55,7 @@ pub struct Part {
     pub account: Account,
 }
 
-// What one walk finds: the place at its end, with the long rests' count, and the account.
+// What is found of a recording: the place at its end, with the long rests' count, and the account.
 pub struct Survey {
     pub place: Place,
     pub account: Account,
@@ -84,12 +87,12 @@ const FORTNIGHT: u32 = 5400;
 
 const DAY_LENGTH: u32 = 900;
 
-pub const DAILY_WINDOW: u32 = 1440;
+const DAILY_WINDOW: u32 = 1440;
 
-pub const FULL_PORTION: u32 = 660;
+const FULL_PORTION: u32 = 660;
 
 // Rule 1: the driving sum after a rest of n minutes.
-pub fn rested_for(n: u32, d: Driven) -> Driven
+fn rested_for(n: u32, d: Driven) -> Driven
     ensures { λ r. ⌜ r ≡ rested n d ⌝ }
 {
     if FULL_BREAK <= n {
@@ -120,7 +123,7 @@ pub fn rested_for(n: u32, d: Driven) -> Driven
 }
 
 // Rules 2 and 5: the day that runs after a rest of n minutes that ended at a minute, in the week that ends at `end`.
-pub fn day_after(n: u32, minute: u32, end: u32, d: Day) -> Day
+fn day_after(n: u32, minute: u32, end: u32, d: Day) -> Day
     requires { ⌜ d .start ≤ totalAtMost ⌝ }
     ensures { λ r. ⌜ r ≡ dayAfter n minute end d ⌝ }
 {
@@ -142,7 +145,7 @@ pub fn day_after(n: u32, minute: u32, end: u32, d: Day) -> Day
 }
 
 // How many of n minutes of an activity are driving.
-pub fn driving_of(activity: u32, n: u32) -> u32
+fn driving_of(activity: u32, n: u32) -> u32
     ensures { λ r. ⌜ r ≡ drivingOf activity n ⌝ }
 {
     match activity {
@@ -152,7 +155,7 @@ pub fn driving_of(activity: u32, n: u32) -> u32
 }
 
 // Rule 1: the driving sum with k minutes more.
-pub fn driven_more(k: u32, d: Driven) -> Driven
+fn driven_more(k: u32, d: Driven) -> Driven
     requires { ⌜ d .sum + k ≤ totalAtMost ⌝ }
     ensures { λ r. ⌜ r ≡ drivenMore k d ⌝ }
 {
@@ -163,7 +166,7 @@ pub fn driven_more(k: u32, d: Driven) -> Driven
 }
 
 // Rule 2: the day with k minutes of driving more.
-pub fn day_more(k: u32, d: Day) -> Day
+fn day_more(k: u32, d: Day) -> Day
     requires { ⌜ (d .driving + k ≤ totalAtMost) × (d .extended ≤ totalAtMost) ⌝ }
     ensures { λ r. ⌜ r ≡ dayMore k d ⌝ }
 {
@@ -190,7 +193,7 @@ pub fn day_more(k: u32, d: Day) -> Day
 }
 
 // Rules 3 and 4: the week with k minutes of driving more, and the next week where one ends now.
-pub fn week_more(k: u32, w: Week) -> Week
+fn week_more(k: u32, w: Week) -> Week
     requires { ⌜ w .driving + k ≤ totalAtMost ⌝ }
     ensures { λ r. ⌜ r ≡ weekMore k w ⌝ }
 {
@@ -201,7 +204,7 @@ pub fn week_more(k: u32, w: Week) -> Week
     }
 }
 
-pub fn week_next(minute: u32, w: Week) -> Week
+fn week_next(minute: u32, w: Week) -> Week
     requires { ⌜ w .end ≤ totalAtMost + totalAtMost ⌝ }
     ensures { λ r. ⌜ r ≡ weekNext minute w ⌝ }
 {
@@ -216,7 +219,7 @@ pub fn week_next(minute: u32, w: Week) -> Week
 }
 
 // The smallest rule that is broken at the minute that ends now, or 0.
-pub fn broken_at(minute: u32, d: Driven, y: Day, w: Week) -> u32
+fn broken_at(minute: u32, d: Driven, y: Day, w: Week) -> u32
     requires { ⌜ (y .start ≤ totalAtMost) × (w .last ≤ totalAtMost) × (w .driving ≤ totalAtMost) ⌝ }
     ensures { λ r. ⌜ r ≡ brokenAt minute d y w ⌝ }
 {
@@ -258,7 +261,7 @@ pub fn smaller_of(a: u32, b: u32) -> u32
 }
 
 // The first breach, where the minute that ends now breaks the rule b or, with 0, none.
-pub fn first_break(f: Break, minute: u32, b: u32) -> Break
+fn first_break(f: Break, minute: u32, b: u32) -> Break
     ensures { λ r. ⌜ r ≡ firstBreak f minute b ⌝ }
 {
     if f.rule == 0 {
@@ -275,7 +278,7 @@ pub fn first_break(f: Break, minute: u32, b: u32) -> Break
 
 // The account after a part of a run, n minutes of this activity: no week ends before the last, and they are one minute or change
 // nothing that is broken.
-pub fn part_after(s: Account, activity: u32, n: u32) -> Account
+fn part_after(s: Account, activity: u32, n: u32) -> Account
     requires { ⌜ Bounded s × (s .now + n ≤ totalAtMost) ⌝ }
     ensures { λ r. ⌜ r ≡ partAfter s activity n ⌝ }
 {
@@ -315,7 +318,7 @@ pub fn part_after(s: Account, activity: u32, n: u32) -> Account
 }
 
 // Whether two accounts have the same smallest broken rule, and the same first one.
-pub fn same_breaches(s: Account, t: Account) -> bool
+fn same_breaches(s: Account, t: Account) -> bool
     ensures { λ r. ⌜ r ≡ sameBreaches s t ⌝ }
 {
     let a = s.first;
@@ -326,28 +329,18 @@ pub fn same_breaches(s: Account, t: Account) -> bool
     false
 }
 
-// The lesser of two numbers.
-pub fn lesser(a: u32, b: u32) -> u32
-    ensures { λ r. ⌜ r ≡ min a b ⌝ }
-{
-    if a < b {
-        return a;
-    }
-    b
-}
-
 // How many of n minutes after a minute are in the week that ends at `end`, and one where there is none.
-pub fn in_week(minute: u32, end: u32, n: u32) -> u32
+fn in_week(minute: u32, end: u32, n: u32) -> u32
     ensures { λ r. ⌜ r ≡ inWeek minute end n ⌝ }
 {
     if end <= minute {
-        return lesser(n, 1);
+        return recording::lesser(n, 1);
     }
-    lesser(n, end - minute)
+    recording::lesser(n, end - minute)
 }
 
 // The next part of a run of n minutes: those of one week, halved until they change nothing that is broken or one is left.
-pub fn next_part(s: Account, activity: u32, n: u32) -> Part
+fn next_part(s: Account, activity: u32, n: u32) -> Part
     requires { ⌜ Bounded s × (s .now + n ≤ totalAtMost) × (0 < n) ⌝ }
     ensures { λ r. ⌜ Taken s activity n r ⌝ }
 {
@@ -370,7 +363,7 @@ pub fn next_part(s: Account, activity: u32, n: u32) -> Part
 }
 
 // The account after a run of n minutes of one activity.
-pub fn run(s: Account, activity: u32, n: u32) -> Account
+fn run(s: Account, activity: u32, n: u32) -> Account
     requires { ⌜ Bounded s × (s .now + n ≤ totalAtMost) ⌝ }
     ensures { λ r. ⌜ Ran s activity n r ⌝ }
 {
@@ -395,23 +388,11 @@ pub fn regular_net(p: u32, start: u32, end: u32) -> u32
     end - start + 1
 }
 
-// One walk over the first m minutes: the long rests' starts, ends and numbers by rule 9 into the lent slices as far as they
-// reach, the place and the account.
-pub fn survey_of(
-    words: &[u32],
-    m: u32,
-    starts: &mut [u32],
-    ends: &mut [u32],
-    nets: &mut [u32],
-) -> Survey
+// The account of the first m minutes, in one walk over the words.
+fn account_of(words: &[u32], m: u32) -> Account
     requires { ⌜ length (minutesOf (now words)) ≤ totalAtMost ⌝ }
-    ensures { λ r. ⌜ Surveyed (now (words .entry)) m (now (starts .entry)) (now (ends .entry)) (now (nets .entry)) r (now (starts .exit)) (now (ends .exit)) (now (nets .exit)) ⌝ }
+    ensures { λ r. ⌜ r ≡ accountFrom opening (take m (minutesOf (now (words .entry)))) ⌝ }
 {
-    let mut p = Place {
-        now: 0,
-        from: 0,
-        count: 0,
-    };
     let mut s = Account {
         now: 0,
         from: 0,
@@ -437,21 +418,39 @@ pub fn survey_of(
     while i < words.len() {
         let word = words[i];
         i += 1;
-        let activity = word % 4;
-        let minutes = lesser(togo, word / 4);
-        let ended = recording::ends_rest(p, activity, minutes);
-        recording::put_if(starts, ended, p.count, p.from);
-        recording::put_if(ends, ended, p.count, p.now);
-        let day = s.day;
-        recording::put_if(nets, ended, p.count, regular_net(day.start, p.from, p.now));
-        s = run(s, activity, minutes);
-        p = recording::after_run(p, activity, minutes);
+        let minutes = recording::lesser(togo, word / 4);
+        s = run(s, word % 4, minutes);
         togo -= minutes;
     }
-    Survey {
-        place: p,
-        account: s,
+    s
+}
+
+// The number by rule 9 of each of k long rests, from where they start and end.
+fn put_nets(starts: &[u32], ends: &[u32], k: usize, nets: &mut [u32])
+    requires { ⌜ (k ≤ length (now starts)) × (k ≤ length (now ends)) × (k ≤ length (now nets)) × Within k (now starts) (now ends) ⌝ }
+    ensures { λ _. ⌜ now (nets .exit) ≡ sets (now (nets .entry)) 0 (netsIn k 0 (now (starts .entry)) (now (ends .entry))) ⌝ }
+{
+    let mut p = 0;
+    let mut i = 0;
+    while i < k {
+        let start = starts[i];
+        let end = ends[i];
+        nets[i] = regular_net(p, start, end);
+        p = end;
+        i += 1;
     }
+}
+
+// What the rules ask of a recording: its place at the end, the long rests' starts, ends and numbers by rule 9 in the lent slices, and the account.
+pub fn survey_of(words: &[u32], starts: &mut [u32], ends: &mut [u32], nets: &mut [u32]) -> Survey
+    requires { ⌜ (length (minutesOf (now words)) ≤ totalAtMost) × (longRestsAtMost ≤ length (now starts)) × (longRestsAtMost ≤ length (now ends))
+        × (longRestsAtMost ≤ length (now nets)) ⌝ }
+    ensures { λ r. ⌜ Surveyed (now (words .entry)) (now (starts .entry)) (now (ends .entry)) (now (nets .entry)) r (now (starts .exit)) (now (ends .exit)) (now (nets .exit)) ⌝ }
+{
+    let place = recording::scan(words, starts, ends);
+    put_nets(starts, ends, place.count as usize, nets);
+    let account = account_of(words, place.now);
+    Survey { place, account }
 }
 
 // The fixed test for a stretch of m minutes: refusals 1 and 2, then 5; else 0 or the smallest broken rule of 1 to 5.
@@ -465,10 +464,6 @@ pub fn fixed_test(words: &[u32], m: u32) -> Tested
     if measure.total < m {
         return Tested::Refused(5);
     }
-    let mut starts = [0u32; 1];
-    let mut ends = [0u32; 1];
-    let mut nets = [0u32; 1];
-    let found = survey_of(words, m, &mut starts, &mut ends, &mut nets);
-    let account = found.account;
+    let account = account_of(words, m);
     Tested::Answer(account.rule)
 }

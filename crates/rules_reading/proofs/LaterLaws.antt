@@ -1,45 +1,42 @@
 -- What the reading test answers at each return. Assumes nothing.
 use mathlib.Core.Path.{_≡_, refl, sym, ap, ap₂, _∙_}
 use mathlib.Core.Logic.{_⊎_, inl, inr}
-use mathlib.Core.Bool.{Bool, true, false, not}
-use mathlib.Core.List.{List, [], _∷_, _++_, map}
-use Prim.Native.Nat.{ℕ, zero, suc, _+_, _-_, _*_, _≤_, _<_}
-use native.Mathlib.Nat.{le-refl, le-trans}
+use mathlib.Core.Bool.{Bool, true, false}
+use mathlib.Core.List.{List, [], _∷_, map}
+use Prim.Native.Nat.{ℕ, zero, suc, _+_, _*_, _≤_, _<_}
 use native.Mathlib.Omega.{arith}
-use lib.Dec.{leb, ltb, eqb}
-use lib.ListN.{length, getD, take, drop, replicate, length-append, length-replicate, getD-replicate, length-map, List·getD-append, List·getD-map, List·getD-eq-default}
-use lib.Seq.{sets, sets-eq, length-sets, take-all}
+use lib.Dec.{eqb}
+use lib.ListN.{length, getD, replicate, length-replicate, getD-replicate, length-map, List·getD-append, List·getD-eq-default}
+use lib.Seq.{sets, sets-eq, length-sets}
 use borrow.Author.Tests.{eqb-true, eq-eqb, ne-eqb}
-use Rattle.recording.specs.Tests.{_and_, pick, allOf}
-use Rattle.recording.specs.Answers.{refused, answered, refuseIf}
+use Rattle.recording.specs.Tests.{pick, allOf}
+use Rattle.recording.specs.Answers.{refused, answered}
 use Rattle.recording.specs.Words.{minutesOf}
-use Rattle.recording.specs.Rests.{longRestMinutes, lengthOf, judgedEnd, longRests, longRestsAtMost}
+use Rattle.recording.specs.Rests.{judgedEnd, longRests, longRestsAtMost}
 use Rattle.recording.specs.Operations.{totalAtMost, measureOf, measured}
-use Rattle.recording.specs.Scan.{cutAt, origin, writtenFrom}
 use Rattle.recording.specs.declared.Measure.{Measure}
 use Rattle.recording.specs.declared.Span.{Span}
 use Rattle.recording.proofs.TestLaws.{less-or-not}
 use Rattle.recording.proofs.Walks.{judged-within}
 use Rattle.recording.proofs.LongRests.{Ordered, none, next, rests-ordered, few-rests}
-use Rattle.recording.proofs.ByWord.{cut-at}
 use Rattle.recording.proofs.Scanning.{scan-written}
-use Rattle.recording.proofs.Listing.{Measured, measured-is}
+use Rattle.recording.proofs.Listing.{measured-is}
 use Rattle.rules.specs.Broken.{unless, ifNone}
 use Rattle.rules.specs.Fixed.{fixedTest}
 use Rattle.rules.specs.Reading.{Entry, entryBytes, entries}
-use Rattle.rules.specs.ReadingRules.{rule6, rule7, compensated, rule8, rule9From, rule9, inGap, rule10From, rule10, rule11, laterTest, readingTest}
+use Rattle.rules.specs.ReadingRules.{rule6, rule7, rule8, rule9From, rule9, inGap, rule10From, rule10, rule11, laterTest, readingTest}
 use Rattle.rules.specs.Operations.{readingTested}
 use Rattle.rules.specs.Verdict.{lawful}
-use Rattle.rules.proofs.RestWeekLaws.{insideRest, reading-by-rests}
-use Rattle.rules_fixed.specs.Account.{smaller, accountFrom, opening}
+use Rattle.rules.proofs.RestWeekLaws.{reading-by-rests}
+use Rattle.rules_fixed.specs.Account.{smaller}
 use Rattle.rules_fixed.specs.Nets.{regularNet, netsFrom}
 use Rattle.rules_fixed.specs.Walk.{Surveyed}
 use Rattle.rules_fixed.specs.declared.Survey.{Survey}
 use Rattle.rules_fixed.specs.declared.Account.{Account}
 use Rattle.rules_fixed.proofs.AccountRight.{account-right}
-use Rattle.rules_fixed.proofs.NetLaws.{nets-length, nets-at, nets-written}
+use Rattle.rules_fixed.proofs.NetLaws.{nets-length, nets-at}
 use Rattle.rules_reading.specs.declared.Tally.{Tally}
-use Rattle.rules_reading.specs.Items.{endBefore, spanAt, spansFrom, spansIn, Laid, Zeros, testFrom, freshTally, Through, rule11With, restWeeks, zeros, laterBy}
+use Rattle.rules_reading.specs.Items.{endBefore, spansFrom, spansIn, Laid, Zeros, testFrom, Through, rule11With, restWeeks, zeros, laterBy}
 use Rattle.rules_reading.proofs.PairLaws.{rule11-with}
 
 -- ---- rules 8 to 10, then 11
@@ -149,7 +146,7 @@ if-zero zero x e = refl
 if-zero (suc n) x e = absurd (omega arith)
 
 module _ (ws reading : List ℕ) {m : Measure} (q : measured ws ≡ answered m) {r : Survey} {starts ends nets : List ℕ}
-    (v : Surveyed ws (m .total) zeros zeros zeros r starts ends nets) where
+    (v : Surveyed ws zeros zeros zeros r starts ends nets) where
   abbrev ms : List ℕ
   ms = minutesOf ws
 
@@ -158,12 +155,6 @@ module _ (ws reading : List ℕ) {m : Measure} (q : measured ws ≡ answered m) 
 
   pub within : length (minutesOf ws) ≤ totalAtMost
   within = measured-is ws q .within
-
-  whole : take (m .total) (minutesOf ws) ≡ minutesOf ws
-  whole = take-all (m .total) (minutesOf ws) (omega (arith, ap (λ (x : Measure). x .total) is))
-
-  cut-whole : minutesOf (cutAt (m .total) ws) ≡ minutesOf ws
-  cut-whole = cut-at (m .total) ws ∙ whole
 
   few : length (longRests (minutesOf ws)) ≤ longRestsAtMost
   few = few-rests (minutesOf ws) within
@@ -178,13 +169,10 @@ module _ (ws reading : List ℕ) {m : Measure} (q : measured ws ≡ answered m) 
   judged-most = omega (arith, judged-is, judged-within (minutesOf ws), within)
 
   starts-are : starts ≡ sets zeros 0 (map (λ (x : Span). x .start) (longRests (minutesOf ws)))
-  starts-are = v .begun ∙ scan-written (λ x. x .start) (cutAt (m .total) ws) zeros ∙ ap (λ (l : List ℕ). sets zeros 0 (map (λ (x : Span). x .start) (longRests l))) cut-whole
+  starts-are = v .begun ∙ scan-written (λ x. x .start) ws zeros
 
   ends-are : ends ≡ sets zeros 0 (map (λ (x : Span). x .end) (longRests (minutesOf ws)))
-  ends-are = v .ended ∙ scan-written (λ x. x .end) (cutAt (m .total) ws) zeros ∙ ap (λ (l : List ℕ). sets zeros 0 (map (λ (x : Span). x .end) (longRests l))) cut-whole
-
-  nets-are : nets ≡ sets zeros 0 (netsFrom 0 (longRests (minutesOf ws)))
-  nets-are = nets-written ws (m .total) v ∙ ap (λ (l : List ℕ). sets zeros 0 (netsFrom 0 (longRests l))) whole
+  ends-are = v .ended ∙ scan-written (λ x. x .end) ws zeros
 
   start-at : (i : ℕ) → i < length (longRests (minutesOf ws)) → getD starts i 0 ≡ getD (longRests (minutesOf ws)) i nowhere .start
   start-at i h = ap (λ (x : List ℕ). getD x i 0) starts-are ∙ front-at (λ x. x .start) (longRests (minutesOf ws)) i few h ∙ map-at (λ x. x .start) (longRests (minutesOf ws)) i nowhere h
@@ -201,7 +189,7 @@ module _ (ws reading : List ℕ) {m : Measure} (q : measured ws ≡ answered m) 
       let rs = longRests (minutesOf ws) in
       let a : getD starts i 0 ≡ getD (map (λ (x : Span). x .start) rs) i 0 = start-at i h ∙ sym (map-at (λ x. x .start) rs i nowhere h) in
       let b : getD ends i 0 ≡ getD (map (λ (x : Span). x .end) rs) i 0 = end-at i h ∙ sym (map-at (λ x. x .end) rs i nowhere h) in
-      ap (λ (x : List ℕ). getD x i 0) nets-are ∙ first-at (netsFrom 0 rs) i (rw nets-length few) (rw nets-length h) ∙ nets-at 0 rs i h
+      ap (λ (x : List ℕ). getD x i 0) (v .numbered) ∙ first-at (netsFrom 0 rs) i (rw nets-length few) (rw nets-length h) ∙ nets-at 0 rs i h
       ∙ λ t. regularNet (end-before-at i h t) (sym a t) (sym b t)
 
   pub spans-rests : spansIn starts ends (m .count) ≡ longRests (minutesOf ws)
@@ -219,7 +207,7 @@ module _ (ws reading : List ℕ) {m : Measure} (q : measured ws ≡ answered m) 
     few = omega (arith, few, count-is);
     starts-in = omega (arith, few, count-is, sized starts (map (λ (x : Span). x .start) (longRests (minutesOf ws))) starts-are);
     ends-in = omega (arith, few, count-is, sized ends (map (λ (x : Span). x .end) (longRests (minutesOf ws))) ends-are);
-    nets-in = omega (arith, few, count-is, sized nets (netsFrom 0 (longRests (minutesOf ws))) nets-are);
+    nets-in = omega (arith, few, count-is, sized nets (netsFrom 0 (longRests (minutesOf ws))) (v .numbered));
     loads-in = rw length-replicate (omega (arith, few, count-is));
     reading-in = e;
     ordered = λ i h.
@@ -232,7 +220,7 @@ module _ (ws reading : List ℕ) {m : Measure} (q : measured ws ≡ answered m) 
   }
 
   rule-is : r .account .rule ≡ fixedTest (minutesOf ws)
-  rule-is = ap (λ (x : Account). x .rule) (v .account) ∙ account-right (take (m .total) (minutesOf ws)) .rule ∙ ap fixedTest whole
+  rule-is = ap (λ (x : Account). x .rule) (v .account) ∙ account-right (minutesOf ws) .rule
 
   pub test-fixed : length reading ≡ entryBytes * m .count → (r .account .rule ≡ 0 → ⊥) → answered (r .account .rule) ≡ readingTested ws reading
   unfolding readingTested readingTest

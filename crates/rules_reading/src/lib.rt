@@ -15,7 +15,7 @@ ghost use Rattle.rules.specs.Broken.{unless};
 ghost use Rattle.rules.specs.Reading.{isWeekly, isRegular, reductionOf, entries};
 ghost use Rattle.rules.specs.ReadingRules.{formed, rule6, shortened, shortenedAtMost, inGap};
 ghost use Rattle.rules.specs.Operations.{readingTested};
-ghost use Rattle.rules_fixed.specs.Walk.{tested};
+ghost use Rattle.rules_fixed.specs.Tested.{tested};
 ghost use Rattle.rules_reading.specs.Items.{entryBy, endBefore, itemAt, Sane, loadAtMost, Below, restBy, enoughBy, endAt, timeBy, gapBy, shortAfter, tallyBy, paid, bumped, spansIn, Laid};
 ghost use Rattle.rules_reading.specs.Items.{Zeros, Walked, enoughWith, rule11With, restWeeks, spanOf, zeros, laterBy};
 
@@ -83,14 +83,8 @@ const NET_BROKEN: u32 = 7;
 
 const PAIRS_BROKEN: u32 = 11;
 
-fn wide(x: u8) -> u32
-    ensures { λ r. ⌜ r ≡ x ⌝ }
-{
-    x as u32
-}
-
 // Where the long rest before the one of index i ends, or 0.
-pub fn end_before(ends: &[u32], i: usize) -> u32
+fn end_before(ends: &[u32], i: usize) -> u32
     requires { ⌜ i ≤ length (now ends) ⌝ }
     ensures { λ r. ⌜ r ≡ endBefore (now (ends .entry)) i ⌝ }
 {
@@ -121,9 +115,9 @@ fn item_at(
         start: starts[i],
         end: ends[i],
         net: nets[i],
-        kind: wide(reading[at]),
-        week: wide(reading[week]),
-        carrier: wide(reading[carrier]),
+        kind: recording::wide(reading[at]),
+        week: recording::wide(reading[week]),
+        carrier: recording::wide(reading[carrier]),
         load: loads[i],
     }
 }
@@ -606,7 +600,6 @@ pub fn reading_test(words: &[u32], reading: &[u8]) -> Tested
         return Tested::Refused(recording::refusal_of(weighing));
     };
     let count = measure.count as usize;
-    let total = measure.total;
     let judged = measure.judged;
     if reading.len() != rules_entries::ENTRY_BYTES * count {
         return Tested::Refused(rules_entries::BAD_COUNT);
@@ -614,7 +607,7 @@ pub fn reading_test(words: &[u32], reading: &[u8]) -> Tested
     let mut starts = [0u32; recording::LONG_RESTS];
     let mut ends = [0u32; recording::LONG_RESTS];
     let mut nets = [0u32; recording::LONG_RESTS];
-    let found = rules_fixed::survey_of(words, total, &mut starts, &mut ends, &mut nets);
+    let found = rules_fixed::survey_of(words, &mut starts, &mut ends, &mut nets);
     let account = found.account;
     let rule = account.rule;
     if rule != 0 {

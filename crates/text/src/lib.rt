@@ -1,7 +1,7 @@
 // Bracket text: reading it into words, and writing words as text. What is said of it stands in specs/ and in crates/text_lines/specs.
 ghost use mathlib.Core.Path.{_≡_};
 ghost use mathlib.Core.List.{[]};
-ghost use Prim.Native.Nat.{_+_, _≤_, _<_, min};
+ghost use Prim.Native.Nat.{_+_, _≤_, _<_};
 ghost use lib.Dec.{eqb};
 ghost use lib.ListN.{length, set};
 ghost use lib.Seq.{sets};
@@ -166,16 +166,6 @@ fn left_after(left: u32, n: u32) -> u32
     left - n
 }
 
-// The smaller of two numbers.
-fn smaller(a: u32, b: u32) -> u32
-    ensures { λ r. ⌜ r ≡ min a b ⌝ }
-{
-    if a < b {
-        return a;
-    }
-    b
-}
-
 // Whether a word has this activity.
 fn has_activity(word: u32, activity: u32) -> bool
     ensures { λ r. ⌜ r ≡ eqb activity (activityIn word) ⌝ }
@@ -228,7 +218,7 @@ fn put_recording(words: &[u32], text: &mut [u8]) -> usize
             n = ahead.minutes;
             i += ahead.words;
         } else {
-            let part = smaller(n, left);
+            let part = recording::lesser(n, left);
             at = put_part(text, at, left, activity, part);
             left = left_after(left, part);
             n -= part;

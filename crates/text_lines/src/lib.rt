@@ -49,13 +49,6 @@ const WEEKS_AT_MOST: u32 = 12;
 
 const RUN_AT_MOST: u32 = 10080;
 
-// A byte as a wider number.
-fn wide(b: u8) -> u32
-    ensures { λ r. ⌜ r ≡ b ⌝ }
-{
-    b as u32
-}
-
 // How many bytes stand before the first line end.
 fn line_length(text: &[u8]) -> usize
     ensures { λ r. ⌜ r ≡ lineLength (now (text .entry)) ⌝ }
@@ -77,7 +70,7 @@ fn number_in(bytes: &[u8]) -> u32
     let mut value: u32 = 0;
     let mut i = 0;
     while i < bytes.len() {
-        let b = wide(bytes[i]);
+        let b = recording::wide(bytes[i]);
         i += 1;
         if b == 41 {
             if i == bytes.len() {

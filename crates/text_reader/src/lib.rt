@@ -14,14 +14,14 @@ pub struct Reader<'a> {
 
 impl<'a> Reader<'a> {
     // At the text's first line.
-    pub fn new(text: &'a [u8]) -> Reader<'a>
+    fn new(text: &'a [u8]) -> Reader<'a>
         ensures { λ r. ⌜ (r .text ≡ text .entry) × (r .at ≡ 0) ⌝ }
     {
         Reader { text, at: 0 }
     }
 
     // The line at the reader's place is read.
-    pub fn line(self, p: Progress) -> Progress
+    fn line(self, p: Progress) -> Progress
         requires { ⌜ (self .at < length (now (self .text))) × (p .runs ≤ self .at) ⌝ }
         ensures { λ r. ⌜ LineRead (now (self .entry .text)) (self .entry .at) p r ⌝ }
     {
@@ -29,7 +29,7 @@ impl<'a> Reader<'a> {
     }
 
     // The reader at another place of its text.
-    pub fn moved(self, at: usize) -> Reader<'a>
+    fn moved(self, at: usize) -> Reader<'a>
         ensures { λ r. ⌜ (r .text ≡ self .entry .text) × (r .at ≡ at) ⌝ }
     {
         Reader {

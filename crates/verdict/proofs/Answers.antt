@@ -6,7 +6,7 @@ use mathlib.Core.Option.{Option, none, some}
 use Prim.Native.Nat.{ℕ, zero, suc, _*_, _≤_, _<_}
 use native.Mathlib.Omega.{arith}
 use lib.ListN.{length, take, drop, take-append-drop}
-use lib.Seq.{length-take-le, take-length}
+use lib.Seq.{length-take-le}
 use borrow.Author.Tests.{lt-ltb, le-ltb}
 use Rattle.recording.specs.Answers.{Answer, refused, answered, andThen}
 use Rattle.recording.specs.Words.{minutesOf}
@@ -23,9 +23,10 @@ use Rattle.rules.specs.Operations.{judged, Outcome, passed, breached, outcome, 
 use Rattle.rules.proofs.Breach.{first-sound, verdict-pass, some-first}
 use Rattle.verdict_completion.specs.Completable.{Course, Lies}
 use Rattle.verdict_first_reading.specs.First.{Least, restsOnly}
-use Rattle.verdict.specs.Verdicts.{Cut, HasReading, Finding, unbroken, broken, findingOf, found, Whole, WrittenIf}
+use Rattle.verdict.specs.Outcomes.{Finding, unbroken, broken, findingOf, found}
+use Rattle.verdict.specs.Verdicts.{InFront, HasReading, Whole, WrittenIf}
 use Rattle.verdict.specs.declared.Rests.{Rests}
-use Rattle.verdict.proofs.Lawfulness.{to-has, starts-size, ends-size, nets-size, rests-lie, rests-few, judged-low, whole-there, reading-size, first-least-there}
+use Rattle.verdict.proofs.Lawfulness.{to-has, whole-rests, whole-least}
 
 -- a first lawful reading, where the answer says that there is one
 first-is : (ms : List ℕ) → true ≡ not (isNone (firstLawful ms)) → (f : List ℕ) × (firstLawful ms ≡ some f)
@@ -94,40 +95,23 @@ module _ (ws : List ℕ) where
     pub count-few : k .count ≤ longRestsAtMost
     count-few = omega (arith, count-is, few-rests (minutesOf ws) within)
 
-    whole : prefix (k .total) (minutesOf ws) ≡ minutesOf ws
-    whole = ap (λ (n : ℕ). take n (minutesOf ws)) total-is ∙ take-length (minutesOf ws)
-
     found-is : found ws ≡ answered (findingOf (verdict (minutesOf ws)))
     found-is = ap (λ (a : Answer Measure). andThen a (λ _. answered (findingOf (verdict (minutesOf ws))))) q
 
     pub found-told : {f : Finding} → f ≡ findingOf (verdict (minutesOf ws)) → answered f ≡ found ws
     found-told e = ap answered e ∙ sym found-is
 
--- the long rests of the whole, as one walk leaves them in three slices
-module _ {ws : List ℕ} {k : Measure} {r : Rests} {starts ends nets : List ℕ} (cut : Cut ws (k .total) r starts ends nets) (q : measured ws ≡ answered k) where
-  abbrev lentRests : Course
-  lentRests = restsOnly (take (r .count) starts) (take (r .count) ends) (take (r .count) nets) (r .judged)
-
-  pub starts-there : r .count ≡ length (take (r .count) starts)
-  starts-there = starts-size ws (k .total) (within ws q) cut
-
-  pub ends-there : r .count ≡ length (take (r .count) ends)
-  ends-there = ends-size ws (k .total) (within ws q) cut
-
-  pub nets-there : r .count ≡ length (take (r .count) nets)
-  nets-there = nets-size ws (k .total) (within ws q) cut
-
+-- the long rests of the whole in front of three slices
+module _ {ws : List ℕ} {k : Measure} {r : Rests} {starts ends nets : List ℕ} (rests : InFront ws r starts ends nets) (q : measured ws ≡ answered k) where
   pub ruling-there : (length (minutesOf ws) ≤ totalAtMost) × (k .total ≡ length (minutesOf ws)) × Whole (minutesOf ws) (take (r .count) starts) (take (r .count) ends) (take (r .count) nets) r
-  ruling-there = (within ws q, total-is ws q, whole-there ws (k .total) (within ws q) cut (total-is ws q))
+  ruling-there = (within ws q, total-is ws q, rests .whole)
 
-  pub rests-there : Lies lentRests × (length (take (r .count) starts) ≤ longRestsAtMost) × (r .judged ≤ totalAtMost)
-  rests-there = (rests-lie ws (k .total) (within ws q) cut, rests-few ws (k .total) (within ws q) cut, judged-low ws (k .total) (within ws q) cut)
+  pub rests-there : Lies (restsOnly (take (r .count) starts) (take (r .count) ends) (take (r .count) nets) (r .judged)) × (length (take (r .count) starts) ≤ longRestsAtMost)
+      × (r .judged ≤ totalAtMost)
+  rests-there = whole-rests (rests .whole) (within ws q)
 
-  pub size-there : {n : ℕ} → n ≡ readingSize (minutesOf ws) → n ≡ entryBytes * length (take (r .count) starts)
-  size-there = reading-size ws (k .total) (within ws q) cut (total-is ws q)
-
-  pub least-there : {f : List ℕ} → firstLawful (minutesOf ws) ≡ some f → Least lentRests f
-  least-there = first-least-there ws (k .total) (within ws q) cut (total-is ws q)
+  pub least-there : {f : List ℕ} → firstLawful (minutesOf ws) ≡ some f → Least (restsOnly (take (r .count) starts) (take (r .count) ends) (take (r .count) nets) (r .judged)) f
+  least-there = whole-least (rests .whole) (within ws q)
 
 -- ---- the verdict and its buffer
 module _ (ws old : List ℕ) where

@@ -18,7 +18,8 @@ use Rattle.recording.proofs.TestLaws.{less-or-not}
 use Rattle.rules_reading.specs.Items.{spansFrom}
 use Rattle.verdict_completion.specs.States.{advance}
 use Rattle.verdict_completion.specs.Runs.{Runs}
-use Rattle.verdict.specs.Verdicts.{HasKept, HasReading, Bound, broken, findingOf, firstRests, dayStart, DayReadable, LastDay, restsAlone}
+use Rattle.verdict.specs.Outcomes.{broken, findingOf}
+use Rattle.verdict.specs.Verdicts.{HasKept, HasReading, Bound, firstRests, dayStart, DayReadable, LastDay, restsAlone}
 use Rattle.verdict.proofs.Lawfulness.{fixed-first, from-has}
 
 -- no rests, at the beginning: the empty reading keeps the rules

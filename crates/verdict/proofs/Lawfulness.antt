@@ -3,10 +3,9 @@ use mathlib.Core.Path.{_≡_, refl, sym, ap, subst, _∙_}
 use mathlib.Core.Bool.{Bool, true, false, not}
 use mathlib.Core.List.{List, [], map}
 use mathlib.Core.Option.{Option, some}
-use Prim.Native.Nat.{ℕ, zero, suc, _+_, _*_, _≤_, _<_, min, zero-le}
+use Prim.Native.Nat.{ℕ, zero, suc, _+_, _*_, _≤_, _<_, zero-le}
 use native.Mathlib.Omega.{arith}
-use lib.ListN.{length, getD, take, length-map, length-take}
-use lib.Seq.{take-length}
+use lib.ListN.{length, getD, take, length-map}
 use borrow.Author.Tests.{eqb-true, eq-eqb}
 use Rattle.recording.specs.Words.{minutesOf}
 use Rattle.recording.specs.Rests.{judgedEnd, longRests, longRestsAtMost}
@@ -19,7 +18,7 @@ use Rattle.rules.specs.Fixed.{fixedTest}
 use Rattle.rules.specs.Reading.{entryBytes, readingSize, compensationOf, entries}
 use Rattle.rules.specs.ReadingRules.{readingTest}
 use Rattle.rules.specs.Order.{Bytes}
-use Rattle.rules.specs.Verdict.{lawful, prefix, isNone, firstLawful}
+use Rattle.rules.specs.Verdict.{lawful, isNone, firstLawful}
 use Rattle.rules.proofs.RestWeekLaws.{reading-by-rests}
 use Rattle.rules.proofs.Breach.{HasLawful, first-sound, first-least, is-none, some-first}
 use Rattle.rules_reading.specs.Items.{endBefore, spansFrom, spansIn, restWeeks, Zeros}
@@ -33,8 +32,7 @@ use Rattle.verdict_search.specs.Search.{Found, courseOf, Sound, Lent}
 use Rattle.rules_fixed.specs.Nets.{regularNet, netsFrom}
 use Rattle.rules_fixed.proofs.NetLaws.{nets-length, nets-at}
 use Rattle.verdict_first_reading.specs.First.{KeptBy, Least, restsOnly}
-use Rattle.rules_fixed.specs.Account.{accountFrom, opening}
-use Rattle.verdict.specs.Verdicts.{Cut, HasKept, Some, ByRule, HasReading, Readable, AllRests, Whole, restsAlone}
+use Rattle.verdict.specs.Verdicts.{InFront, HasKept, Some, ByRule, HasReading, Readable, AllRests, Whole, restsAlone}
 use Rattle.verdict.proofs.Days.{lies-later}
 use Rattle.verdict.specs.declared.Rests.{Rests}
 
@@ -232,73 +230,20 @@ pub by-fixed : (ms : List ℕ) (rule : ℕ) {t : Bool} → fixedTest ms ≡ rule
 by-fixed ms zero e a = has-it ms (readable ms (a .unfixed refl)) e
 by-fixed ms (suc n) e a = a .fixed (λ z. omega arith) ∙ has-none ms (λ z. omega arith)
 
--- ---- the rests of a stretch, as one walk leaves them in two slices
-module _ (ws : List ℕ) (m : ℕ) (within : length (minutesOf ws) ≤ totalAtMost) {r : Rests} {starts ends nets : List ℕ} (q : Cut ws m r starts ends nets) where
-  abbrev stretch : List ℕ
-  stretch = prefix m (minutesOf ws)
-
-  abbrev lentRests : Course
-  lentRests = restsOnly (take (r .count) starts) (take (r .count) ends) (take (r .count) nets) (r .judged)
-
-  course-is : lentRests ≡ numberedIn (prefix m (minutesOf ws))
-  course-is = λ i. restsOnly (q .begun i) (q .ended i) (q .numbered i) (q .judged i)
-
-  alone-is : restsAlone (take (r .count) starts) (take (r .count) ends) (r .judged) ≡ restsIn (prefix m (minutesOf ws))
-  alone-is = λ i. restsAlone (q .begun i) (q .ended i) (q .judged i)
-
+-- ---- the long rests of a recording in front of three slices
+module _ {ws : List ℕ} {r : Rests} {starts ends nets : List ℕ} (q : InFront ws r starts ends nets) where
   pub starts-size : r .count ≡ length (take (r .count) starts)
-  starts-size = q .count ∙ sym (length-map (longRests stretch) (λ (x : Span). x .start)) ∙ sym (ap length (q .begun))
+  starts-size = q .count ∙ sym (length-map (longRests (minutesOf ws)) (λ (x : Span). x .start)) ∙ sym (ap length (q .whole .rests .begun))
 
   pub ends-size : r .count ≡ length (take (r .count) ends)
-  ends-size = q .count ∙ sym (length-map (longRests stretch) (λ (x : Span). x .end)) ∙ sym (ap length (q .ended))
+  ends-size = q .count ∙ sym (length-map (longRests (minutesOf ws)) (λ (x : Span). x .end)) ∙ sym (ap length (q .whole .rests .ended))
 
   pub nets-size : r .count ≡ length (take (r .count) nets)
-  nets-size = q .count ∙ sym (nets-length 0 (longRests stretch)) ∙ sym (ap length (q .numbered))
+  nets-size = q .count ∙ sym (nets-length 0 (longRests (minutesOf ws))) ∙ sym (ap length (q .whole .rests .numbered))
 
-  pub rests-lie : Lies lentRests
-  rests-lie = subst Lies (sym course-is) (lies-in stretch)
-
-  pub rests-few : length (take (r .count) starts) ≤ longRestsAtMost
-  rests-few = omega (arith, q .few, starts-size)
-
-  pub judged-low : r .judged ≤ totalAtMost
-  judged-low =
-      let e : length (take m (minutesOf ws)) ≡ min m (length (minutesOf ws)) = length-take m (minutesOf ws) in
-      omega (arith, q .judged, judged-within stretch, e, within)
-
-  pub lawful-there : {t : Bool} → ByRule (restsAlone (take (r .count) starts) (take (r .count) ends) (r .judged)) (r .rule) t → t ≡ not (isNone (firstLawful stretch))
-  lawful-there {t} a = by-fixed stretch (r .rule) (sym (q .fixed)) (subst (λ (c : Course). ByRule c (r .rule) t) alone-is a)
-
-  pub stretch-least : {f : List ℕ} → firstLawful stretch ≡ some f → Least lentRests f
-  stretch-least {f} e = subst (λ (c : Course). Least c f) (sym course-is) (least stretch e)
-
-  -- where the stretch is the whole
-  module _ (e : m ≡ length (minutesOf ws)) where
-    whole : stretch ≡ minutesOf ws
-    whole = ap (λ (n : ℕ). take n (minutesOf ws)) e ∙ take-length (minutesOf ws)
-
-    all-rests : AllRests (minutesOf ws) (take (r .count) starts) (take (r .count) ends) (take (r .count) nets)
-    all-rests = record {
-      begun = q .begun ∙ ap (λ (l : List ℕ). map (λ (x : Span). x .start) (longRests l)) whole;
-      ended = q .ended ∙ ap (λ (l : List ℕ). map (λ (x : Span). x .end) (longRests l)) whole;
-      numbered = q .numbered ∙ ap (λ (l : List ℕ). netsFrom 0 (longRests l)) whole;
-    }
-
-    pub whole-there : Whole (minutesOf ws) (take (r .count) starts) (take (r .count) ends) (take (r .count) nets) r
-    whole-there = record {
-      rests = all-rests;
-      judged = q .judged ∙ ap judgedEnd whole;
-      fixed = q .fixed ∙ ap fixedTest whole;
-      first = q .first ∙ ap (λ (l : List ℕ). accountFrom opening l .first) whole;
-    }
-
-    pub reading-size : {n : ℕ} → n ≡ readingSize (minutesOf ws) → n ≡ entryBytes * length (take (r .count) starts)
-    unfolding readingSize
-    reading-size h =
-        h ∙ ap (λ (n : ℕ). entryBytes * n) (sym (ap (λ (l : List ℕ). length (longRests l)) whole) ∙ sym (q .count) ∙ starts-size)
-
-    pub first-least-there : {f : List ℕ} → firstLawful (minutesOf ws) ≡ some f → Least lentRests f
-    first-least-there h = stretch-least (ap firstLawful whole ∙ h)
+  pub reading-there : {n : ℕ} → n ≡ readingSize (minutesOf ws) → n ≡ entryBytes * length (take (r .count) starts)
+  unfolding readingSize
+  reading-there h = h ∙ ap (λ (n : ℕ). entryBytes * n) (sym (q .count) ∙ starts-size)
 
 -- ---- the long rests of the whole, in three lists
 module _ {ms starts ends nets : List ℕ} (q : AllRests ms starts ends nets) (within : length ms ≤ totalAtMost) where
@@ -323,3 +268,6 @@ module _ {ms starts ends nets : List ℕ} {r : Rests} (q : Whole ms starts ends 
   whole-lawful {t} a =
       by-fixed ms (r .rule) (sym (q .fixed))
       (subst (λ (c : Course). ByRule c (r .rule) t) (λ i. restsAlone (q .rests .begun i) (q .rests .ended i) (q .judged i)) a)
+
+  pub whole-least : {f : List ℕ} → firstLawful ms ≡ some f → Least (restsOnly starts ends nets (r .judged)) f
+  whole-least {f} e = subst (λ (c : Course). Least c f) (sym (course-there (q .rests) within (r .judged) (q .judged))) (least ms e)

@@ -1,5 +1,5 @@
 pub mod JudgedEnds
-pub mod Stretches
+pub mod Slices
 pub mod Lawfulness
 pub mod Cuts
 pub mod Least

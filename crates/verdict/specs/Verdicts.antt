@@ -6,53 +6,25 @@ use mathlib.Core.Bool.{Bool, true, false}
 use mathlib.Core.List.{List, [], map}
 use Prim.Native.Nat.{ℕ, zero, suc, _+_, _-_, _*_, _≤_, _<_}
 use lib.ListN.{length, getD, take}
-use Rattle.recording.specs.Answers.{Answer, refused, answered, andThen}
 use Rattle.recording.specs.Words.{rest, minutesOf}
 use Rattle.recording.specs.Rests.{judgedEnd, longRests, longRestsAtMost}
 use Rattle.recording.specs.Weeks.{weekStart, weekOf}
-use Rattle.recording.specs.Operations.{measured}
 use Rattle.recording.specs.declared.Span.{Span}
 use Rattle.rules.specs.Fixed.{fixedTest}
 use Rattle.rules_fixed.specs.Account.{accountFrom, opening}
-use Rattle.rules.specs.Verdict.{lawful, prefix, Verdict, pass, breach, verdict}
-use Rattle.rules.specs.Operations.{Outcome, passed, breached}
+use Rattle.rules.specs.Verdict.{lawful, prefix}
 use Rattle.rules.specs.Order.{Bytes}
 use Rattle.rules.specs.Reading.{entryBytes, readingSize}
 use Rattle.rules.specs.ReadingRules.{weeklyGap}
 use Rattle.verdict_completion.specs.Completable.{Course, at, count}
 use Rattle.rules_fixed.specs.Nets.{netsFrom}
 use Rattle.verdict_first_reading.specs.First.{KeptBy, Least, restsOnly}
-use Rattle.verdict.specs.declared.Judgement.{Judgement}
-use Rattle.verdict.specs.declared.Judgement.the-variants as judgement
-use Rattle.verdict.specs.declared.Outcome.{Outcome as Told}
-use Rattle.verdict.specs.declared.Outcome.the-variants as told
+use Rattle.verdict.specs.Outcomes.{Finding, unbroken, broken}
 use Rattle.verdict.specs.declared.Rests.{Rests}
 use Rattle.verdict.specs.declared.Ruling.{Ruling}
 use Rattle.verdict.specs.declared.Ruling.the-variants as ruling
 
--- the paper's number and values of each case
-abbrev pub outcomeBy : Told → Answer Outcome
-outcomeBy (told.Refused n) = refused n
-outcomeBy (told.Passed n) = answered (passed n)
-outcomeBy (told.Breached b) = answered (breached (b .minute) (b .article))
-
--- ---- the verdict with no reading: pass, or breach with its minute and article
-pub data Finding : Type 0 where
-  unbroken : Finding
-  broken : ℕ → ℕ → Finding
-
-abbrev pub findingOf : Verdict → Finding
-findingOf (pass reading) = unbroken
-findingOf (breach m a) = broken m a
-
-abbrev pub found : List ℕ → Answer Finding
-found words = andThen (measured words) (λ _. answered (findingOf (verdict (minutesOf words))))
-
-abbrev pub findingBy : Judgement → Answer Finding
-findingBy (judgement.Refused n) = refused n
-findingBy judgement.Pass = answered unbroken
-findingBy (judgement.Breached b) = answered (broken (b .minute) (b .article))
-
+-- ---- what a ruling says
 abbrev pub findingIn : Ruling → Finding
 findingIn ruling.Lawful = unbroken
 findingIn (ruling.Unlawful b) = broken (b .minute) (b .article)
@@ -65,17 +37,6 @@ isUnbroken (broken m a) = false
 pub record WrittenIf (wanted : Bool) (c : Course) (old new : List ℕ) : Type 0 where
   pub written : wanted ≡ true → (f : List ℕ) → Least c f → new ≡ f
   pub left : wanted ≡ false → new ≡ old
-
--- ---- the long rests of the first m minutes, in three slices, with their count, S, the smallest broken fixed rule and the first breach
-pub record Cut (words : List ℕ) (m : ℕ) (r : Rests) (starts ends nets : List ℕ) : Type 0 where
-  pub count : r .count ≡ length (longRests (prefix m (minutesOf words)))
-  pub judged : r .judged ≡ judgedEnd (prefix m (minutesOf words))
-  pub few : r .count ≤ longRestsAtMost
-  pub begun : take (r .count) starts ≡ map (λ (s : Span). s .start) (longRests (prefix m (minutesOf words)))
-  pub ended : take (r .count) ends ≡ map (λ (s : Span). s .end) (longRests (prefix m (minutesOf words)))
-  pub numbered : take (r .count) nets ≡ netsFrom 0 (longRests (prefix m (minutesOf words)))
-  pub fixed : r .rule ≡ fixedTest (prefix m (minutesOf words))
-  pub first : r .first ≡ accountFrom opening (prefix m (minutesOf words)) .first
 
 -- ---- a reading of long rests that keeps rules 6 to 11, and whether there is one; the numbers of the rests have no part in it
 abbrev pub restsAlone : List ℕ → List ℕ → ℕ → Course
@@ -138,6 +99,12 @@ pub record Whole (ms starts ends nets : List ℕ) (r : Rests) : Type 0 where
   pub judged : r .judged ≡ judgedEnd ms
   pub fixed : r .rule ≡ fixedTest ms
   pub first : r .first ≡ accountFrom opening ms .first
+
+-- the same in front of three slices, with their count
+pub record InFront (words : List ℕ) (r : Rests) (starts ends nets : List ℕ) : Type 0 where
+  pub count : r .count ≡ length (longRests (minutesOf words))
+  pub few : r .count ≤ longRestsAtMost
+  pub whole : Whole (minutesOf words) (take (r .count) starts) (take (r .count) ends) (take (r .count) nets) r
 
 -- the first n of them, where S is s
 abbrev pub firstRests : List ℕ → List ℕ → ℕ → ℕ → Course

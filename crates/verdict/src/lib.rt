@@ -4,8 +4,6 @@ use recording::Weighing;
 use rules_fixed::Break;
 use verdict_sweep::Swept;
 ghost use mathlib.Core.Path.{_≡_};
-ghost use mathlib.Core.Bool.{not};
-ghost use mathlib.Core.Option.{some};
 ghost use Prim.Native.Nat.{ℕ, _+_, _*_, _≤_, _<_};
 ghost use lib.ListN.{length};
 ghost use Rattle.recording.specs.Words.{minutesOf};
@@ -18,7 +16,8 @@ ghost use Rattle.rules.specs.Operations.{judged, outcome, readingAfter};
 ghost use Rattle.rules.specs.Reading.{entryBytes};
 ghost use Rattle.verdict_completion.specs.Completable.{at, count, Lies};
 ghost use Rattle.verdict_first_reading.specs.First.{restsOnly};
-ghost use Rattle.verdict.specs.Verdicts.{outcomeBy, broken, findingOf, found, findingBy, findingIn, Cut, Some, ByRule, HasReading, Bound, AllRests, Whole, dayStart, DayReadable};
+ghost use Rattle.verdict.specs.Outcomes.{outcomeBy, broken, findingOf, found, findingBy};
+ghost use Rattle.verdict.specs.Verdicts.{findingIn, InFront, Some, ByRule, HasReading, Bound, AllRests, Whole, dayStart, DayReadable};
 ghost use Rattle.verdict.specs.Verdicts.{LastDay, DayTop, restsAlone, Sooner, NextDemand, FirstWithout, laterOf, NextActive, isUnbroken, WrittenIf};
 
 // A breach: the length of the shortest stretch without a lawful reading, and its article, 1 to 6.
@@ -47,7 +46,7 @@ pub enum Ruling {
     Unlawful(Breach),
 }
 
-// The long rests of a stretch: how many, its judged end, the smallest fixed rule that it breaks, or 0, and the first such breach.
+// The long rests of a recording: how many, its judged end, the smallest fixed rule that it breaks, or 0, and the first such breach.
 pub struct Rests {
     pub count: usize,
     pub judged: u32,
@@ -80,13 +79,13 @@ const MANY_STATES: usize = 256 * verdict_nogoods::ENTRY_WORDS;
 // Any number of long rests.
 const MOST_STATES: usize = 1024 * verdict_nogoods::ENTRY_WORDS;
 
-// The long rests of the first m minutes into three slices: where each starts and ends, and its number.
-fn rests_of(words: &[u32], m: u32, starts: &mut [u32], ends: &mut [u32], nets: &mut [u32]) -> Rests
+// The long rests of a recording into three slices: where each starts and ends, and its number.
+fn rests_of(words: &[u32], starts: &mut [u32], ends: &mut [u32], nets: &mut [u32]) -> Rests
     requires { ⌜ (length (minutesOf (now words)) ≤ totalAtMost) × (longRestsAtMost ≤ length (now starts)) × (longRestsAtMost ≤ length (now ends))
         × (longRestsAtMost ≤ length (now nets)) ⌝ }
-    ensures { λ r. ⌜ Cut (now (words .entry)) m r (now (starts .exit)) (now (ends .exit)) (now (nets .exit)) ⌝ }
+    ensures { λ r. ⌜ InFront (now (words .entry)) r (now (starts .exit)) (now (ends .exit)) (now (nets .exit)) ⌝ }
 {
-    let found = rules_fixed::survey_of(words, m, starts, ends, nets);
+    let found = rules_fixed::survey_of(words, starts, ends, nets);
     let place = found.place;
     let account = found.account;
     let first = account.first;
@@ -576,7 +575,7 @@ pub fn verdict_within(
     let mut starts = [0u32; recording::LONG_RESTS];
     let mut ends = [0u32; recording::LONG_RESTS];
     let mut nets = [0u32; recording::LONG_RESTS];
-    let whole = rests_of(words, total, &mut starts, &mut ends, &mut nets);
+    let whole = rests_of(words, &mut starts, &mut ends, &mut nets);
     let k = whole.count;
     let ruling = ruling_of(
         words,
@@ -732,7 +731,7 @@ pub fn judge(words: &[u32]) -> Judgement
     let mut starts = [0u32; recording::LONG_RESTS];
     let mut ends = [0u32; recording::LONG_RESTS];
     let mut nets = [0u32; recording::LONG_RESTS];
-    let rests = rests_of(words, total, &mut starts, &mut ends, &mut nets);
+    let rests = rests_of(words, &mut starts, &mut ends, &mut nets);
     let k = rests.count;
     let mut nogoods = [0u32; verdict_nogoods::TABLE_WORDS];
     let mut front = [0u32; MOST_STATES];

@@ -396,11 +396,6 @@ module _ (c : Course) (lies : Lies c) where
             (set-left (c .judged) j 0 (debts-self (c .judged) owed) (none refl)) (h .then)));
       }
 
-  pub regular-instead : (n j : ℕ) (here : State) (load : ℕ) (owed : List ℕ) → n + suc j ≡ count c → AtRest c j here → regularMinutes + load ≤ lengthAt c j
-      → ReadDaily c (Completable c n (suc j)) j here load owed → ReadWeekly c (Completable c n (suc j)) j here load owed
-  regular-instead n j here load owed e r fits h =
-      regular-by (Completable c n (suc j)) (λ x y o p. completable-mono n (suc j) x y o p e) j here load owed r fits h
-
   -- a debt that is due after S needs nothing
   module _ (n j : ℕ) (st : State) (owed : List ℕ) (i d : ℕ) (e : n + j ≡ count c) (after : c .judged < dueOf d) where
     pub forget : Completable c n j st (set owed i d) → Completable c n j st (set owed i 0)

@@ -51,7 +51,7 @@ fn debts_within(a: &[u32], p: usize, b: &[u32], q: usize) -> bool
 }
 
 // The entry at p of a is at least as good as the entry at q of b. One with more debts is not; that is seen first.
-pub fn beats(a: &[u32], p: usize, b: &[u32], q: usize) -> bool
+fn beats(a: &[u32], p: usize, b: &[u32], q: usize) -> bool
     requires { ⌜ (p + entryWords ≤ length (now a)) × (q + entryWords ≤ length (now b)) ⌝ }
     ensures { λ r. ⌜ (r ≡ true → Beats (now (a .entry)) p (now (b .entry)) q) ⌝ }
 {

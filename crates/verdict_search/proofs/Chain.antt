@@ -350,19 +350,6 @@ module _ (c : Course) (j : ℕ) (t : List ℕ) where
       back h (inl m) = inl (record { entry = h .entry; below = m; can = h .can })
       back h (inr m) = let q : h .entry ≡ e = omega (arith, h .below) in inr (subst (λ (x : ℕ). Can c j t (entryAt x)) q (h .can))
 
--- an entry that the next rest comes in time for, and that has no debt overdue there, can do what the question asks from that rest on
-module _ (c : Course) (lies : Lies c) (j : ℕ) (t : List ℕ) (p : ℕ) where
-  pub can-completable : j < count c → at (c .starts) j ≤ at t p + weeklyGap → (Overdue (owedIn t p (count c)) (at (c .ends) j) → ⊥)
-      → Equal (Can c j t p) (Completable c (count c - j) j (stateIn t p (weekOf (at (c .starts) j))) (owedIn t p (count c)))
-  unfolding advance
-  can-completable l near due = goes-on c lies j (stateIn t p (weekOf (at (c .starts) j))) (owedIn t p (count c)) (stateIn t p (weekOf (at (c .starts) j))) l near due there refl
-    where
-      none : weekOf (at (c .starts) j) - weekOf (at (c .starts) j) ≡ 0
-      none = omega arith
-
-      there : To (stateIn t p (weekOf (at (c .starts) j))) ≡ advance (restWeek c) (weekOf (at (c .starts) j) - weekOf (at (c .starts) j)) (stateIn t p (weekOf (at (c .starts) j)))
-      there = subst (λ (n : ℕ). To (stateIn t p (weekOf (at (c .starts) j))) ≡ advance (restWeek c) n (stateIn t p (weekOf (at (c .starts) j)))) (sym none) refl
-
 -- ---- a rest read as of a kind
 module _ (c : Course) (K : State → List ℕ → Type 0) (j : ℕ) (here : State) (load : ℕ) {kind : Kind} (o : List ℕ) where
   pub read-daily : kind ≡ Daily → Equal (ReadAs c K j here load kind o) (ReadDaily c K j here load o)

@@ -107,7 +107,7 @@ pub fn best_state(start: u32) -> State
 }
 
 // Rule 11 of the week before and the week reached.
-pub fn pair_kept(st: State) -> bool
+fn pair_kept(st: State) -> bool
     requires { ⌜ Small st ⌝ }
     ensures { λ r. ⌜ r ≡ pairKept st ⌝ }
 {
@@ -123,7 +123,7 @@ pub fn pair_kept(st: State) -> bool
 }
 
 // The state in the next week, of rest minutes only or not.
-pub fn next_week(st: State, rest: bool) -> State
+fn next_week(st: State, rest: bool) -> State
     requires { ⌜ st .week < 255 ⌝ }
     ensures { λ r. ⌜ r ≡ nextWeek rest st ⌝ }
 {
@@ -150,7 +150,7 @@ fn in_rest(starts: &[u32], ends: &[u32], j: usize, w: u32) -> bool
 }
 
 // Whether the week w, between the starts of the long rests before j and of j, is one of rest minutes only.
-pub fn rest_near(starts: &[u32], ends: &[u32], j: usize, w: u32) -> bool
+fn rest_near(starts: &[u32], ends: &[u32], j: usize, w: u32) -> bool
     requires { ⌜ Ordered (now starts) (now ends) × (j ≤ length (now starts)) × (w < 255) × (0 < j → weekOf (at (now starts) (j - 1)) < w)
         × (j < length (now starts) → w ≤ weekOf (at (now starts) j)) ⌝ }
     ensures { λ r. ⌜ r ≡ restWeeks (spansIn (now (starts .entry)) (now (ends .entry)) (length (now (starts .entry)))) w ⌝ }
@@ -246,7 +246,7 @@ pub fn overdue(owed: &[u32], n: usize, t: u32) -> bool
 }
 
 // Whether there is a debt that fits into a rest of so many minutes, beside a load and what the rest needs itself.
-pub fn payable(debt: u32, load: u32, minutes: u32) -> bool
+fn payable(debt: u32, load: u32, minutes: u32) -> bool
     requires { ⌜ load ≤ loadAtMost ⌝ }
     ensures { λ r. ⌜ Says (Fits debt load minutes) r ⌝ }
 {

@@ -20,15 +20,6 @@ mod library {
             list_count: usize,
         ) -> u64;
 
-        pub fn desk_list_rests(
-            words: *const u32,
-            words_count: usize,
-            starts: *mut u32,
-            starts_count: usize,
-            ends: *mut u32,
-            ends_count: usize,
-        ) -> u64;
-
         pub fn desk_fixed_test(words: *const u32, words_count: usize, m: u32) -> u64;
 
         pub fn desk_reading_test(
@@ -71,19 +62,6 @@ pub fn weigh(words: &[u32]) -> u64 {
 
 pub fn list_long_rests(words: &[u32], list: &mut [Span]) -> u64 {
     unsafe { library::desk_list(words.as_ptr(), words.len(), list.as_mut_ptr(), list.len()) }
-}
-
-pub fn list_rests(words: &[u32], starts: &mut [u32], ends: &mut [u32]) -> u64 {
-    unsafe {
-        library::desk_list_rests(
-            words.as_ptr(),
-            words.len(),
-            starts.as_mut_ptr(),
-            starts.len(),
-            ends.as_mut_ptr(),
-            ends.len(),
-        )
-    }
 }
 
 pub fn fixed_test(words: &[u32], m: u32) -> u64 {

@@ -148,11 +148,6 @@ pub fn list_long_rests(words: &[u32], list: &mut [Span]) -> Result<usize, Refusa
     count(calls::list_long_rests(words, list))
 }
 
-/// The starts and the ends of the long rests, and their count.
-pub fn list_rests(words: &[u32], starts: &mut [u32], ends: &mut [u32]) -> Result<usize, Refusal> {
-    count(calls::list_rests(words, starts, ends))
-}
-
 /// The smallest of rules 1 to 5 that the first m minutes break, or 0.
 pub fn fixed_test(words: &[u32], m: u32) -> Result<u8, Refusal> {
     rule(calls::fixed_test(words, m))

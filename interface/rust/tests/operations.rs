@@ -1,7 +1,7 @@
 //! Every operation on small inputs: answers, refusals, and what a buffer holds.
 
 use hours_desk::{
-    entry, entry_refusal, fixed_test, list_long_rests, list_rests, read_text, reading_test,
+    entry, entry_refusal, fixed_test, list_long_rests, read_text, reading_test,
     verdict, weigh, write_text, Measure, Refusal, Span, Verdict,
 };
 
@@ -45,18 +45,6 @@ fn listing() {
     assert_eq!(refused, Err(Refusal::TotalPassed));
     assert_eq!(list, [record(7, 8)]);
     assert_eq!(list_long_rests(&[], &mut []), Ok(0));
-}
-
-#[test]
-fn listing_into_two_slices() {
-    let (mut starts, mut ends) = ([7; 3], [8; 2]);
-    assert_eq!(list_rests(&WORDS, &mut starts, &mut ends), Ok(2));
-    assert_eq!((starts, ends), ([240, 960, 7], [900, 3_660]));
-    let (mut starts, mut ends) = ([7; 1], [8; 2]);
-    let refused = list_rests(&WORDS, &mut starts, &mut ends);
-    assert_eq!(refused, Err(Refusal::ListTooShort));
-    assert_eq!((starts, ends), ([7], [8, 8]));
-    assert_eq!(list_rests(&[], &mut [], &mut []), Ok(0));
 }
 
 #[test]

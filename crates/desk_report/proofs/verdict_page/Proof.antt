@@ -1,7 +1,7 @@
 -- `desk_report::verdict_page` meets its contract. Assumes nothing.
 use native.Mathlib.Omega.{arith}
 use mathlib.Core.Path.{sym, ap, _∙_}
-use Rattle.verdict.specs.Verdicts.{outcomeBy}
+use Rattle.verdict.specs.Outcomes.{outcomeBy}
 use Rattle.desk_report.specs.Composing.{readingRoom}
 use Rattle.desk_report.proofs.Answered.{refused-text, passed-text, breached-text}
 use borrow.Author.Needs.{needs}

@@ -1,7 +1,7 @@
 -- `interface::outcome_code` meets its contract. Assumes nothing.
 use mathlib.Core.Path.{sym, ap}
 use borrow.Author.Needs.{needs}
-use Rattle.verdict.specs.Verdicts.{outcomeBy}
+use Rattle.verdict.specs.Outcomes.{outcomeBy}
 use Rattle.interface.specs.Codes.{codeOf, outcomeValue}
 use Rattle.interface.proofs.outcome_code.Statement.{statement}
 use Rattle.interface.proofs.outcome_code.Tie as tie

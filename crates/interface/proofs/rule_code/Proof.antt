@@ -1,7 +1,7 @@
 -- `interface::rule_code` meets its contract. Assumes nothing.
 use mathlib.Core.Path.{sym, ap}
 use borrow.Author.Needs.{needs}
-use Rattle.rules_fixed.specs.Walk.{tested}
+use Rattle.rules_fixed.specs.Tested.{tested}
 use Rattle.interface.specs.Codes.{codeOf, itself}
 use Rattle.interface.proofs.rule_code.Statement.{statement}
 use Rattle.interface.proofs.rule_code.Tie as tie

@@ -12,16 +12,14 @@ returns c = test-refused _ _ (refused-there _ (c .before .before .before .weigh 
 returns-2 : tie.Need-returns-2
 returns-2 c = test-past _ _ (measured-there _ (c .before .before .before .before .before .weigh .ensures) (c .before .before .before .weighing .given .1)) (omega arith)
 
-survey-of-requires : tie.Need-survey-of-requires
-survey-of-requires c κs =
-    let w = c .before .before .before .before .before .before .before .before .weigh .ensures in
-    measured-is _ (measured-there _ w (c .before .before .before .before .before .before .weighing .given .1)) .within
+account-of-requires : tie.Need-account-of-requires
+account-of-requires c κs =
+    measured-is _ (measured-there _ (c .before .before .before .before .before .weigh .ensures) (c .before .before .before .weighing .given .1)) .within
 
 returns-3 : tie.Need-returns-3
 returns-3 c =
-    let w = c .before .before .before .before .before .before .before .before .before .before .before .before .before .weigh .ensures in
-    let q = measured-there _ w (c .before .before .before .before .before .before .before .before .before .before .before .weighing .given .1) in
-    test-done _ _ q (omega arith) (c .before .before .before .before .survey-of .ensures .account)
+    let q = measured-there _ (c .before .before .before .before .before .before .weigh .ensures) (c .before .before .before .before .weighing .given .1) in
+    test-done _ _ q (omega arith) (c .account-of .ensures)
 
 pub fixed-test-spec : {M : Type 1} → statement M
 fixed-test-spec =
@@ -33,8 +31,5 @@ fixed-test-spec =
     (λ c κs. search needs)
     returns
     returns-2
-    (λ c. search needs)
-    (λ c. search needs)
-    (λ c. search needs)
-    survey-of-requires
+    account-of-requires
     returns-3)

@@ -19,7 +19,7 @@ survey-of-requires c κs =
     let at-weigh = at-weighing .before .before in
     let w = at-weigh .weigh .ensures in
     let q = measured-there _ w (at-weighing .weighing .given .1) in
-    measured-is _ q .within
+    (measured-is _ q .within, search needs, search needs, search needs)
 
 returns-3 : tie.Need-returns-3
 returns-3 c =

@@ -61,13 +61,13 @@ put-part-requires c κs =
 walk-less-2 : tie.Need-walk-less-2 Inv-walk μ-walk
 walk-less-2 c =
     let part = c .before .before .before .before .before in
-    omega (arith, part .smaller .ensures, part .before .before .walk .inv .some)
+    omega (arith, part .lesser .ensures, part .before .before .walk .inv .some)
 
 walk-again-2 : tie.Need-walk-again-2 Inv-walk μ-walk
 walk-again-2 c =
     let put = c .before .before .before in
     let part = put .before .before in
-    part-on (part .before .before .walk .inv) (omega arith) (part .smaller .ensures) (put .put-part .ensures) (c .left-after .ensures)
+    part-on (part .before .before .walk .inv) (omega arith) (part .lesser .ensures) (put .put-part .ensures) (c .left-after .ensures)
 
 -- the end
 put-all-if-requires : tie.Need-put-all-if-requires Inv-walk μ-walk

@@ -4,7 +4,8 @@ use denote.Ref.{now}
 use mathlib.Core.Path.{sym, ap, _∙_}
 use Rattle.recording.proofs.Listing.{refused-there, measured-there}
 use Rattle.verdict.specs.Verdicts.{findingIn}
-use Rattle.verdict.proofs.Answers.{found-refused, within, starts-there, ends-there, nets-there, ruling-there, found-told}
+use Rattle.verdict.proofs.Answers.{found-refused, within, ruling-there, found-told}
+use Rattle.verdict.proofs.Lawfulness.{starts-size, ends-size, nets-size}
 use Rattle.verdict.proofs.judge.Statement.{statement}
 use Rattle.verdict.proofs.judge.Tie as tie
 
@@ -21,23 +22,17 @@ rests-of-requires c κs =
 
 slice-aggregate-ruling-of : tie.Need-slice-aggregate-ruling-of
 slice-aggregate-ruling-of c =
-    let at-weighing = c .before .before .before .before .before .before .before .before .before in
-    let at-weigh = at-weighing .before .before in
-    starts-there (c .before .before .before .before .rests-of .ensures) (measured-there _ (at-weigh .weigh .ensures) (at-weighing .weighing .given .1))
+    starts-size (c .before .before .before .before .rests-of .ensures)
 
 slice-aggregate-ruling-of-2 : tie.Need-slice-aggregate-ruling-of-2
 slice-aggregate-ruling-of-2 c =
     let at-rests-of = c .before .before .before .before .before in
-    let at-weighing = at-rests-of .before .before .before .before .before in
-    let at-weigh = at-weighing .before .before in
-    ends-there (at-rests-of .rests-of .ensures) (measured-there _ (at-weigh .weigh .ensures) (at-weighing .weighing .given .1))
+    ends-size (at-rests-of .rests-of .ensures)
 
 slice-aggregate-ruling-of-3 : tie.Need-slice-aggregate-ruling-of-3
 slice-aggregate-ruling-of-3 c =
     let at-rests-of = c .before .before .before .before .before .before in
-    let at-weighing = at-rests-of .before .before .before .before .before in
-    let at-weigh = at-weighing .before .before in
-    nets-there (at-rests-of .rests-of .ensures) (measured-there _ (at-weigh .weigh .ensures) (at-weighing .weighing .given .1))
+    nets-size (at-rests-of .rests-of .ensures)
 
 ruling-of-requires : tie.Need-ruling-of-requires
 ruling-of-requires c κs =

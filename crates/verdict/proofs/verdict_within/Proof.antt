@@ -7,7 +7,8 @@ use mathlib.Core.Bool.{true, false}
 use Rattle.verdict.specs.declared.Ruling.{Ruling}
 use Rattle.verdict.specs.Verdicts.{findingIn, isUnbroken}
 use Rattle.verdict.proofs.Answers.{within, count-few, told-short, told-breach, told-pass, front-size, front-reading}
-use Rattle.verdict.proofs.Answers.{starts-there, ends-there, nets-there, ruling-there, rests-there, size-there, least-there}
+use Rattle.verdict.proofs.Answers.{ruling-there, rests-there, least-there}
+use Rattle.verdict.proofs.Lawfulness.{starts-size, ends-size, nets-size, reading-there}
 use Rattle.verdict.proofs.verdict_within.Statement.{statement}
 use Rattle.verdict.proofs.verdict_within.Tie as tie
 
@@ -24,20 +25,17 @@ rests-of-requires c κs =
 
 slice-aggregate-ruling-of : tie.Need-slice-aggregate-ruling-of
 slice-aggregate-ruling-of c =
-    let start = c .before .before .before .before .before .before .before .before .before .before .before .before .before .before .before .before in
-    starts-there (c .before .before .before .before .rests-of .ensures) (start .pre)
+    starts-size (c .before .before .before .before .rests-of .ensures)
 
 slice-aggregate-ruling-of-2 : tie.Need-slice-aggregate-ruling-of-2
 slice-aggregate-ruling-of-2 c =
     let at-rests-of = c .before .before .before .before .before in
-    let start = at-rests-of .before .before .before .before .before .before .before .before .before .before .before .before in
-    ends-there (at-rests-of .rests-of .ensures) (start .pre)
+    ends-size (at-rests-of .rests-of .ensures)
 
 slice-aggregate-ruling-of-3 : tie.Need-slice-aggregate-ruling-of-3
 slice-aggregate-ruling-of-3 c =
     let at-rests-of = c .before .before .before .before .before .before in
-    let start = at-rests-of .before .before .before .before .before .before .before .before .before .before .before .before in
-    nets-there (at-rests-of .rests-of .ensures) (start .pre)
+    nets-size (at-rests-of .rests-of .ensures)
 
 ruling-of-requires : tie.Need-ruling-of-requires
 ruling-of-requires c κs =
@@ -49,22 +47,19 @@ slice-aggregate-write-if : tie.Need-slice-aggregate-write-if
 slice-aggregate-write-if c =
     let at-ruling-of = c .before .before .before .before .before .before .before .before in
     let at-rests-of = at-ruling-of .before .before .before .before .before .before .before .before .before .before in
-    let start = at-rests-of .before .before .before .before .before .before .before .before .before .before .before .before in
-    starts-there (at-rests-of .rests-of .ensures) (start .pre)
+    starts-size (at-rests-of .rests-of .ensures)
 
 slice-aggregate-write-if-2 : tie.Need-slice-aggregate-write-if-2
 slice-aggregate-write-if-2 c =
     let at-ruling-of = c .before .before .before .before .before .before .before .before .before in
     let at-rests-of = at-ruling-of .before .before .before .before .before .before .before .before .before .before in
-    let start = at-rests-of .before .before .before .before .before .before .before .before .before .before .before .before in
-    ends-there (at-rests-of .rests-of .ensures) (start .pre)
+    ends-size (at-rests-of .rests-of .ensures)
 
 slice-aggregate-write-if-3 : tie.Need-slice-aggregate-write-if-3
 slice-aggregate-write-if-3 c =
     let at-ruling-of = c .before .before .before .before .before .before .before .before .before .before in
     let at-rests-of = at-ruling-of .before .before .before .before .before .before .before .before .before .before in
-    let start = at-rests-of .before .before .before .before .before .before .before .before .before .before .before .before in
-    nets-there (at-rests-of .rests-of .ensures) (start .pre)
+    nets-size (at-rests-of .rests-of .ensures)
 
 slice-aggregate-write-if-4 : tie.Need-slice-aggregate-write-if-4
 slice-aggregate-write-if-4 c =
@@ -81,7 +76,7 @@ write-if-requires c κs =
     let start = at-if1 .before .before .before .before .before .before .before .before in
     let r = rests-there (at-rests-of .rests-of .ensures) (start .pre) in
     let size = front-reading (now (start .args .words)) (now (start .args .reading)) (start .pre) (at-if1 .if1 .left) in
-    (r .0, r .1, r .2, size-there (at-rests-of .rests-of .ensures) (start .pre) size)
+    (r .0, r .1, r .2, reading-there (at-rests-of .rests-of .ensures) size)
 
 cast-t59 : tie.Need-cast-t59
 cast-t59 c =
