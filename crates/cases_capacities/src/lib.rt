@@ -6,7 +6,7 @@ ghost use mathlib.Core.Path.{_≡_};
 ghost use lib.ListN.{length};
 ghost use Rattle.recording.specs.Answers.{answered};
 ghost use Rattle.recording.specs.Operations.{measured};
-ghost use Rattle.rules.specs.Operations.{judged, outcome, readingAfter};
+ghost use Rattle.rules.specs.Operations.{verdictGiven, outcome, readingAfter};
 ghost use Rattle.verdict.specs.Outcomes.{outcomeBy};
 ghost use Rattle.interface.specs.Codes.{codeOf, outcomeValue};
 
@@ -18,8 +18,8 @@ const MORE: usize = 32 * verdict_nogoods::ENTRY_WORDS;
 // The verdict with fronts of no entry.
 fn with_none(words: &[u32], measure: Measure, reading: &mut [u8]) -> Outcome
     requires { ⌜ measured (now words) ≡ answered measure ⌝ }
-    ensures { λ r. ⌜ (outcomeBy r ≡ outcome (judged (now (words .entry)) (length (now (reading .entry)))))
-        × (now (reading .exit) ≡ readingAfter (judged (now (words .entry)) (length (now (reading .entry)))) (now (reading .entry))) ⌝ }
+    ensures { λ r. ⌜ (outcomeBy r ≡ outcome (verdictGiven (now (words .entry)) (length (now (reading .entry)))))
+        × (now (reading .exit) ≡ readingAfter (verdictGiven (now (words .entry)) (length (now (reading .entry)))) (now (reading .entry))) ⌝ }
 {
     let mut nogoods = [0u32; verdict_nogoods::TABLE_WORDS];
     let mut front = [0u32; 0];
@@ -41,8 +41,8 @@ fn with_none(words: &[u32], measure: Measure, reading: &mut [u8]) -> Outcome
 // The verdict with fronts of one entry.
 fn with_one(words: &[u32], measure: Measure, reading: &mut [u8]) -> Outcome
     requires { ⌜ measured (now words) ≡ answered measure ⌝ }
-    ensures { λ r. ⌜ (outcomeBy r ≡ outcome (judged (now (words .entry)) (length (now (reading .entry)))))
-        × (now (reading .exit) ≡ readingAfter (judged (now (words .entry)) (length (now (reading .entry)))) (now (reading .entry))) ⌝ }
+    ensures { λ r. ⌜ (outcomeBy r ≡ outcome (verdictGiven (now (words .entry)) (length (now (reading .entry)))))
+        × (now (reading .exit) ≡ readingAfter (verdictGiven (now (words .entry)) (length (now (reading .entry)))) (now (reading .entry))) ⌝ }
 {
     let mut nogoods = [0u32; verdict_nogoods::TABLE_WORDS];
     let mut front = [0u32; verdict_nogoods::ENTRY_WORDS];
@@ -64,8 +64,8 @@ fn with_one(words: &[u32], measure: Measure, reading: &mut [u8]) -> Outcome
 // The verdict with fronts of three entries.
 fn with_three(words: &[u32], measure: Measure, reading: &mut [u8]) -> Outcome
     requires { ⌜ measured (now words) ≡ answered measure ⌝ }
-    ensures { λ r. ⌜ (outcomeBy r ≡ outcome (judged (now (words .entry)) (length (now (reading .entry)))))
-        × (now (reading .exit) ≡ readingAfter (judged (now (words .entry)) (length (now (reading .entry)))) (now (reading .entry))) ⌝ }
+    ensures { λ r. ⌜ (outcomeBy r ≡ outcome (verdictGiven (now (words .entry)) (length (now (reading .entry)))))
+        × (now (reading .exit) ≡ readingAfter (verdictGiven (now (words .entry)) (length (now (reading .entry)))) (now (reading .entry))) ⌝ }
 {
     let mut nogoods = [0u32; verdict_nogoods::TABLE_WORDS];
     let mut front = [0u32; THREE];
@@ -87,8 +87,8 @@ fn with_three(words: &[u32], measure: Measure, reading: &mut [u8]) -> Outcome
 // The verdict with fronts of 32 entries.
 fn with_more(words: &[u32], measure: Measure, reading: &mut [u8]) -> Outcome
     requires { ⌜ measured (now words) ≡ answered measure ⌝ }
-    ensures { λ r. ⌜ (outcomeBy r ≡ outcome (judged (now (words .entry)) (length (now (reading .entry)))))
-        × (now (reading .exit) ≡ readingAfter (judged (now (words .entry)) (length (now (reading .entry)))) (now (reading .entry))) ⌝ }
+    ensures { λ r. ⌜ (outcomeBy r ≡ outcome (verdictGiven (now (words .entry)) (length (now (reading .entry)))))
+        × (now (reading .exit) ≡ readingAfter (verdictGiven (now (words .entry)) (length (now (reading .entry)))) (now (reading .entry))) ⌝ }
 {
     let mut nogoods = [0u32; verdict_nogoods::TABLE_WORDS];
     let mut front = [0u32; MORE];
@@ -109,8 +109,8 @@ fn with_more(words: &[u32], measure: Measure, reading: &mut [u8]) -> Outcome
 
 // The verdict with fronts of the largest of these capacities that is not over a number.
 fn with_entries(words: &[u32], reading: &mut [u8], entries: u32) -> Outcome
-    ensures { λ r. ⌜ (outcomeBy r ≡ outcome (judged (now (words .entry)) (length (now (reading .entry)))))
-        × (now (reading .exit) ≡ readingAfter (judged (now (words .entry)) (length (now (reading .entry)))) (now (reading .entry))) ⌝ }
+    ensures { λ r. ⌜ (outcomeBy r ≡ outcome (verdictGiven (now (words .entry)) (length (now (reading .entry)))))
+        × (now (reading .exit) ≡ readingAfter (verdictGiven (now (words .entry)) (length (now (reading .entry)))) (now (reading .entry))) ⌝ }
 {
     let weighing = recording::weigh(words);
     let Weighing::Weighed(measure) = weighing else {
@@ -131,8 +131,8 @@ fn with_entries(words: &[u32], reading: &mut [u8], entries: u32) -> Outcome
 // The same as the code of interface::desk_verdict.
 #[no_mangle]
 pub extern "C" fn capacity_verdict(words: &[u32], reading: &mut [u8], entries: u32) -> u64
-    ensures { λ r. ⌜ r ≡ codeOf outcomeValue (outcome (judged (now (words .entry)) (length (now (reading .entry))))) ⌝ }
-    ensures { λ r. ⌜ now (reading .exit) ≡ readingAfter (judged (now (words .entry)) (length (now (reading .entry)))) (now (reading .entry)) ⌝ }
+    ensures { λ r. ⌜ r ≡ codeOf outcomeValue (outcome (verdictGiven (now (words .entry)) (length (now (reading .entry))))) ⌝ }
+    ensures { λ r. ⌜ now (reading .exit) ≡ readingAfter (verdictGiven (now (words .entry)) (length (now (reading .entry)))) (now (reading .entry)) ⌝ }
 {
     interface::outcome_code(with_entries(words, reading, entries))
 }

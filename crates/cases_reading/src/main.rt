@@ -60,7 +60,7 @@ fn show_net(net: u32) {
         kind: 1,
         week: 0,
         carrier: 0,
-        load: 0,
+        compensation: 0,
     });
     io::write_all(STDOUT_FILENO, b"net ");
     show_number(net);
@@ -100,7 +100,7 @@ fn show_forms() {
 }
 
 // Rules 7 and 8: a reduced weekly rest paid back.
-fn show_payments() {
+fn show_compensations() {
     let r1800 = [242u32, 5760, 242, 7200, 6];
     show(b"paid back from 1800", &r1800, b"\x01\x00\x02\x00\x00\x00");
     let r1799 = [242u32, 5760, 242, 7196, 6];
@@ -199,7 +199,7 @@ fn main() {
     show_net(2699);
     show_net(2700);
     show_forms();
-    show_payments();
+    show_compensations();
     show_days();
     show_weeks();
     show_entry(b"abcdef", 1);

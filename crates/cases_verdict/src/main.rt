@@ -27,7 +27,7 @@ fn with_digit(word: u32, byte: u8) -> u32 {
 }
 
 // A byte of the shorthand: a letter begins the next word, a digit belongs to the last one.
-fn spell(words: &mut [u32], at: usize, byte: u8) -> usize {
+fn kept(words: &mut [u32], at: usize, byte: u8) -> usize {
     if at < words.len() {
         let word = activity(byte);
         if word < 4 {
@@ -49,7 +49,7 @@ fn runs(words: &mut [u32], at: usize, shorthand: &[u8]) -> usize {
     let mut next = at;
     let mut i = 0;
     while i < shorthand.len() {
-        next = spell(words, next, shorthand[i]);
+        next = kept(words, next, shorthand[i]);
         i += 1;
     }
     next
@@ -232,7 +232,7 @@ fn show_weeks(name: &[u8], rests: &[u32]) {
     show(name, &words, count);
 }
 
-// The cases of "On the edge"; the net lengths 1,440, 2,699 and 2,700 stand in show_debts.
+// The cases of "On the edge"; the net lengths 1,440, 2,699 and 2,700 stand in show_reductions.
 fn show_edges() {
     let nothing = [0u32; 1];
     show(b"empty", &nothing, 0);
@@ -435,17 +435,17 @@ fn show_sundays() {
 
 // Net lengths of 1,440, 2,699 and 2,700 leave 1,260, 1 and 0 minutes. Only the fourth week can pay, and it has to stay regular.
 // All are due at S, minute 40,320.
-fn show_debts() {
-    let paid_1260 = [1440u32, 2700, 1440, 3960];
-    show_weeks(b"1440, paid from 3960", &paid_1260);
+fn show_reductions() {
+    let compensated_1260 = [1440u32, 2700, 1440, 3960];
+    show_weeks(b"1440, paid from 3960", &compensated_1260);
     let short_1260 = [1440u32, 2700, 1440, 3959];
     show_weeks(b"1440, paid from 3959", &short_1260);
-    let paid_1 = [2699u32, 2700, 1440, 2701];
-    show_weeks(b"2699, paid from 2701", &paid_1);
+    let compensated_1 = [2699u32, 2700, 1440, 2701];
+    show_weeks(b"2699, paid from 2701", &compensated_1);
     let short_1 = [2699u32, 2700, 1440, 2700];
     show_weeks(b"2699, due at S", &short_1);
-    let paid_0 = [2700u32, 2700, 1440, 2700];
-    show_weeks(b"2700", &paid_0);
+    let compensated_0 = [2700u32, 2700, 1440, 2700];
+    show_weeks(b"2700", &compensated_0);
     let mut words = [0u32; 128];
     let three = weeks(&mut words, 0, &short_1[..3]);
     let rested = runs(&mut words, three, b"w60 r2700");
@@ -509,7 +509,7 @@ fn main() {
     show_figures();
     show_spare();
     show_sundays();
-    show_debts();
+    show_reductions();
     show_due();
     show_refusals();
 }

@@ -17,12 +17,12 @@ use Rattle.recording.proofs.Listing.{measured-is}
 use Rattle.rules.specs.Order.{Bytes}
 use Rattle.rules.specs.Reading.{entryBytes, readingSize}
 use Rattle.rules.specs.Verdict.{prefix, firstLawful, breachMinute, article, Verdict, pass, breach, verdictBy, verdict}
-use Rattle.rules.specs.Operations.{judged, Outcome, passed, breached, outcomeOf, outcome, readingAfter}
+use Rattle.rules.specs.Operations.{verdictGiven, Outcome, passed, breached, outcomeOf, outcome, readingAfter}
 use Rattle.rules.proofs.Breach.{first-sound}
 use Rattle.text.specs.Passes.{Put}
 use Rattle.text_lines.specs.Reading.{textRead}
 use Rattle.text.proofs.FormLaws.{put-in-front}
-use Rattle.desk_report.specs.Printed.{answerText, printed, verdictText, inputAtMost, inputRead, deskText, intoRoom}
+use Rattle.desk_report.specs.Printed.{answerText, verdictText, inputAtMost, inputRead, deskText, intoRoom}
 use Rattle.desk_report.specs.Composing.{pageAtMost, runLineBytes, refusalPage, pageOf, Read}
 use Rattle.desk_report.proofs.Pages.{refusal-size, page-size}
 use Rattle.desk_report.proofs.Room.{room-same}
@@ -47,15 +47,15 @@ pass-length ms r e = at (firstLawful ms) refl e
     at (some f) q e = let z : f ≡ r = cc in ap length (sym z) ∙ bytes-length (readingSize ms) f (first-sound ms q .bytes)
 
 -- refusal 4 does not occur: the reading fits
-judged-is : (ws : List ℕ) (room : ℕ) {k : Measure} → entryBytes * longRestsAtMost ≤ room → measured ws ≡ answered k → judged ws room ≡ answered (verdict (minutesOf ws))
-unfolding judged
+judged-is : (ws : List ℕ) (room : ℕ) {k : Measure} → entryBytes * longRestsAtMost ≤ room → measured ws ≡ answered k → verdictGiven ws room ≡ answered (verdict (minutesOf ws))
+unfolding verdictGiven
 judged-is ws room {k} h q =
     let m = measured-is ws q in
     let c : k .count ≡ length (longRests (minutesOf ws)) = ap (λ (x : Measure). x .count) (m .is) in
     rw (q, le-ltb room (entryBytes * k .count) (omega (arith, few-rests (minutesOf ws) (m .within)))) refl
 
-judged-refused : (ws : List ℕ) (room : ℕ) {n : ℕ} → measured ws ≡ refused n → judged ws room ≡ refused n
-unfolding judged
+judged-refused : (ws : List ℕ) (room : ℕ) {n : ℕ} → measured ws ≡ refused n → verdictGiven ws room ≡ refused n
+unfolding verdictGiven
 judged-refused ws room q = rw q refl
 
 pub text-is : (ws : List ℕ) {k : Measure} {v : Verdict} → measured ws ≡ answered k → verdict (minutesOf ws) ≡ v → verdictText ws ≡ pageOf (minutesOf ws) v
@@ -80,7 +80,7 @@ module _ (ws : List ℕ) (size : ℕ) (fits : entryBytes * longRestsAtMost ≤ s
   room : entryBytes * longRestsAtMost ≤ length (blank size)
   room = omega (arith, length-replicate size zero)
 
-  pub refused-text : {n : ℕ} → refused n ≡ outcome (judged ws (length (blank size))) → verdictText ws ≡ refusalPage n
+  pub refused-text : {n : ℕ} → refused n ≡ outcome (verdictGiven ws (length (blank size))) → verdictText ws ≡ refusalPage n
   refused-text {n} e = at (measured ws) refl
     where
       at : (a : Answer Measure) → measured ws ≡ a → verdictText ws ≡ refusalPage n
@@ -89,7 +89,8 @@ module _ (ws : List ℕ) (size : ℕ) (fits : entryBytes * longRestsAtMost ≤ s
       at (answered k) q = let z : _≡_ {A = Answer Outcome} (refused n) (answered (outcomeOf (verdict (minutesOf ws)))) = e ∙ ap outcome (judged-is ws (length
           (blank size)) room q) in let y : _≡_ {A = ℕ} 0 1 = cc in absurd (omega arith)
 
-  pub passed-text : {n : ℕ} {new : List ℕ} → answered (passed n) ≡ outcome (judged ws (length (blank size))) → new ≡ readingAfter (judged ws (length (blank size))) (blank size) → Passing ws n new
+  pub passed-text : {n : ℕ} {new : List ℕ} → answered (passed n) ≡ outcome (verdictGiven ws (length (blank size))) → new ≡ readingAfter (verdictGiven ws (length (blank size))) (blank size)
+      → Passing ws n new
   passed-text {n} {new} e b = at (measured ws) refl
     where
       by : {k : Measure} → measured ws ≡ answered k → (v : Verdict) → verdict (minutesOf ws) ≡ v → answered (passed n) ≡ answered (outcomeOf v) → new ≡ readingAfter (answered v) (blank size)
@@ -112,7 +113,7 @@ module _ (ws : List ℕ) (size : ℕ) (fits : entryBytes * longRestsAtMost ≤ s
           by q (verdict (minutesOf ws)) refl (e ∙ ap outcome (judged-is ws (length (blank size)) room q))
           (b ∙ ap (λ (j : Answer Verdict). readingAfter j (blank size)) (judged-is ws (length (blank size)) room q))
 
-  pub breached-text : {m a : ℕ} → answered (breached m a) ≡ outcome (judged ws (length (blank size))) → Breaching ws m a
+  pub breached-text : {m a : ℕ} → answered (breached m a) ≡ outcome (verdictGiven ws (length (blank size))) → Breaching ws m a
   breached-text {m} {a} e = at (measured ws) refl
     where
       by : {k : Measure} → measured ws ≡ answered k → (v : Verdict) → verdict (minutesOf ws) ≡ v → answered (breached m a) ≡ answered (outcomeOf v) → Breaching ws m a
@@ -187,10 +188,6 @@ module _ (text : List ℕ) (lent : ℕ) (within : length text ≤ inputAtMost) (
           }
 
 -- ---- a page that is handed over; the bytes that are enough for whatever is printed
-pub verdict-fits : (ws : List ℕ) (room : ℕ) → pageAtMost ≤ room → intoRoom (verdictText ws) room ≡ answered (verdictText ws)
-unfolding intoRoom
-verdict-fits ws room h = rw (le-ltb room (length (verdictText ws)) (omega (arith, verdict-size ws))) refl
-
 pub desk-fits : (text : List ℕ) (room : ℕ) → pageAtMost ≤ room → intoRoom (deskText text) room ≡ answered (deskText text)
 unfolding intoRoom
 desk-fits text room h = rw (le-ltb room (length (deskText text)) (omega (arith, desk-size text))) refl

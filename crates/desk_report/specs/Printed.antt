@@ -1,4 +1,4 @@
--- Document 01, "Bracket text": what the desk program prints.
+-- Public: document 01, "Bracket text", what the desk program prints.
 -- Assumes nothing.
 use mathlib.Core.List.{List, [], _∷_, _++_}
 use Prim.Native.Nat.{ℕ}

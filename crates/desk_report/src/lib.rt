@@ -233,16 +233,6 @@ fn hand_over(page: &[u8], out: &mut [u8]) -> Filling
     Filling::Written(n as u32)
 }
 
-// Printing the verdict on a recording: 10, too few bytes; or the count of bytes written. `PAGE_BYTES` are always enough.
-pub fn print_verdict(words: &[u32], out: &mut [u8]) -> Filling
-    ensures { λ r. ⌜ written r ≡ counted (intoRoom (verdictText (now (words .entry))) (length (now (out .entry)))) ⌝ }
-    ensures { λ r. ⌜ now (out .exit) ≡ filled (intoRoom (verdictText (now (words .entry))) (length (now (out .entry)))) (now (out .entry)) ⌝ }
-{
-    let mut page = [0u8; PAGE_BYTES];
-    let n = verdict_page(&mut page, words);
-    hand_over(&page[..n], out)
-}
-
 // Printing what the desk program prints for a text: 10, too few bytes; or the count of bytes written. `PAGE_BYTES` are always
 // enough.
 pub fn print_desk(text: &[u8], out: &mut [u8]) -> Filling

@@ -24,7 +24,7 @@ use Rattle.rules.specs.Broken.{unless}
 use Rattle.rules.specs.Fixed.{rule1, rule2, rule3, rule4, rule5, firstBroken, fixedTest}
 use Rattle.rules.specs.Reading.{entryBytes, readingSize}
 use Rattle.rules.specs.Verdict.{prefix, firstLawful, breachMinute, articleBy, article, Verdict, verdictBy, verdict}
-use Rattle.rules.specs.Operations.{Outcome, passed, breached, outcomeOf, outcome, fixedTested, readingTested, judged, entryAt}
+use Rattle.rules.specs.Operations.{Outcome, passed, breached, outcomeOf, outcome, fixedTested, readingTested, verdictGiven, entryAt}
 use Rattle.rules.proofs.EntryLaws.{first-size}
 use Rattle.text_lines.specs.Reading.{linesIn, wordsOf, isText, textRead}
 use Rattle.text.specs.Writing.{textOfMinutes, textWritten}
@@ -181,8 +181,8 @@ told-outcome (by-number h) = by-number h
 told-outcome (by-value v) = by-value (outcomeOf v)
 
 module _ (ws : List ℕ) (room : ℕ) where
-  within : {o : Outcome} → outcome (judged ws room) ≡ answered o → Within o
-  unfolding judged
+  within : {o : Outcome} → outcome (verdictGiven ws room) ≡ answered o → Within o
+  unfolding verdictGiven
   within {o} e = at (measured ws) refl e
     where
       here : (b : Bool) → length (minutesOf ws) ≤ totalAtMost → outcome (refuseIf b 4 (answered (verdict (minutesOf ws)))) ≡ answered o → Within o
@@ -194,8 +194,8 @@ module _ (ws : List ℕ) (room : ℕ) where
       at (refused n) q e = let z : _≡_ {A = ℕ} 0 1 = cc in absurd (omega arith)
       at (answered k) q e = here (ltb room (entryBytes * k .count)) (measured-is ws q .within) e
 
-  pub verdict-back : answerIn outcomeIn (codeOf outcomeValue (outcome (judged ws room))) ≡ outcome (judged ws room)
-  unfolding judged
+  pub verdict-back : answerIn outcomeIn (codeOf outcomeValue (outcome (verdictGiven ws room))) ≡ outcome (verdictGiven ws room)
+  unfolding verdictGiven
   verdict-back =
       read-back outcomeValue outcomeIn
       (told-outcome (told-then (told-measured ws) (λ k. told-if (ltb room (entryBytes * k .count)) (omega arith) (by-value _))))

@@ -1,4 +1,5 @@
--- An answer as one number, for callers in C. Assumes nothing.
+-- Public: an answer as one number, for callers in C.
+-- Assumes nothing.
 use Prim.Native.Nat.{ℕ, _+_, _-_, _*_, _/_, _%_}
 use mathlib.Core.List.{List}
 use lib.Dec.{ltb}

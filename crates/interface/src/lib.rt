@@ -9,7 +9,7 @@ ghost use lib.ListN.{length};
 ghost use Rattle.recording.specs.Answers.{counted, filled};
 ghost use Rattle.recording.specs.Operations.{measured, listed, written};
 ghost use Rattle.rules_fixed.specs.Tested.{tested};
-ghost use Rattle.rules.specs.Operations.{fixedTested, readingTested, entryAt, entryRefusal, judged, outcome, readingAfter};
+ghost use Rattle.rules.specs.Operations.{fixedTested, readingTested, entryAt, entryRefusal, verdictGiven, outcome, readingAfter};
 ghost use Rattle.text_lines.specs.Reading.{textRead};
 ghost use Rattle.text.specs.Writing.{textWritten};
 ghost use Rattle.verdict.specs.Outcomes.{outcomeBy};
@@ -137,8 +137,8 @@ pub extern "C" fn desk_write_text(words: &[u32], text: &mut [u8]) -> u64
 // The verdict: a refusal's number; ANSWER and the count of bytes of the reading; or 2 × ANSWER, 8 × the minute and the article.
 #[no_mangle]
 pub extern "C" fn desk_verdict(words: &[u32], reading: &mut [u8]) -> u64
-    ensures { λ r. ⌜ r ≡ codeOf outcomeValue (outcome (judged (now (words .entry)) (length (now (reading .entry))))) ⌝ }
-    ensures { λ r. ⌜ now (reading .exit) ≡ readingAfter (judged (now (words .entry)) (length (now (reading .entry)))) (now (reading .entry)) ⌝ }
+    ensures { λ r. ⌜ r ≡ codeOf outcomeValue (outcome (verdictGiven (now (words .entry)) (length (now (reading .entry))))) ⌝ }
+    ensures { λ r. ⌜ now (reading .exit) ≡ readingAfter (verdictGiven (now (words .entry)) (length (now (reading .entry)))) (now (reading .entry)) ⌝ }
 {
     outcome_code(verdict::verdict(words, reading))
 }

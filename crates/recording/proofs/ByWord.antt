@@ -3,14 +3,14 @@
 use mathlib.Core.Path.{_≡_, refl, sym, ap, ap₂, _∙_}
 use mathlib.Core.Bool.{Bool, true, false}
 use mathlib.Core.List.{List, [], _∷_, _++_}
-use Prim.Native.Nat.{ℕ, zero, suc, _+_, _-_, _*_, _/_, _%_, _≤_, _<_, min, zero-le}
+use Prim.Native.Nat.{ℕ, zero, suc, _+_, _-_, min}
 use native.Mathlib.Nat.{le-refl}
 use native.Mathlib.Omega.{arith}
-use lib.ListN.{length, take, drop, replicate, length-append, length-replicate}
+use lib.ListN.{length, take, replicate, length-append, length-replicate}
 use lib.Seq.{slice}
 use borrow.Author.Tests.{le-ltb}
 use Rattle.recording.specs.Tests.{pick, one, keep}
-use Rattle.recording.specs.Words.{activities, wordOf, minutesIn, activityIn, minutesOf, isDriving, drivingTime}
+use Rattle.recording.specs.Words.{minutesIn, activityIn, minutesOf, isDriving, drivingTime}
 use Rattle.recording.specs.Rests.{withRest, endFrom, judgedEnd, closedFrom, isLong, longRests}
 use Rattle.recording.specs.Days.{drivingIn}
 use Rattle.recording.specs.Scan.{cutAt}

@@ -1,14 +1,14 @@
 -- Long rests: which they are, their order, and how many there can be.
 -- Assumes nothing.
-use mathlib.Core.Path.{_≡_, refl, sym, ap, _∙_}
+use mathlib.Core.Path.{_≡_, refl}
 use mathlib.Core.Bool.{Bool, true, false}
-use mathlib.Core.List.{List, [], _∷_, _++_, List·Memᴰ as In, List·Memᴰ·head as here, List·Memᴰ·tail as there}
+use mathlib.Core.List.{List, [], _∷_, _++_, List·Memᴰ as In}
 use Prim.Native.Nat.{ℕ, zero, suc, _+_, _-_, _*_, _≤_, _<_, zero-le}
 use native.Mathlib.Nat.{le-refl, le-trans}
 use native.Mathlib.Omega.{arith}
 use lib.Dec.{leb, ltb}
 use lib.ListN.{length}
-use borrow.Author.Tests.{leb-true, le-leb, lt-leb, ltb-true, ltb-false}
+use borrow.Author.Tests.{leb-true, le-leb, lt-leb, ltb-false}
 use Rattle.recording.specs.Tests.{pick, keep}
 use Rattle.recording.specs.Rests.{lengthOf, withRest, endFrom, judgedEnd, closedFrom, closedRests, longRestMinutes, isLong, longFrom, longRests, longRestsAtMost}
 use Rattle.recording.specs.Operations.{totalAtMost}

@@ -2,24 +2,22 @@
 -- Assumes nothing.
 use mathlib.Core.Path.{_≡_, refl, sym, ap, _∙_}
 use mathlib.Core.Logic.{_⊎_, inl, inr}
-use mathlib.Core.Bool.{Bool, true, false}
-use mathlib.Core.List.{List, [], _∷_, _++_, List·Memᴰ as In, List·Memᴰ·head as here, List·Memᴰ·tail as there, Memᴰ·append-right}
-use Prim.Native.Nat.{ℕ, zero, suc, _+_, _-_, _*_, _≤_, _<_, zero-le}
+use mathlib.Core.Bool.{true}
+use mathlib.Core.List.{List, [], _∷_, _++_, List·Memᴰ as In, List·Memᴰ·head as here, Memᴰ·append-right}
+use Prim.Native.Nat.{ℕ, zero, suc, _+_, _≤_, _<_, zero-le}
 use native.Mathlib.Nat.{le-refl, le-trans}
 use native.Mathlib.Omega.{arith}
-use lib.Dec.{leb, ltb, eqb}
 use lib.ListN.{length, getD, take, drop, take-append-drop}
 use lib.Seq.{slice, getD-take, length-take-le}
 use borrow.Author.Tests.{leb-true, le-leb, lt-ltb, eqb-true, eq-eqb}
-use Rattle.recording.specs.Tests.{_and_, allOf, anyOf}
+use Rattle.recording.specs.Tests.{allOf, anyOf}
 use Rattle.recording.specs.Words.{rest}
-use Rattle.recording.specs.Rests.{lengthOf, endFrom, judgedEnd, closedFrom, closedRests, longRestMinutes, longRests}
+use Rattle.recording.specs.Rests.{endFrom, judgedEnd, closedFrom, closedRests, longRestMinutes, longRests}
 use Rattle.recording.specs.Weeks.{weekStart, week, isRest, restOnly, inside}
-use Rattle.recording.specs.declared.Span.{Span}
-use Rattle.recording.proofs.TestLaws.{and-left, and-right, and-both, same-test, Witness, any-of, of-any, less-or-not}
+use Rattle.recording.proofs.TestLaws.{and-left, and-right, and-both, same-test, any-of, of-any, less-or-not}
 use Rattle.recording.proofs.Walks.{judged-within, judged-append, closed-rests-append}
-use Rattle.recording.proofs.Runs.{judged-trailing, closed-run, run-closed-rest, ClosedRun}
-use Rattle.recording.proofs.LongRests.{LongRest, long-is, is-long}
+use Rattle.recording.proofs.Runs.{judged-trailing, closed-run}
+use Rattle.recording.proofs.LongRests.{long-is, is-long}
 
 -- ---- a test of the minutes of a span, minute by minute
 resting-at : (from to : ℕ) (ms : List ℕ) → allOf isRest (slice from to ms) ≡ true → (i : ℕ) → from ≤ i → i < to → i < length ms → getD ms i 0 ≡ rest

@@ -1,23 +1,23 @@
 -- Rests and the judged end in the document's plain words, which their walks hide.
 -- Assumes nothing.
-use mathlib.Core.Path.{_≡_, refl, sym, ap, subst, _∙_}
+use mathlib.Core.Path.{_≡_, refl, sym, ap, _∙_}
 use mathlib.Core.Logic.{_⊎_, inl, inr}
 use mathlib.Core.Bool.{Bool, true, false}
-use mathlib.Core.List.{List, [], _∷_, _++_, append-nil, List·Memᴰ as In, List·Memᴰ·head as here, List·Memᴰ·tail as there, List·Memᴰ·cases-cons, List·Memᴰ·append-cases, Memᴰ·append-left}
+use mathlib.Core.List.{List, [], _∷_, _++_, append-nil, List·Memᴰ as In, List·Memᴰ·head as here, List·Memᴰ·cases-cons, List·Memᴰ·append-cases, Memᴰ·append-left}
 use mathlib.Core.List.{Memᴰ·append-right, List·Memᴰ·not-nil}
-use Prim.Native.Nat.{ℕ, zero, suc, _+_, _-_, _≤_, _<_, zero-le}
+use Prim.Native.Nat.{ℕ, zero, suc, _+_, _-_, _≤_, _<_}
 use native.Mathlib.Nat.{le-refl, eq-or-lt-of-le}
 use native.Mathlib.Omega.{arith}
 use lib.Dec.{ltb}
-use lib.ListN.{length, getD, take, drop, length-append, length-take, length-drop, take-append-drop, List·getD-append}
+use lib.ListN.{length, getD, take, drop, length-append, length-drop, take-append-drop, List·getD-append}
 use lib.Seq.{append-snoc, getD-append-seam, getD-take, getD-drop, length-take-le}
-use borrow.Author.Tests.{ltb-true, ltb-false, lt-ltb}
-use Rattle.recording.specs.Tests.{pick, keep}
+use borrow.Author.Tests.{ltb-true, lt-ltb}
+use Rattle.recording.specs.Tests.{pick}
 use Rattle.recording.specs.Words.{rest}
 use Rattle.recording.specs.Rests.{withRest, endFrom, judgedEnd, closedFrom, closedRests, openRest, rests}
 use Rattle.recording.specs.declared.Span.{Span}
 use Rattle.recording.proofs.TestLaws.{less-or-not}
-use Rattle.recording.proofs.Walks.{judged-within, closed-rests-append}
+use Rattle.recording.proofs.Walks.{closed-rests-append}
 
 -- "The judged end S is the open rest's start, or N if there is none": the minutes from s on are rest, and the one before s, if any, is not.
 pub record Trailing (ms : List ℕ) (s : ℕ) : Type 0 where

@@ -1,19 +1,17 @@
 -- The walk over the words: what it keeps, and that it comes to S, k and the long rests.
 -- Assumes nothing.
-use mathlib.Core.Path.{_≡_, refl, sym, ap, ap₂, _∙_}
+use mathlib.Core.Path.{_≡_, refl, sym, ap, _∙_}
 use mathlib.Core.Bool.{Bool, true, false}
-use mathlib.Core.List.{List, [], _∷_, _++_, map}
+use mathlib.Core.List.{List, [], _∷_, map}
 use Prim.Native.Nat.{ℕ, zero, suc, _+_, _-_, _≤_, _<_}
 use native.Mathlib.Numerals.{add-one}
 use native.Mathlib.Omega.{arith}
-use lib.Dec.{leb, eqb, eqb·suc-zero}
+use lib.Dec.{leb, eqb·suc-zero}
 use lib.ListN.{length, drop, getD, set, length-append, length-replicate}
 use lib.Seq.{drop-cons, drop-length, sets, length-sets}
-use borrow.Author.Tests.{eq-eqb, ne-eqb}
 use Rattle.recording.specs.Tests.{pick, one, keep}
 use Rattle.recording.specs.Words.{minutesIn, activityIn, minutesOf}
 use Rattle.recording.specs.Rests.{longRestMinutes, isLong, judgedEnd, longRests}
-use Rattle.recording.specs.Weeks.{isRest}
 use Rattle.recording.specs.Operations.{totalAtMost}
 use Rattle.recording.specs.Scan.{endsRest, afterRun, origin, placeOf, restAt, writtenFrom}
 use Rattle.recording.specs.declared.Place.{Place}

@@ -3,12 +3,12 @@ use mathlib.Core.Path.{_≡_, refl, ap, _∙_}
 use mathlib.Core.Logic.{_⊎_, inl, inr}
 use mathlib.Core.Bool.{Bool, true, false, false≢true, true≢false}
 use mathlib.Core.List.{List, [], _∷_, _++_, List·Memᴰ as In, List·Memᴰ·head as here, List·Memᴰ·tail as there, List·Memᴰ·not-nil, List·Memᴰ·cases-cons}
-use Prim.Native.Nat.{ℕ, zero, suc, _+_, _≤_, _<_}
+use Prim.Native.Nat.{ℕ, zero, suc, _≤_, _<_}
 use native.Mathlib.Nat.{eq-or-lt-of-le}
 use native.Mathlib.Omega.{arith}
-use lib.Dec.{T, ltb}
+use lib.Dec.{ltb}
 use borrow.Author.Tests.{ltb-true, ltb-false}
-use Rattle.recording.specs.Tests.{_and_, _or_, pick, one, allOf, anyOf, allBelow, countOf, keep}
+use Rattle.recording.specs.Tests.{_and_, _or_, pick, one, allOf, anyOf, allBelow, keep}
 
 pub and-left : (a b : Bool) → a and b ≡ true → a ≡ true
 unfolding _and_
@@ -95,11 +95,6 @@ module _ {A : Type 0} (f : A → Bool) where
   unfolding allOf
   all-left [] ys t = refl
   all-left (x ∷ xs) ys t = and-both _ _ (and-left _ _ t) (all-left xs ys (and-right _ _ t))
-
-  pub all-right : (xs ys : List A) → allOf f (xs ++ ys) ≡ true → allOf f ys ≡ true
-  unfolding allOf
-  all-right [] ys t = t
-  all-right (x ∷ xs) ys t = all-right xs ys (and-right _ _ t)
 
   -- some element of the list passes
   pub record Witness (xs : List A) : Type 0 where

@@ -1,15 +1,14 @@
 -- The walks over the minutes, at two lists put together: a stretch, and what follows it.
 -- Assumes nothing.
-use mathlib.Core.Path.{_≡_, refl, sym, ap, _∙_}
+use mathlib.Core.Path.{_≡_, ap, _∙_}
 use mathlib.Core.List.{List, [], _∷_, _++_}
-use Prim.Native.Nat.{ℕ, zero, suc, _+_, _≤_, _<_, zero-le}
+use Prim.Native.Nat.{ℕ, zero, suc, _+_, _≤_, zero-le}
 use native.Mathlib.Nat.{le-refl}
 use native.Mathlib.Omega.{arith}
 use lib.Dec.{ltb}
 use lib.ListN.{length}
-use Rattle.recording.specs.Tests.{pick, keep}
+use Rattle.recording.specs.Tests.{keep}
 use Rattle.recording.specs.Rests.{withRest, endFrom, judgedEnd, closedFrom, closedRests, isLong, longFrom, longRests}
-use Rattle.recording.specs.declared.Span.{Span}
 use Rattle.recording.proofs.TestLaws.{pick-append, keep-append}
 
 -- ---- S

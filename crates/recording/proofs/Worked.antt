@@ -1,11 +1,10 @@
 -- Worked cases at the edges of this layer's numbers. Assumes nothing.
 use mathlib.Core.Path.{_≡_, refl}
-use mathlib.Core.Bool.{Bool, true, false}
-use mathlib.Core.List.{List, [], _∷_}
+use mathlib.Core.Bool.{true, false}
+use mathlib.Core.List.{[], _∷_}
 use Prim.Native.Nat.{ℕ}
 use Rattle.recording.specs.Answers.{Answer, refused, answered, counted, filled}
 use Rattle.recording.specs.Words.{wordOf, rest, otherWork, minutesOf}
-use Rattle.recording.specs.Rests.{judgedEnd}
 use Rattle.recording.specs.Days.{latestEnd, days}
 use Rattle.recording.specs.Weeks.{touches, restOnly}
 use Rattle.recording.specs.Operations.{totalFrom, measured, listed}

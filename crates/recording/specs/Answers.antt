@@ -1,7 +1,7 @@
--- Document 01, "Operations, and what each turns away": what every operation has in common.
+-- Public: document 01, "Operations, and what each turns away", what every operation has in common.
 -- Assumes nothing.
 use mathlib.Core.Bool.{Bool, true, false}
-use mathlib.Core.List.{List, [], _∷_, _++_}
+use mathlib.Core.List.{List, _++_}
 use Prim.Native.Nat.{ℕ}
 use lib.ListN.{length, drop}
 

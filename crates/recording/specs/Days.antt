@@ -1,4 +1,4 @@
--- Document 01, "The recording": P and days.
+-- Public: document 01, "The recording", P and days.
 -- Assumes nothing.
 use mathlib.Core.List.{List, [], _∷_}
 use Prim.Native.Nat.{ℕ}

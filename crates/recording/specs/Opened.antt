@@ -1,4 +1,4 @@
--- `unfolding opened` opens the definitions of this layer at once, so that what they say of a recording that is written out is computed.
+-- Inner: `unfolding opened` opens the definitions of this layer at once, so that what they say of a recording that is written out is computed.
 -- Assumes nothing.
 use Rattle.recording.specs.Tests.{_and_, _or_, allOf, anyOf, allBelow, countOf, keep}
 use Rattle.recording.specs.Words.{minutesOf, drivingTime}

@@ -1,6 +1,5 @@
--- Document 01, "Operations": weighing, and listing long rests.
+-- Public: document 01, "Operations", weighing, and listing long rests.
 -- Assumes nothing.
-use mathlib.Core.Bool.{Bool}
 use mathlib.Core.List.{List, [], _∷_}
 use Prim.Native.Nat.{ℕ, zero, suc, _+_}
 use lib.Dec.{ltb, eqb}

@@ -1,4 +1,4 @@
--- Document 01, "The recording": rests, the judged end S, long rests. All over the list of minutes.
+-- Public: document 01, "The recording", rests, the judged end S, long rests. All over the list of minutes.
 -- Assumes nothing.
 use mathlib.Core.Bool.{Bool}
 use mathlib.Core.List.{List, [], _∷_, _++_}

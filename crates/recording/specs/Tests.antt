@@ -1,4 +1,4 @@
--- Tests, and how they are joined. `_and_` and `_or_` stay shut, so that a proof takes a joint test apart by their laws.
+-- Public: tests, and how they are joined. `_and_` and `_or_` stay shut, so that a proof takes a joint test apart by their laws.
 -- Assumes nothing.
 use mathlib.Core.Bool.{Bool, true, false}
 use mathlib.Core.List.{List, [], _∷_}

@@ -1,4 +1,4 @@
--- Document 01, "The recording": weeks.
+-- Public: document 01, "The recording", weeks.
 -- Assumes nothing.
 use mathlib.Core.Bool.{Bool}
 use mathlib.Core.List.{List}

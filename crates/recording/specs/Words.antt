@@ -1,4 +1,4 @@
--- Document 01, "The recording": words and minutes.
+-- Public: document 01, "The recording", words and minutes.
 -- Assumes nothing.
 use mathlib.Core.Bool.{Bool}
 use mathlib.Core.List.{List, [], _∷_, _++_}

@@ -1,4 +1,4 @@
--- What the scan gives to the function that fills the list. Nothing here has to be believed: the listing's own contract goes by the definitions of
+-- Inner: what the scan gives to the function that fills the list. Nobody has to believe it: the listing's own contract goes by the definitions of
 -- `recording`.
 -- Assumes nothing.
 use mathlib.Core.Path.{_≡_}

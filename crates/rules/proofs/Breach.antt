@@ -1,24 +1,24 @@
 -- Lawful readings and the breach minute: no stretch has a lawful reading once a shorter one has none, so a minute without, after one with, is
 -- the only such and the least. Assumes nothing.
-use mathlib.Core.Path.{_≡_, refl, sym, ap, _∙_}
+use mathlib.Core.Path.{_≡_, refl}
 use mathlib.Core.Logic.{_⊎_, inl, inr}
 use mathlib.Core.Bool.{Bool, true, false}
-use mathlib.Core.List.{List, [], _∷_}
+use mathlib.Core.List.{List, []}
 use mathlib.Core.Option.{Option, none, some}
 use Prim.Native.Nat.{ℕ, zero, suc, _+_, _≤_, _<_, zero-le}
-use native.Mathlib.Nat.{le-refl, eq-or-lt-of-le}
+use native.Mathlib.Nat.{eq-or-lt-of-le}
 use native.Mathlib.Omega.{arith}
-use lib.ListN.{length, take}
+use lib.ListN.{length}
 use lib.Seq.{take-take, take-length}
 use Rattle.recording.specs.Tests.{pick}
 use Rattle.recording.specs.Rests.{longRests}
 use Rattle.rules.specs.Reading.{readingSize, restricted}
-use Rattle.rules.specs.Order.{Bytes, NotAfter, first}
-use Rattle.rules.specs.Verdict.{lawful, firstLawful, isNone, prefix, leastFrom, breachMinute, article, Verdict, pass, breach, verdict}
+use Rattle.rules.specs.Order.{Bytes, NotAfter}
+use Rattle.rules.specs.Verdict.{lawful, firstLawful, isNone, prefix, leastFrom, breachMinute, article, pass, breach, verdict}
 use Rattle.rules.specs.Opened.{opened}
-use Rattle.rules.proofs.FirstLaws.{IsFirst, law-at, first-is, bytes-length}
+use Rattle.rules.proofs.FirstLaws.{law-at, first-is}
 use Rattle.rules.proofs.Prefix.{lawful-prefix, restricted-bytes}
-use Rattle.recording.proofs.TestLaws.{clash, less-or-not}
+use Rattle.recording.proofs.TestLaws.{clash}
 
 -- a lawful reading of a recording, of its size
 pub record Lawful (ms reading : List ℕ) : Type 0 where

@@ -20,11 +20,11 @@ use Rattle.rules.specs.Fixed.{fixedTest}
 use Rattle.rules.specs.Reading.{dailyKind, weeklyKind, entryBytes, readingSize}
 use Rattle.rules.specs.ReadingRules.{readingTest}
 use Rattle.rules.specs.Order.{byteValues, Bytes}
-use Rattle.rules.specs.Verdict.{lawful, firstLawful, prefix, article, articleBy, Verdict, pass, breach, verdict}
+use Rattle.rules.specs.Verdict.{lawful, firstLawful, prefix, article, articleBy, pass, breach, verdict}
 use Rattle.rules.specs.Opened.{opened}
 use Rattle.rules.proofs.RuleLaws.{lawful-rules}
 use Rattle.rules.proofs.Breach.{Lawful, is-none, verdict-breach, verdict-pass}
-use Rattle.rules.proofs.ByWord.{fixedBy, fixed-by, readingBy, reading-by, spellBy}
+use Rattle.rules.proofs.ByWord.{fixedBy, fixed-by, readingBy, reading-by, keepsAccumulatedBy}
 use Rattle.rules.proofs.OnlyDaily.{neverWeekly, allDaily, daily-first, daily-none}
 
 -- ---- what a case says
@@ -254,5 +254,5 @@ worked =
 
 -- THE JOINT THEOREM
 pub on-the-edge : AllSay (starred ++ worked)
-unfolding opened endBy closedBy totalBy drivingUpTo cutAt spellBy holds bytesTest
+unfolding opened endBy closedBy totalBy drivingUpTo cutAt keepsAccumulatedBy holds bytesTest
 on-the-edge = all-say (starred ++ worked) refl

@@ -1,18 +1,17 @@
 -- What is promised besides of an entry's P, of the size of a first lawful reading, and of the entry of a reading.
 -- Assumes nothing.
-use mathlib.Core.Path.{_≡_, refl, sym, ap, _∙_}
+use mathlib.Core.Path.{_≡_, refl}
 use mathlib.Core.Logic.{_⊎_, inl, inr}
 use mathlib.Core.Bool.{Bool, true, false, not}
-use mathlib.Core.List.{List, [], _∷_, _++_, List·Memᴰ as In, List·Memᴰ·head as here, List·Memᴰ·tail as there, List·Memᴰ·cases-cons, List·Memᴰ·not-nil}
+use mathlib.Core.List.{List, [], _∷_, List·Memᴰ as In, List·Memᴰ·cases-cons, List·Memᴰ·not-nil}
 use mathlib.Core.Option.{some}
-use Prim.Native.Nat.{ℕ, zero, suc, _+_, _-_, _*_, _/_, _%_, _≤_, _<_}
-use native.Mathlib.Nat.{le-trans}
+use Prim.Native.Nat.{ℕ, suc, _-_, _*_, _/_, _%_, _≤_, _<_}
 use native.Mathlib.Omega.{arith}
 use lib.Dec.{leb, ltb, eqb}
 use lib.ListN.{length, take, drop, length-take, length-drop}
 use borrow.Author.Tests.{le-leb, lt-leb, ltb-false, eqb-true, eq-eqb, not-false}
 use Rattle.recording.specs.Tests.{pick, _or_}
-use Rattle.recording.specs.Answers.{Answer, refused, answered, refuseIf}
+use Rattle.recording.specs.Answers.{answered, refuseIf}
 use Rattle.recording.specs.Rests.{longRests}
 use Rattle.recording.specs.Days.{latestEndFrom, latestEnd}
 use Rattle.recording.specs.declared.Span.{Span}

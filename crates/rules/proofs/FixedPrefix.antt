@@ -1,28 +1,28 @@
 -- Rules 1 to 5 hold of each stretch of a recording of which they hold: xs is the stretch, xs ++ ys the whole.
 -- Assumes nothing.
-use mathlib.Core.Path.{_≡_, refl, sym, ap, _∙_}
+use mathlib.Core.Path.{_≡_, refl}
 use mathlib.Core.Bool.{Bool, true, false, false≢true}
 use mathlib.Core.List.{List, [], _∷_, _++_}
-use Prim.Native.Nat.{ℕ, zero, suc, _+_, _/_, _≤_, _<_, zero-le}
+use Prim.Native.Nat.{ℕ, zero, suc, _+_, _≤_, zero-le}
 use native.Mathlib.Nat.{le-refl, le-trans, add-le-add}
 use native.Mathlib.Omega.{arith}
-use lib.Dec.{leb, ltb, eqb}
-use lib.ListN.{length, length-append}
+use lib.Dec.{leb}
+use lib.ListN.{length-append}
 use lib.Seq.{slice}
 use borrow.Author.Tests.{leb-true, le-leb, ltb-true, lt-ltb}
-use Rattle.recording.specs.Tests.{_and_, one, allOf, allBelow, countOf}
-use Rattle.recording.specs.Words.{isDriving, drivingTime}
+use Rattle.recording.specs.Tests.{one, allOf, allBelow, countOf}
+use Rattle.recording.specs.Words.{drivingTime}
 use Rattle.recording.specs.Rests.{judgedEnd, longRests}
 use Rattle.recording.specs.Days.{daysFrom, days, drivingIn}
-use Rattle.recording.specs.Weeks.{week, weekOf, weeksOf}
+use Rattle.recording.specs.Weeks.{week, weeksOf}
 use Rattle.recording.specs.declared.Span.{Span}
 use Rattle.recording.proofs.TestLaws.{and-left, and-right, and-both, below-at, at-below}
 use Rattle.recording.proofs.Walks.{judged-mono}
-use Rattle.recording.proofs.LongRests.{Ordered, none, next, restsPast, rests-split, past-ordered}
-use Rattle.rules.specs.declared.Driven.{Driven}
-use Rattle.rules.specs.Fixed.{cleared, rested, drove, keepsSpell, spellAtMost, rule1, dayAtMost, extendedDays, extended, rule2, weekAtMost, rule3, fortnightAtMost, rule4, dayLength}
-use Rattle.rules.specs.Fixed.{endsInTime, rule5, fixedTest}
-use Rattle.rules.proofs.RuleLaws.{FixedRules, fixed-rules, rules-fixed}
+use Rattle.recording.proofs.LongRests.{Ordered, none, next, rests-split, past-ordered}
+use Rattle.rules.specs.declared.Accumulated.{Accumulated}
+use Rattle.rules.specs.Fixed.{cleared, rested, drove, keepsAccumulated, rule1, dayAtMost, extendedDays, extended, rule2, weekAtMost, rule3, fortnightAtMost, rule4, dayLength}
+use Rattle.rules.specs.Fixed.{rule5, fixedTest}
+use Rattle.rules.proofs.RuleLaws.{fixed-rules, rules-fixed}
 
 -- ---- days: each day of the stretch begins as one of the whole does, in turn, and ends no later
 data Within : List Span → List Span → Type 0 where
@@ -63,11 +63,11 @@ less-driving (suc from) (suc to) (suc to′) [] ys h = zero-le
 less-driving zero (suc to) (suc to′) (x ∷ xs) ys h = omega (arith, less-driving zero to to′ xs ys (omega arith))
 less-driving (suc from) (suc to) (suc to′) (x ∷ xs) ys h = less-driving from to to′ xs ys (omega arith)
 
-spell-prefix : (d : Driven) (n : ℕ) (xs ys : List ℕ) → keepsSpell d n (xs ++ ys) ≡ true → keepsSpell d n xs ≡ true
-unfolding keepsSpell
-spell-prefix d n [] ys t = refl
-spell-prefix d n (zero ∷ xs) ys t = spell-prefix d (suc n) xs ys t
-spell-prefix d n (suc a ∷ xs) ys t = and-both _ _ (and-left _ _ t) (spell-prefix (drove (suc a) (rested n d)) 0 xs ys (and-right _ _ t))
+kept-prefix : (d : Accumulated) (n : ℕ) (xs ys : List ℕ) → keepsAccumulated d n (xs ++ ys) ≡ true → keepsAccumulated d n xs ≡ true
+unfolding keepsAccumulated
+kept-prefix d n [] ys t = refl
+kept-prefix d n (zero ∷ xs) ys t = kept-prefix d (suc n) xs ys t
+kept-prefix d n (suc a ∷ xs) ys t = and-both _ _ (and-left _ _ t) (kept-prefix (drove (suc a) (rested n d)) 0 xs ys (and-right _ _ t))
 
 -- a limit that the whole keeps
 keeps : (limit : ℕ) {a b : ℕ} → a ≤ b → leb b limit ≡ true → leb a limit ≡ true
@@ -101,7 +101,7 @@ module _ (xs ys : List ℕ) where
 
   pub prefix1 : rule1 (xs ++ ys) ≡ true → rule1 xs ≡ true
   unfolding rule1
-  prefix1 t = spell-prefix cleared 0 xs ys t
+  prefix1 t = kept-prefix cleared 0 xs ys t
 
   pub prefix2 : rule2 (drivingIn (xs ++ ys)) (weeksOf (xs ++ ys)) (days (xs ++ ys)) ≡ true → rule2 (drivingIn xs) (weeksOf xs) (days xs) ≡ true
   unfolding rule2

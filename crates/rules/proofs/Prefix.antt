@@ -1,9 +1,9 @@
 -- The stretch theorem: a lawful reading of the whole, restricted to the long rests of a shorter stretch, is lawful there.
 -- Assumes nothing.
-use mathlib.Core.Path.{_≡_, refl, sym, ap, _∙_}
+use mathlib.Core.Path.{_≡_}
 use mathlib.Core.Bool.{Bool, true, false}
 use mathlib.Core.List.{List, [], _∷_, _++_, map}
-use Prim.Native.Nat.{ℕ, zero, suc, _+_, _*_, _≤_, _<_}
+use Prim.Native.Nat.{ℕ, zero, suc, _*_, _<_}
 use native.Mathlib.Nat.{le-trans}
 use native.Mathlib.Omega.{arith}
 use lib.Dec.{leb}
@@ -12,8 +12,8 @@ use Rattle.recording.specs.Tests.{pick, allOf}
 use Rattle.recording.specs.Rests.{judgedEnd, longRests}
 use Rattle.recording.proofs.Walks.{judged-within, judged-mono}
 use Rattle.recording.proofs.LongRests.{restsPast, rests-split, past-ordered}
-use Rattle.rules.specs.Reading.{Entry, entries, entriesFrom, entryBytes, readingSize, upTo, restrictFrom, restricted}
-use Rattle.rules.specs.ReadingRules.{formed, rule6, rule7, rule8, rule9, rule10, rule11}
+use Rattle.rules.specs.Reading.{entries, entryBytes, readingSize, restrictFrom, restricted}
+use Rattle.rules.specs.ReadingRules.{formed, rule6, rule7, rule8, rule9, rule10}
 use Rattle.rules.specs.Order.{byteValues, Bytes}
 use Rattle.rules.specs.Verdict.{lawful, prefix}
 use Rattle.rules.proofs.RuleLaws.{AllRules, lawful-rules, rules-lawful}

@@ -2,22 +2,22 @@
 -- Assumes nothing.
 use mathlib.Core.Path.{_≡_, refl, sym, ap, ap₂, _∙_}
 use mathlib.Core.Logic.{_⊎_, inl, inr}
-use mathlib.Core.Bool.{Bool, true, false, not, true≢false}
+use mathlib.Core.Bool.{Bool, true, false, not}
 use mathlib.Core.List.{List, [], _∷_, _++_, map}
-use Prim.Native.Nat.{ℕ, zero, suc, _+_, _*_, _/_, _≤_, _<_, zero-le}
+use Prim.Native.Nat.{ℕ, zero, suc, _+_, _≤_, _<_}
 use native.Mathlib.Nat.{le-refl, le-trans}
 use native.Mathlib.Omega.{arith}
 use lib.Dec.{leb, ltb, eqb}
-use lib.ListN.{length, take, drop, getD, length-append}
-use lib.Seq.{slice, take-append-le}
+use lib.ListN.{length, drop, getD}
+use lib.Seq.{take-append-le}
 use borrow.Author.Tests.{leb-true, leb-false, le-leb, ltb-true, lt-ltb, eqb-true, eqb-false, ne-eqb}
 use Rattle.recording.specs.Tests.{_and_, _or_, pick, one, allOf, countOf}
-use Rattle.recording.specs.Weeks.{weekStart, weekOf, week, isRest, touches, restOnly}
+use Rattle.recording.specs.Weeks.{weekStart, week, isRest, touches, restOnly}
 use Rattle.recording.specs.declared.Span.{Span}
-use Rattle.recording.proofs.TestLaws.{and-left, and-right, and-both, or-cases, or-left, or-right, or-else, is-false, all-left, all-right, below-at, at-below}
+use Rattle.recording.proofs.TestLaws.{and-left, and-right, and-both, or-cases, or-left, or-right, or-else, is-false, below-at, at-below}
 use Rattle.recording.proofs.LongRests.{Ordered, none, next}
-use Rattle.rules.specs.Reading.{Entry, minutes, dailyKind, weeklyKind, asRead, isWeekly, isRegular, reductionOf, compensationOf, entryBytes, entryOf, entriesFrom, upTo, restrictFrom}
-use Rattle.rules.specs.ReadingRules.{formedDaily, formedWeekly, formed, longEnough, rule7, deadline, endOf, byDeadline, settles, compensated, shortened, rule9From, weeklyGap, inGap}
+use Rattle.rules.specs.Reading.{Entry, dailyKind, weeklyKind, asRead, isWeekly, isRegular, reductionOf, compensationOf, entryBytes, entryOf, entriesFrom, upTo, restrictFrom}
+use Rattle.rules.specs.ReadingRules.{formedDaily, formedWeekly, formed, longEnough, deadline, endOf, byDeadline, settles, compensated, shortened, rule9From, weeklyGap, inGap}
 use Rattle.rules.specs.ReadingRules.{rule10From, ofKind, countedIn, enoughIn, rule11}
 use Rattle.rules.specs.declared.Kind.{Kind}
 use Rattle.rules.specs.declared.Kind.the-variants.{Daily, Weekly}

@@ -1,22 +1,21 @@
 -- Rules 6 to 11 go by S and the long rests alone: a week of rest minutes only is one inside a long rest, for the weeks that rule 11 asks of.
 -- Assumes nothing.
-use mathlib.Core.Path.{_≡_, refl, sym, ap, ap₂, _∙_}
-use mathlib.Core.Bool.{Bool, true, false}
+use mathlib.Core.Path.{_≡_, sym, ap, ap₂, _∙_}
+use mathlib.Core.Bool.{Bool, true}
 use mathlib.Core.List.{List}
-use Prim.Native.Nat.{ℕ, _+_, _*_, _≤_}
+use Prim.Native.Nat.{ℕ, _+_, _≤_}
 use native.Mathlib.Omega.{arith}
 use lib.Dec.{leb}
-use lib.ListN.{length}
 use Rattle.recording.specs.Tests.{_and_, anyOf, pick, countOf}
 use Rattle.recording.specs.Rests.{judgedEnd, longRests}
 use Rattle.recording.specs.Weeks.{weekStart, week, restOnly, inside}
 use Rattle.recording.specs.declared.Span.{Span}
 use Rattle.recording.proofs.TestLaws.{same-test}
 use Rattle.recording.proofs.RestWeeks.{rest-week}
-use Rattle.rules.specs.Broken.{unless, ifNone}
+use Rattle.rules.specs.Broken.{ifNone}
 use Rattle.rules.specs.Fixed.{fixedTest}
 use Rattle.rules.specs.Reading.{Entry, entries, isWeekly, isRegular}
-use Rattle.rules.specs.ReadingRules.{weeklyAtLeast, regularAtLeast, ofKind, countedIn, enoughIn, rule6, rule7, rule8, rule9, rule10, rule11, laterTest, readingTest}
+use Rattle.rules.specs.ReadingRules.{weeklyAtLeast, regularAtLeast, ofKind, countedIn, enoughIn, rule11, laterTest, readingTest}
 use Rattle.rules.proofs.ReadingPrefix.{pair-enough, pairs-enough}
 use Rattle.rules.specs.declared.Kind.{Kind}
 

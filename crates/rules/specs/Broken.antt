@@ -1,4 +1,4 @@
--- "Later rules are read only when the earlier ones hold": the smallest broken rule, or 0.
+-- Public: "Later rules are read only when the earlier ones hold", the smallest broken rule, or 0.
 -- Assumes nothing.
 use mathlib.Core.Bool.{Bool, true, false}
 use Prim.Native.Nat.{ℕ, zero, suc}

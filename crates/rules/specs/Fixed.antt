@@ -1,4 +1,4 @@
--- Document 01, "Fixed rules": rules 1 to 5, over the minutes of a recording.
+-- Public: document 01, "Fixed rules", rules 1 to 5, over the minutes of a recording.
 -- Assumes nothing.
 use mathlib.Core.Bool.{Bool, true, false}
 use mathlib.Core.List.{List, [], _∷_}
@@ -9,12 +9,12 @@ use Rattle.recording.specs.Words.{isDriving}
 use Rattle.recording.specs.Days.{days, drivingIn}
 use Rattle.recording.specs.Weeks.{week, weekOf, weeksOf}
 use Rattle.recording.specs.declared.Span.{Span}
-use Rattle.rules.specs.declared.Driven.{Driven}
+use Rattle.rules.specs.declared.Accumulated.{Accumulated}
 use Rattle.rules.specs.Broken.{unless}
 
 -- Rule 1, article 7. "A driving sum starts at 0." Beside the sum, `split`: whether a split break has begun, the document's first part.
 -- "Clearing forgets the first part."
-abbrev pub cleared : Driven
+abbrev pub cleared : Accumulated
 cleared = record { sum = 0; split = false }
 
 abbrev pub fullBreak : ℕ
@@ -27,32 +27,32 @@ abbrev pub secondPart : ℕ
 secondPart = 30
 
 -- "After a rest of 45 or more it is 0 again. .. a rest of 30 or more after a first part clears the sum."
-abbrev pub clears : ℕ → Driven → Bool
+abbrev pub clears : ℕ → Accumulated → Bool
 clears n d = leb fullBreak n or (leb secondPart n and d .split)
 
 -- "A rest of 15 or more is a first part, unless it clears the sum"
 abbrev pub splits : ℕ → Bool
 splits n = leb firstPart n
 
-unfoldable pub rested : ℕ → Driven → Driven
+unfoldable pub rested : ℕ → Accumulated → Accumulated
 rested n d = pick (clears n d) cleared (record { sum = d .sum; split = splits n or d .split })
 
-unfoldable pub drove : ℕ → Driven → Driven
+unfoldable pub drove : ℕ → Accumulated → Accumulated
 drove a d = record { sum = one (isDriving a) + d .sum; split = d .split }
 
 -- "The sum never passes 270." A rest of n minutes is under way; an open one is never over.
-abbrev pub spellAtMost : ℕ
-spellAtMost = 270
+abbrev pub accumulatedAtMost : ℕ
+accumulatedAtMost = 270
 
-unfoldable pub keepsSpell : Driven → ℕ → List ℕ → Bool
-keepsSpell d n [] = true
-keepsSpell d n (zero ∷ ms) = keepsSpell d (suc n) ms
-keepsSpell d n (suc a ∷ ms) =
+unfoldable pub keepsAccumulated : Accumulated → ℕ → List ℕ → Bool
+keepsAccumulated d n [] = true
+keepsAccumulated d n (zero ∷ ms) = keepsAccumulated d (suc n) ms
+keepsAccumulated d n (suc a ∷ ms) =
     let e = drove (suc a) (rested n d) in
-    leb (e .sum) spellAtMost and keepsSpell e 0 ms
+    leb (e .sum) accumulatedAtMost and keepsAccumulated e 0 ms
 
 unfoldable pub rule1 : List ℕ → Bool
-rule1 ms = keepsSpell cleared 0 ms
+rule1 ms = keepsAccumulated cleared 0 ms
 
 -- Rules 2 to 4 go by the driving of a span and by the number of weeks.
 

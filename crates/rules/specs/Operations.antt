@@ -1,6 +1,6 @@
--- Document 01, "Operations": both tests, the verdict, and the entry of a reading.
+-- Public: document 01, "Operations", both tests, the verdict, and the entry of a reading.
 -- Assumes nothing.
-use mathlib.Core.Bool.{Bool, not}
+use mathlib.Core.Bool.{not}
 use mathlib.Core.Path.{_≡_}
 use mathlib.Core.List.{List, []}
 use Prim.Native.Nat.{ℕ, _+_, _-_, _*_, _/_, _%_}
@@ -28,8 +28,8 @@ readingTested words reading =
     refuseIf (not (eqb (length reading) (entryBytes * k .count))) 6 (answered (readingTest (minutesOf words) reading)))
 
 -- "The verdict: 1, 2; then 4, the reading buffer is under 3 × k bytes." Here for a buffer of `room` bytes.
-unfoldable pub judged : List ℕ → ℕ → Answer Verdict
-judged words room =
+unfoldable pub verdictGiven : List ℕ → ℕ → Answer Verdict
+verdictGiven words room =
     andThen (measured words) (λ k.
     refuseIf (ltb room (entryBytes * k .count)) 4 (answered (verdict (minutesOf words))))
 

@@ -1,4 +1,4 @@
--- Document 01, "Readings", last paragraph: the order of readings, and the first that passes a test.
+-- Public: document 01, "Readings", last paragraph, the order of readings, and the first that passes a test.
 -- Assumes nothing.
 use mathlib.Core.Path.{_≡_}
 use mathlib.Core.Logic.{_⊎_}

@@ -1,4 +1,4 @@
--- Document 01, "Readings": what a reading says of each long rest.
+-- Public: document 01, "Readings", what a reading says of each long rest.
 -- "All differences below are whole numbers and may be negative": none is formed; a term that is taken away stands on the other side instead.
 -- Assumes nothing.
 use mathlib.Core.Bool.{Bool, true, false}

@@ -1,4 +1,4 @@
--- Document 01, "Readings": rules 6 to 11, over the entries of a reading.
+-- Public: document 01, "Readings", rules 6 to 11, over the entries of a reading.
 -- Assumes nothing.
 use mathlib.Core.Bool.{Bool, true, false, not}
 use mathlib.Core.List.{List, [], _∷_}

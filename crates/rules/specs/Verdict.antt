@@ -1,4 +1,4 @@
--- Document 01: lawful readings, the first of them, stretches, and the verdict.
+-- Public: document 01, lawful readings, the first of them, stretches, and the verdict.
 -- Assumes nothing.
 use mathlib.Core.Bool.{Bool, true, false}
 use mathlib.Core.List.{List}

@@ -1,7 +1,7 @@
 // The rules of driving times and rests, and readings of a recording. What is said of them stands in specs/.
 
 // The driving sum of rule 1, and whether a split break has begun.
-pub struct Driven {
+pub struct Accumulated {
     pub sum: u32,
     pub split: bool,
 }

@@ -1,10 +1,10 @@
 -- The account is right: after any minutes it holds what document 01 says of them, and its rule is the fixed test's answer.
 -- Assumes nothing.
-use mathlib.Core.Path.{_≡_, refl, sym, ap, ap₂, subst, _∙_}
+use mathlib.Core.Path.{_≡_, refl, sym, ap, ap₂, _∙_}
 use mathlib.Core.Logic.{_⊎_, inl, inr}
 use mathlib.Core.Bool.{Bool, true, false}
 use mathlib.Core.List.{List, [], _∷_, _++_, append-nil}
-use Prim.Native.Nat.{ℕ, zero, suc, _+_, _-_, _*_, _/_, _≤_, _<_, zero-le}
+use Prim.Native.Nat.{ℕ, zero, suc, _+_, _-_, _≤_, _<_}
 use native.Mathlib.Nat.{le-refl, le-trans}
 use native.Mathlib.Omega.{arith}
 use lib.Dec.{leb, ltb, eqb, eqb·suc-zero}
@@ -13,26 +13,26 @@ use lib.Seq.{append-snoc, take-append-le, take-append-seam, take-all, take-take}
 use borrow.Author.Tests.{leb-true, leb-false, le-leb, lt-leb, ltb-true, ltb-false, lt-ltb, le-ltb, eqb-true, eqb-false, eq-eqb, ne-eqb}
 use Rattle.recording.specs.Tests.{_and_, pick, one, countOf}
 use Rattle.recording.specs.Words.{isDriving, drivingTime}
-use Rattle.recording.specs.Rests.{judgedEnd, longRestMinutes, longRests}
-use Rattle.recording.specs.Days.{days, drivingIn}
-use Rattle.recording.specs.Weeks.{weekMinutes, weekStart, week, weekOf, weeksOf}
+use Rattle.recording.specs.Rests.{judgedEnd, longRestMinutes}
+use Rattle.recording.specs.Days.{drivingIn}
+use Rattle.recording.specs.Weeks.{weekMinutes, weekStart, week, weekOf}
 use Rattle.recording.specs.declared.Span.{Span}
 use Rattle.recording.proofs.TestLaws.{one-most}
 use Rattle.recording.proofs.Walks.{judged-within}
 use Rattle.rules.specs.Broken.{unless}
-use Rattle.rules.specs.Fixed.{cleared, rested, drove, ordinaryDay, extended, firstBroken, fixedTest}
+use Rattle.rules.specs.Fixed.{rested, drove, ordinaryDay, extended, firstBroken, fixedTest}
 use Rattle.rules.specs.Opened.{opened as rulesOpened}
-use Rattle.rules.specs.declared.Driven.{Driven}
+use Rattle.rules.specs.declared.Accumulated.{Accumulated}
 use Rattle.rules.proofs.FixedPrefix.{fixed-prefix}
 use Rattle.rules_fixed.specs.declared.Day.{Day}
 use Rattle.rules_fixed.specs.declared.Week.{Week}
 use Rattle.rules_fixed.specs.declared.Break.{Break}
 use Rattle.rules_fixed.specs.declared.Account.{Account}
 use Rattle.rules_fixed.specs.Account.{dayAfter, dayWith, weekWith, weekNext, brokenAt, smaller, firstBreak, restMinute, busyMinute, minuteAfter, accountFrom, opening}
-use Rattle.rules_fixed.proofs.Driving.{upTo, up-to-within, up-to-past, up-to-all, up-to-judged, driving-between, driving-snoc, length-more, driving-same}
-use Rattle.rules_fixed.proofs.Spell.{drivenFrom, drivenBy, rule1-rest, driven-after-rest, rule1-busy, driven-after-busy}
-use Rattle.rules_fixed.proofs.DayEnds.{span, lastEnd, dayStart, daysDone, days-are, day-within, judged-rest, rests-rest, judged-busy, LongBefore, long-before, ShortBefore, short-before}
-use Rattle.rules_fixed.proofs.Rules.{extendedIn, none-extended, weekBefore, count-one, driving-rest, up-to-rest, extended-rest, rule2-rest, rule3-rest, rule4-rest, rule5-rest, running}
+use Rattle.rules_fixed.proofs.Driving.{upTo, up-to-within, up-to-past, up-to-judged, driving-between, driving-snoc, length-more, driving-same}
+use Rattle.rules_fixed.proofs.Accumulated.{accumulatedFrom, accumulatedBy, rule1-rest, accumulated-after-rest, rule1-busy, accumulated-after-busy}
+use Rattle.rules_fixed.proofs.DayEnds.{span, lastEnd, dayStart, daysDone, days-are, day-within, judged-rest, rests-rest, judged-busy, long-before, short-before}
+use Rattle.rules_fixed.proofs.Rules.{extendedIn, none-extended, weekBefore, count-one, up-to-rest, extended-rest, rule2-rest, rule3-rest, rule4-rest, rule5-rest, running}
 use Rattle.rules_fixed.proofs.Rules.{extended-busy, rule2-busy, rule5-busy, rule3-busy, rule4-busy}
 
 -- ---- the smaller of two broken rules: each is 0 or past the rules that are read before it
@@ -84,7 +84,7 @@ pub data First (xs : List ℕ) (f : Break) : Type 0 where
 pub record Right (xs : List ℕ) (s : Account) : Type 0 where
   pub now : s .now ≡ length xs
   pub from : s .from ≡ judgedEnd xs
-  pub driven : s .driven ≡ drivenBy xs
+  pub accumulated : s .accumulated ≡ accumulatedBy xs
   pub start : s .day .start ≡ dayStart xs
   pub today : s .day .driving + upTo xs (dayStart xs) ≡ drivingTime xs
   pub extended : s .day .extended ≡ extendedIn xs (weekOf (dayStart xs))
@@ -176,7 +176,7 @@ module _ (xs : List ℕ) (s : Account) (k : Right xs s) where
   right-rest = record {
     now = omega (arith, k .now, length-more xs 0);
     from = k .from ∙ sym (judged-rest xs);
-    driven = k .driven ∙ sym (driven-after-rest xs);
+    accumulated = k .accumulated ∙ sym (accumulated-after-rest xs);
     start = k .start ∙ sym start-rest;
     today = rw start-rest (omega (arith, k .today, up-to-rest xs (dayStart xs), driving-snoc xs 0));
     extended = rw start-rest (k .extended ∙ sym (extended-rest xs (weekOf (dayStart xs))));
@@ -353,18 +353,18 @@ module _ (xs : List ℕ) (s : Account) (k : Right xs s) (a : ℕ) where
   abbrev dayNow : Day
   dayNow = dayWith (suc a) (dayAfter (s .now - s .from) (s .now) (s .week .end) (s .day))
 
-  abbrev drivenNow : Driven
-  drivenNow = drove (suc a) (rested (s .now - s .from) (s .driven))
+  abbrev accumulatedNow : Accumulated
+  accumulatedNow = drove (suc a) (rested (s .now - s .from) (s .accumulated))
 
-  driven-right : drivenNow ≡ drivenBy (xs ++ suc a ∷ [])
-  driven-right = rw (k .now, k .from, k .driven) (sym (driven-after-busy xs a))
+  accumulated-right : accumulatedNow ≡ accumulatedBy (xs ++ suc a ∷ [])
+  accumulated-right = rw (k .now, k .from, k .accumulated) (sym (accumulated-after-busy xs a))
 
-  test-busy : fixedTest (xs ++ suc a ∷ []) ≡ smaller (fixedTest xs) (brokenAt (s .now + 1) drivenNow dayNow (weekWith (suc a) (s .week)))
+  test-busy : fixedTest (xs ++ suc a ∷ []) ≡ smaller (fixedTest xs) (brokenAt (s .now + 1) accumulatedNow dayNow (weekWith (suc a) (s .week)))
   unfolding fixedTest firstBroken brokenAt
   test-busy =
       let n : s .now + 1 ≡ suc (length xs) = omega (arith, k .now) in
       rw (rule1-busy xs a, rule2-busy xs a, rule3-busy xs a (weekOf (length xs)) refl, rule4-busy xs a (weekOf (length xs)) refl, rule5-busy xs a)
-      (rw (n, driven-right, running-is (dayNow .driving) (day-right .today), day-right .extended, day-right .start, week-is, last-is)
+      (rw (n, accumulated-right, running-is (dayNow .driving) (day-right .today), day-right .extended, day-right .start, week-is, last-is)
       (five _ _ _ _ _ _ _ _ _ _))
 
   right-busy : Right (xs ++ suc a ∷ []) (busyMinute s (suc a))
@@ -374,14 +374,14 @@ module _ (xs : List ℕ) (s : Account) (k : Right xs s) (a : ℕ) where
       record {
         now = omega (arith, k .now, length-more xs (suc a));
         from = omega (arith, k .now, judged-busy xs a);
-        driven = driven-right;
+        accumulated = accumulated-right;
         start = day-right .start;
         today = day-right .today;
         extended = day-right .extended;
         end = w .end;
         weekly = w .weekly;
         last = w .last;
-        rule = ap (λ (x : ℕ). smaller x (brokenAt (s .now + 1) drivenNow dayNow (weekWith (suc a) (s .week)))) (k .rule) ∙ sym test-busy;
+        rule = ap (λ (x : ℕ). smaller x (brokenAt (s .now + 1) accumulatedNow dayNow (weekWith (suc a) (s .week)))) (k .rule) ∙ sym test-busy;
         first = first-more xs (suc a) (s .first) (s .now + 1) _ (omega (arith, k .now)) (k .first) test-busy;
       }
 
@@ -397,11 +397,11 @@ right-on xs [] s k = rw (append-nil xs) k
 right-on xs (a ∷ ms) s k = rw (append-snoc xs a ms) at (right-on (xs ++ a ∷ []) ms (minuteAfter s a) (right-minute xs s a k))
 
 right-none : Right [] opening
-unfolding rulesOpened drivenFrom lastEnd extendedIn
+unfolding rulesOpened accumulatedFrom lastEnd extendedIn
 right-none = record {
   now = refl;
   from = refl;
-  driven = refl;
+  accumulated = refl;
   start = refl;
   today = refl;
   extended = refl;

@@ -1,19 +1,18 @@
 -- Days and long rests with one minute more. Assumes nothing.
-use mathlib.Core.Path.{_≡_, refl, sym, ap, ap₂, _∙_}
+use mathlib.Core.Path.{_≡_, refl, sym, ap, _∙_}
 use mathlib.Core.Logic.{_⊎_, inl, inr}
-use mathlib.Core.Bool.{Bool, true, false}
-use mathlib.Core.List.{List, [], _∷_, _++_, append-nil, append-assoc, List·Memᴰ as In, List·Memᴰ·head as here, List·Memᴰ·tail as there, List·Memᴰ·cases-cons, List·Memᴰ·not-nil}
-use mathlib.Core.List.{Memᴰ·append-left, Memᴰ·append-right}
-use Prim.Native.Nat.{ℕ, zero, suc, _+_, _-_, _≤_, _<_, zero-le}
+use mathlib.Core.Bool.{true, false}
+use mathlib.Core.List.{List, [], _∷_, _++_, append-nil, List·Memᴰ as In, List·Memᴰ·cases-cons, List·Memᴰ·not-nil}
+use Prim.Native.Nat.{ℕ, suc, _-_, _≤_, zero-le}
 use native.Mathlib.Nat.{le-refl}
 use native.Mathlib.Omega.{arith}
 use lib.Dec.{leb}
 use lib.ListN.{length}
 use Rattle.recording.specs.Tests.{pick, keep}
-use Rattle.recording.specs.Rests.{lengthOf, endFrom, closedFrom, judgedEnd, longRestMinutes, isLong, longFrom, longRests}
+use Rattle.recording.specs.Rests.{endFrom, closedFrom, judgedEnd, longRestMinutes, longRests}
 use Rattle.recording.specs.Days.{daysFrom, days}
 use Rattle.recording.specs.declared.Span.{Span}
-use Rattle.recording.proofs.Walks.{judged-append, judged-within, long-rests-append}
+use Rattle.recording.proofs.Walks.{judged-append, long-rests-append}
 use Rattle.recording.proofs.LongRests.{Ordered, none, next, rests-ordered, long-busy}
 
 abbrev pub span : ℕ → ℕ → Span

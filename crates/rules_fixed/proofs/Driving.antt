@@ -1,11 +1,10 @@
 -- The driving up to a minute, with one minute more. Assumes nothing.
-use mathlib.Core.Path.{_≡_, refl, sym, ap, _∙_}
+use mathlib.Core.Path.{_≡_, refl, ap, _∙_}
 use mathlib.Core.List.{List, [], _∷_, _++_}
-use Prim.Native.Nat.{ℕ, zero, suc, _+_, _-_, _≤_, _<_, zero-le}
+use Prim.Native.Nat.{ℕ, suc, _+_, _-_, _≤_, _<_}
 use native.Mathlib.Omega.{arith}
-use lib.Dec.{eqb}
 use lib.ListN.{length, getD, take, drop, length-append, length-drop, take-append-drop}
-use lib.Seq.{slice, take-all, take-append-le, getD-drop}
+use lib.Seq.{take-all, take-append-le, getD-drop}
 use Rattle.recording.specs.Tests.{one}
 use Rattle.recording.specs.Words.{rest, isDriving, drivingTime}
 use Rattle.recording.specs.Rests.{judgedEnd}
@@ -28,13 +27,6 @@ up-to-within t xs ys h = ap drivingTime (take-append-le t xs ys h)
 
 pub up-to-past : (t : ℕ) (xs : List ℕ) → length xs ≤ t → upTo xs t ≡ drivingTime xs
 up-to-past t xs h = ap drivingTime (take-all t xs h)
-
-pub up-to-mono : (t t′ : ℕ) (xs : List ℕ) → t ≤ t′ → upTo xs t ≤ upTo xs t′
-unfolding drivingTime
-up-to-mono zero t′ xs h = zero-le
-up-to-mono (suc t) zero xs h = absurd (omega arith)
-up-to-mono (suc t) (suc t′) [] h = zero-le
-up-to-mono (suc t) (suc t′) (x ∷ xs) h = omega (arith, up-to-mono t t′ xs (omega arith))
 
 pub up-to-all : (t : ℕ) (xs : List ℕ) → upTo xs t ≤ drivingTime xs
 up-to-all t xs = omega (arith, driving-append (take t xs) (drop t xs), ap drivingTime (take-append-drop t xs))

@@ -1,5 +1,5 @@
 pub mod Driving
-pub mod Spell
+pub mod Accumulated
 pub mod DayEnds
 pub mod Rules
 pub mod AccountRight

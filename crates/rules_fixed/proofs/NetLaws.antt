@@ -1,4 +1,4 @@
--- The number of each long rest says rule 9's `shortened` for every load; and the numbers of a recording in order. Assumes nothing.
+-- The number of each long rest says rule 9's `shortened` for every compensation; and the numbers of a recording in order. Assumes nothing.
 use mathlib.Core.Path.{_≡_, refl, sym, ap, _∙_}
 use mathlib.Core.Bool.{Bool, true, false}
 use mathlib.Core.List.{List, [], _∷_, _++_, map}
@@ -25,28 +25,27 @@ use Rattle.rules.specs.ReadingRules.{dailyWindow, fullPortion, shortened}
 use Rattle.rules_fixed.specs.Nets.{regularNet, netsFrom, netsIn, Within}
 use Rattle.rules_fixed.specs.Walk.{Surveyed}
 use Rattle.rules_fixed.specs.declared.Survey.{Survey}
-use Rattle.rules_fixed.proofs.DayEnds.{lastEnd}
 
--- ---- one rest: it is shortened where its length is under the number and its load
-pub net-test : (p start end load : ℕ) → start ≤ end
-    → ltb (min end (p + dailyWindow + load)) (start + fullPortion + load) ≡ ltb (end - start) (regularNet p start end + load)
+-- ---- one rest: it is shortened where its length is under the number and its compensation
+pub net-test : (p start end compensation : ℕ) → start ≤ end
+    → ltb (min end (p + dailyWindow + compensation)) (start + fullPortion + compensation) ≡ ltb (end - start) (regularNet p start end + compensation)
 unfolding regularNet
-net-test p start end load h = at (leb (start + fullPortion) (p + dailyWindow)) (ltb (end - start) (fullPortion + load)) refl refl
+net-test p start end compensation h = at (leb (start + fullPortion) (p + dailyWindow)) (ltb (end - start) (fullPortion + compensation)) refl refl
   where
-    at : (b c : Bool) → leb (start + fullPortion) (p + dailyWindow) ≡ b → ltb (end - start) (fullPortion + load) ≡ c
-        → ltb (min end (p + dailyWindow + load)) (start + fullPortion + load) ≡ ltb (end - start) (pick b fullPortion (end - start + 1) + load)
+    at : (b c : Bool) → leb (start + fullPortion) (p + dailyWindow) ≡ b → ltb (end - start) (fullPortion + compensation) ≡ c
+        → ltb (min end (p + dailyWindow + compensation)) (start + fullPortion + compensation) ≡ ltb (end - start) (pick b fullPortion (end - start + 1) + compensation)
     at true true e l =
         let a = leb-true (start + fullPortion) (p + dailyWindow) e in
-        let d = ltb-true (end - start) (fullPortion + load) l in
-        lt-ltb (min end (p + dailyWindow + load)) (start + fullPortion + load) (omega arith) ∙ sym l
+        let d = ltb-true (end - start) (fullPortion + compensation) l in
+        lt-ltb (min end (p + dailyWindow + compensation)) (start + fullPortion + compensation) (omega arith) ∙ sym l
     at true false e l =
         let a = leb-true (start + fullPortion) (p + dailyWindow) e in
-        let d = ltb-false (end - start) (fullPortion + load) l in
-        le-ltb (min end (p + dailyWindow + load)) (start + fullPortion + load) (omega arith) ∙ sym l
+        let d = ltb-false (end - start) (fullPortion + compensation) l in
+        le-ltb (min end (p + dailyWindow + compensation)) (start + fullPortion + compensation) (omega arith) ∙ sym l
     at false c e l =
         let a = leb-false (start + fullPortion) (p + dailyWindow) e in
-        lt-ltb (min end (p + dailyWindow + load)) (start + fullPortion + load) (omega arith)
-        ∙ sym (lt-ltb (end - start) (end - start + 1 + load) (omega arith))
+        lt-ltb (min end (p + dailyWindow + compensation)) (start + fullPortion + compensation) (omega arith)
+        ∙ sym (lt-ltb (end - start) (end - start + 1 + compensation) (omega arith))
 
 -- it is at most the full portion or a minute more than the rest has
 pub net-most : (p start end : ℕ) → regularNet p start end ≤ fullPortion + (end - start + 1)
@@ -57,7 +56,7 @@ net-most p start end = at (leb (start + fullPortion) (p + dailyWindow))
     at true = omega arith
     at false = omega arith
 
--- THE LAW: for every load the number says rule 9's `shortened`
+-- THE LAW: for every compensation the number says rule 9's `shortened`
 pub net-says : (e : Entry) → e .span .start ≤ e .span .end → isWeekly (asRead e) ≡ false
     → shortened e ≡ ltb (minutes e) (regularNet (e .before) (e .span .start) (e .span .end) + e .compensation)
 unfolding shortened _and_

@@ -12,12 +12,12 @@ use Rattle.recording.specs.Words.{isDriving}
 use Rattle.recording.specs.Weeks.{isRest}
 use Rattle.recording.proofs.TestLaws.{and-left, and-right, and-both, clash}
 use Rattle.rules.specs.Broken.{unless}
-use Rattle.rules.specs.Fixed.{rested, drove, spellAtMost, dayAtMost, ordinaryDay, extendedDays, weekAtMost, fortnightAtMost, dayLength}
+use Rattle.rules.specs.Fixed.{rested, drove, accumulatedAtMost, dayAtMost, ordinaryDay, extendedDays, weekAtMost, fortnightAtMost, dayLength}
 use Rattle.rules.proofs.ByWord.{not-rested}
-use Rattle.rules.specs.declared.Driven.{Driven}
+use Rattle.rules.specs.declared.Accumulated.{Accumulated}
 use Rattle.rules_fixed.specs.Account.{dayAfter, dayWith, weekWith, weekNext, brokenAt, smaller, firstBreak, restMinute, busyMinute, minuteAfter, accountFrom}
 use Rattle.rules_fixed.specs.Walk.{Bounded, Ran}
-use Rattle.rules_fixed.specs.Parts.{drivingOf, drivenMore, dayMore, weekMore, restPart, judgedAt, busyPart, partAfter, sameBreaches}
+use Rattle.rules_fixed.specs.Parts.{drivingOf, accumulatedMore, dayMore, weekMore, restPart, judgedAt, busyPart, partAfter, sameBreaches}
 use Rattle.rules_fixed.specs.declared.Day.{Day}
 use Rattle.rules_fixed.specs.declared.Week.{Week}
 use Rattle.rules_fixed.specs.declared.Break.{Break}
@@ -41,9 +41,9 @@ driving-one : (b : Bool) (x : ℕ) → one b + x ≡ x + pick b 1 0
 driving-one true x = omega arith
 driving-one false x = omega arith
 
-driven-one : (a : ℕ) (d : Driven) → drove a d ≡ drivenMore (drivingOf a 1) d
+accumulated-one : (a : ℕ) (d : Accumulated) → drove a d ≡ accumulatedMore (drivingOf a 1) d
 unfolding drove
-driven-one a d = λ i. record { sum = driving-one (isDriving a) (d .sum) i; split = d .split }
+accumulated-one a d = λ i. record { sum = driving-one (isDriving a) (d .sum) i; split = d .split }
 
 day-one : (a : ℕ) (d : Day) → dayWith a d ≡ dayMore (drivingOf a 1) d
 unfolding dayWith dayMore
@@ -62,7 +62,7 @@ part-one s a = at (isRest a)
   where
     at : (b : Bool) → pick b (restPart s 1) (busyPart s a 1) ≡ pick b (restMinute s) (busyMinute s a)
     at true = refl
-    at false = sym (λ i. judgedAt (s .now + 1) (driven-one a (rested (s .now - s .from) (s .driven)) i)
+    at false = sym (λ i. judgedAt (s .now + 1) (accumulated-one a (rested (s .now - s .from) (s .accumulated)) i)
         (day-one a (dayAfter (s .now - s .from) (s .now) (s .week .end) (s .day)) i) (week-one a (s .week) i) (s .rule) (s .first))
 
 -- ---- one part after another
@@ -70,8 +70,8 @@ driving-on : (b : Bool) (n x : ℕ) → x + pick b 1 0 + pick b n 0 ≡ x + pick
 driving-on true n x = omega arith
 driving-on false n x = omega arith
 
-driven-on : (a n : ℕ) (d : Driven) → drivenMore (drivingOf a n) (drivenMore (drivingOf a 1) d) ≡ drivenMore (drivingOf a (suc n)) d
-driven-on a n d = λ i. record { sum = driving-on (isDriving a) n (d .sum) i; split = d .split }
+accumulated-on : (a n : ℕ) (d : Accumulated) → accumulatedMore (drivingOf a n) (accumulatedMore (drivingOf a 1) d) ≡ accumulatedMore (drivingOf a (suc n)) d
+accumulated-on a n d = λ i. record { sum = driving-on (isDriving a) n (d .sum) i; split = d .split }
 
 day-on : (a n : ℕ) (d : Day) → dayMore (drivingOf a n) (dayMore (drivingOf a 1) d) ≡ dayMore (drivingOf a (suc n)) d
 unfolding dayMore
@@ -108,7 +108,7 @@ kept : (x y limit : ℕ) → x ≤ y → leb y limit ≡ true → leb x limit �
 kept x y limit h t = le-leb x limit (omega (arith, leb-true y limit t))
 
 -- what the rules go by at a minute, and at a later one of the same part
-record Grown (now : ℕ) (d : Driven) (y : Day) (w : Week) (now′ : ℕ) (d′ : Driven) (y′ : Day) (w′ : Week) : Type 0 where
+record Grown (now : ℕ) (d : Accumulated) (y : Day) (w : Week) (now′ : ℕ) (d′ : Accumulated) (y′ : Day) (w′ : Week) : Type 0 where
   time : now ≤ now′
   sum : d .sum ≤ d′ .sum
   start : y′ .start ≡ y .start
@@ -117,11 +117,11 @@ record Grown (now : ℕ) (d : Driven) (y : Day) (w : Week) (now′ : ℕ) (d′ 
   weekly : w .driving ≤ w′ .driving
   last : w′ .last ≡ w .last
 
-broken-later : (now : ℕ) (d : Driven) (y : Day) (w : Week) (now′ : ℕ) (d′ : Driven) (y′ : Day) (w′ : Week) → Grown now d y w now′ d′ y′ w′
+broken-later : (now : ℕ) (d : Accumulated) (y : Day) (w : Week) (now′ : ℕ) (d′ : Accumulated) (y′ : Day) (w′ : Week) → Grown now d y w now′ d′ y′ w′
     → Later 1 (brokenAt now′ d′ y′ w′) (brokenAt now d y w)
 unfolding brokenAt
 broken-later now d y w now′ d′ y′ w′ g =
-    unless-later 1 2 (leb (d′ .sum) spellAtMost) (leb (d .sum) spellAtMost) _ _ (kept _ _ _ (g .sum)) (omega arith)
+    unless-later 1 2 (leb (d′ .sum) accumulatedAtMost) (leb (d .sum) accumulatedAtMost) _ _ (kept _ _ _ (g .sum)) (omega arith)
     (unless-later 2 3 (leb (y′ .driving) dayAtMost and leb (y′ .extended) extendedDays) (leb (y .driving) dayAtMost and leb (y .extended) extendedDays) _ _
     (λ t. and-both _ _ (kept _ _ _ (g .driving) (and-left _ _ t)) (kept _ _ _ (g .extended) (and-right _ _ t))) (omega arith)
     (unless-later 3 4 (leb (w′ .driving) weekAtMost) (leb (w .driving) weekAtMost) _ _ (kept _ _ _ (g .weekly)) (omega arith)
@@ -172,20 +172,20 @@ module _ (s : Account) (a n : ℕ) (some : 0 < n) (room : s .now + suc n ≤ s .
   rest-on =
       let z : s .now + 1 + n ≡ s .now + suc n = omega arith in
       let w : weekNext (s .now + 1) (s .week) ≡ s .week = not-ended (s .now + 1) (s .week) (omega arith) in
-      λ i. record { now = z i; from = s .from; driven = s .driven; day = s .day; week = weekNext (z i) (w i); rule = s .rule; first = s .first }
+      λ i. record { now = z i; from = s .from; accumulated = s .accumulated; day = s .day; week = weekNext (z i) (w i); rule = s .rule; first = s .first }
 
   rest-end : restPart s 1 .week .end ≡ s .week .end
   unfolding restPart
   rest-end = ap (λ (w : Week). w .end) (not-ended (s .now + 1) (s .week) (omega arith))
 
-  abbrev its-driven : Driven
-  its-driven = rested (s .now - s .from) (s .driven)
+  abbrev its-accumulated : Accumulated
+  its-accumulated = rested (s .now - s .from) (s .accumulated)
 
   abbrev its-day : Day
   its-day = dayAfter (s .now - s .from) (s .now) (s .week .end) (s .day)
 
   abbrev broken : ℕ → ℕ
-  broken k = brokenAt (s .now + k) (drivenMore (drivingOf a k) its-driven) (dayMore (drivingOf a k) its-day) (weekMore (drivingOf a k) (s .week))
+  broken k = brokenAt (s .now + k) (accumulatedMore (drivingOf a k) its-accumulated) (dayMore (drivingOf a k) its-day) (weekMore (drivingOf a k) (s .week))
 
   driving-less : (b : Bool) → pick b 1 0 ≤ pick b (suc n) 0
   driving-less true = omega arith
@@ -226,16 +226,16 @@ module _ (s : Account) (a n : ℕ) (some : 0 < n) (room : s .now + suc n ≤ s .
     busy-on =
         let z : s .now + 1 - (s .now + 1) ≡ 0 = omega arith in
         let now : s .now + 1 + n ≡ s .now + suc n = omega arith in
-        let d = drivenMore (drivingOf a 1) its-driven in
+        let d = accumulatedMore (drivingOf a 1) its-accumulated in
         let y = dayMore (drivingOf a 1) its-day in
         let e = busyPart s a 1 .week .end in
-        let driven : drivenMore (drivingOf a n) (rested (s .now + 1 - (s .now + 1)) d) ≡ drivenMore (drivingOf a (suc n)) its-driven =
-        ap (λ (x : ℕ). drivenMore (drivingOf a n) (rested x d)) z ∙ ap (drivenMore (drivingOf a n)) (not-rested d) ∙ driven-on a n its-driven in
+        let accumulated : accumulatedMore (drivingOf a n) (rested (s .now + 1 - (s .now + 1)) d) ≡ accumulatedMore (drivingOf a (suc n)) its-accumulated =
+        ap (λ (x : ℕ). accumulatedMore (drivingOf a n) (rested x d)) z ∙ ap (accumulatedMore (drivingOf a n)) (not-rested d) ∙ accumulated-on a n its-accumulated in
         let day : dayMore (drivingOf a n) (dayAfter (s .now + 1 - (s .now + 1)) (s .now + 1) e y) ≡ dayMore (drivingOf a (suc n)) its-day =
         ap (λ (x : ℕ). dayMore (drivingOf a n) (dayAfter x (s .now + 1) e y)) z ∙ ap (dayMore (drivingOf a n)) (same-day (s .now + 1) e y) ∙ day-on a n its-day in
         let week : weekMore (drivingOf a n) (weekNext (s .now + 1) (weekMore (drivingOf a 1) (s .week))) ≡ weekMore (drivingOf a (suc n)) (s .week) =
         ap (weekMore (drivingOf a n)) week-stays ∙ week-on a n (s .week) in
-        λ i. judgedAt (now i) (driven i) (day i) (week i) (rule-stays i) (first-stays i)
+        λ i. judgedAt (now i) (accumulated i) (day i) (week i) (rule-stays i) (first-stays i)
 
 -- the account t after the first minute of a part of a minute more
 record Onward (s t : Account) (a n : ℕ) : Type 0 where

@@ -4,24 +4,23 @@ use mathlib.Core.Path.{_≡_, refl, sym, ap, ap₂, _∙_}
 use mathlib.Core.Logic.{_⊎_, inl, inr}
 use mathlib.Core.Bool.{Bool, true, false}
 use mathlib.Core.List.{List, [], _∷_, _++_, List·Memᴰ as In, List·Memᴰ·head as here, List·Memᴰ·tail as there, List·Memᴰ·append-cases, List·Memᴰ·eq-of-singleton, Memᴰ·append-left, Memᴰ·append-right}
-use Prim.Native.Nat.{ℕ, zero, suc, _+_, _-_, _*_, _/_, _≤_, _<_, zero-le}
+use Prim.Native.Nat.{ℕ, zero, suc, _+_, _-_, _≤_, _<_}
 use native.Mathlib.Nat.{le-refl, le-trans, eq-or-lt-of-le}
 use native.Mathlib.Omega.{arith}
 use lib.Dec.{leb, ltb, eqb}
 use lib.ListN.{length}
-use borrow.Author.Tests.{leb-true, leb-false, le-leb, lt-leb, ltb-true, lt-ltb, le-ltb, eqb-true, eqb-false, eq-eqb, ne-eqb}
-use Rattle.recording.specs.Tests.{_and_, pick, one, allOf, allBelow, countOf}
-use Rattle.recording.specs.Words.{isDriving, drivingTime}
-use Rattle.recording.specs.Rests.{judgedEnd, longRestMinutes, longRests}
+use borrow.Author.Tests.{leb-true, le-leb, eqb-true, eqb-false}
+use Rattle.recording.specs.Tests.{_and_, one, countOf}
+use Rattle.recording.specs.Rests.{judgedEnd, longRestMinutes}
 use Rattle.recording.specs.Days.{days, drivingIn}
-use Rattle.recording.specs.Weeks.{weekMinutes, weekStart, week, weekOf, weeksOf}
+use Rattle.recording.specs.Weeks.{weekStart, week, weekOf, weeksOf}
 use Rattle.recording.specs.declared.Span.{Span}
 use Rattle.recording.proofs.TestLaws.{and-left, and-right, and-both, same-test, less-or-not, all-at, at-all, below-at, at-below, is-false}
 use Rattle.recording.proofs.Walks.{judged-within}
 use Rattle.rules.specs.Fixed.{dayAtMost, ordinaryDay, extendedDays, extended, rule2, weekAtMost, rule3, fortnightAtMost, rule4, dayLength, endsInTime, rule5}
 use Rattle.rules.proofs.FixedPrefix.{prefix2, prefix3, prefix4, prefix5}
-use Rattle.rules_fixed.proofs.Driving.{upTo, up-to-within, up-to-past, up-to-all, up-to-mono, up-to-judged, driving-between, driving-snoc, length-more, driving-same, driving-on}
-use Rattle.rules_fixed.proofs.DayEnds.{span, Past, dayStart, daysDone, days-are, done-are, day-within, days-rest, judged-rest, judged-busy, LongBefore, long-before, ShortBefore}
+use Rattle.rules_fixed.proofs.Driving.{upTo, up-to-within, up-to-past, driving-between, driving-snoc, length-more, driving-same}
+use Rattle.rules_fixed.proofs.DayEnds.{span, dayStart, daysDone, days-are, done-are, day-within, days-rest, long-before}
 use Rattle.rules_fixed.proofs.DayEnds.{short-before, days-busy}
 
 -- ---- counting

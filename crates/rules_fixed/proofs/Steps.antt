@@ -1,19 +1,18 @@
 -- What the steps of the walk keep. Assumes nothing.
-use mathlib.Core.Path.{_≡_, refl, sym, ap, _∙_}
+use mathlib.Core.Path.{_≡_, refl}
 use mathlib.Core.Bool.{Bool, true, false}
-use mathlib.Core.List.{List, [], _∷_, _++_}
-use Prim.Native.Nat.{ℕ, zero, suc, _+_, _-_, _≤_, _<_}
+use Prim.Native.Nat.{ℕ, zero, suc, _+_, _-_, _≤_}
 use native.Mathlib.Nat.{le-refl}
 use native.Mathlib.Omega.{arith}
 use lib.Dec.{leb, eqb, eqb·suc-zero, leb·suc-suc}
 use borrow.Author.Tests.{eqb-true}
 use Rattle.recording.proofs.TestLaws.{one-most}
-use Rattle.recording.specs.Tests.{_and_, pick, one}
+use Rattle.recording.specs.Tests.{_and_, pick}
 use Rattle.recording.specs.Words.{isDriving}
 use Rattle.recording.specs.Rests.{longRestMinutes}
 use Rattle.recording.specs.Weeks.{weekMinutes, isRest}
 use Rattle.rules.specs.Fixed.{cleared, clears, rested, drove, ordinaryDay}
-use Rattle.rules.specs.declared.Driven.{Driven}
+use Rattle.rules.specs.declared.Accumulated.{Accumulated}
 use Rattle.rules_fixed.specs.Account.{dayAfter, dayWith, weekWith, weekNext, smaller, restMinute, busyMinute, minuteAfter}
 use Rattle.rules_fixed.specs.Walk.{Bounded}
 use Rattle.rules_fixed.specs.declared.Account.{Account}
@@ -30,11 +29,11 @@ pick-most : (b : Bool) (x y n : ℕ) → x ≤ n → y ≤ n → pick b x y ≤ 
 pick-most true x y n h l = h
 pick-most false x y n h l = l
 
-pub rested-bounded : (n : ℕ) (d : Driven) (m : ℕ) → d .sum ≤ m → rested n d .sum ≤ m
+pub rested-bounded : (n : ℕ) (d : Accumulated) (m : ℕ) → d .sum ≤ m → rested n d .sum ≤ m
 unfolding rested
 rested-bounded n d m h = at (clears n d) cleared _ (omega arith) h
   where
-    at : (b : Bool) (x y : Driven) → x .sum ≤ m → y .sum ≤ m → pick b x y .sum ≤ m
+    at : (b : Bool) (x y : Accumulated) → x .sum ≤ m → y .sum ≤ m → pick b x y .sum ≤ m
     at true x y p q = p
     at false x y p q = q
 
@@ -88,9 +87,9 @@ module _ (s : Account) (k : Bounded s) where
   pub its-week : WeekBounded (s .week) (s .now)
   its-week = record { end = k .end; weekly = k .weekly; last = k .last }
 
-  drove-bounded : (a n : ℕ) → drove a (rested n (s .driven)) .sum ≤ s .now + 1
+  drove-bounded : (a n : ℕ) → drove a (rested n (s .accumulated)) .sum ≤ s .now + 1
   unfolding drove
-  drove-bounded a n = omega (arith, one-most (isDriving a), rested-bounded n (s .driven) (s .now) (k .sum))
+  drove-bounded a n = omega (arith, one-most (isDriving a), rested-bounded n (s .accumulated) (s .now) (k .sum))
 
   rest-bounded : Bounded (restMinute s)
   unfolding restMinute

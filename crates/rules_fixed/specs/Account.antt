@@ -1,5 +1,5 @@
--- The account of the fixed rules, defined minute by minute. Nobody has to believe it: proofs/AccountRight.antt shows that it answers the fixed rules as
--- document 01 says them.
+-- Inner: the account of the fixed rules, defined minute by minute. Nobody has to believe it: proofs/AccountRight.antt shows that it answers the fixed rules
+-- as document 01 says them.
 -- Assumes nothing.
 use mathlib.Core.List.{List, [], _∷_}
 use Prim.Native.Nat.{ℕ, zero, suc, _+_, _-_}
@@ -9,8 +9,8 @@ use Rattle.recording.specs.Words.{isDriving}
 use Rattle.recording.specs.Rests.{longRestMinutes}
 use Rattle.recording.specs.Weeks.{weekMinutes, isRest}
 use Rattle.rules.specs.Broken.{unless}
-use Rattle.rules.specs.Fixed.{cleared, rested, drove, spellAtMost, dayAtMost, ordinaryDay, extendedDays, weekAtMost, fortnightAtMost, dayLength}
-use Rattle.rules.specs.declared.Driven.{Driven}
+use Rattle.rules.specs.Fixed.{cleared, rested, drove, accumulatedAtMost, dayAtMost, ordinaryDay, extendedDays, weekAtMost, fortnightAtMost, dayLength}
+use Rattle.rules.specs.declared.Accumulated.{Accumulated}
 use Rattle.rules_fixed.specs.declared.Day.{Day}
 use Rattle.rules_fixed.specs.declared.Week.{Week}
 use Rattle.rules_fixed.specs.declared.Break.{Break}
@@ -37,9 +37,9 @@ unfoldable pub weekNext : ℕ → Week → Week
 weekNext now w = pick (eqb now (w .end)) (record { end = w .end + weekMinutes; driving = 0; last = w .driving }) w
 
 -- ---- the smallest rule that is broken at the minute that ends at `now`
-unfoldable pub brokenAt : ℕ → Driven → Day → Week → ℕ
+unfoldable pub brokenAt : ℕ → Accumulated → Day → Week → ℕ
 brokenAt now d y w =
-    unless (leb (d .sum) spellAtMost) 1
+    unless (leb (d .sum) accumulatedAtMost) 1
     (unless (leb (y .driving) dayAtMost and leb (y .extended) extendedDays) 2
     (unless (leb (w .driving) weekAtMost) 3
     (unless (leb (w .last + w .driving) fortnightAtMost) 4
@@ -59,7 +59,7 @@ unfoldable pub restMinute : Account → Account
 restMinute s = record {
   now = s .now + 1;
   from = s .from;
-  driven = s .driven;
+  accumulated = s .accumulated;
   day = s .day;
   week = weekNext (s .now + 1) (s .week);
   rule = s .rule;
@@ -68,14 +68,14 @@ restMinute s = record {
 
 unfoldable pub busyMinute : Account → ℕ → Account
 busyMinute s a =
-    let d = drove a (rested (s .now - s .from) (s .driven)) in
+    let d = drove a (rested (s .now - s .from) (s .accumulated)) in
     let y = dayWith a (dayAfter (s .now - s .from) (s .now) (s .week .end) (s .day)) in
     let w = weekWith a (s .week) in
     let b = brokenAt (s .now + 1) d y w in
     record {
       now = s .now + 1;
       from = s .now + 1;
-      driven = d;
+      accumulated = d;
       day = y;
       week = weekNext (s .now + 1) w;
       rule = smaller (s .rule) b;
@@ -93,7 +93,7 @@ abbrev pub opening : Account
 opening = record {
   now = 0;
   from = 0;
-  driven = cleared;
+  accumulated = cleared;
   day = record { start = 0; driving = 0; extended = 0 };
   week = record { end = weekMinutes; driving = 0; last = 0 };
   rule = 0;

@@ -1,4 +1,5 @@
--- Rule 9 by one number for each long rest. Nobody has to believe it: proofs/NetLaws.antt shows that the number says `shortened` of document 01's rule.
+-- Inner: rule 9 by one number for each long rest. Nobody has to believe it: proofs/NetLaws.antt shows that the number says `shortened` of document 01's
+-- rule.
 -- Assumes nothing.
 use mathlib.Core.List.{List, [], _∷_}
 use Prim.Native.Nat.{ℕ, zero, suc, _+_, _-_, _≤_, _<_}

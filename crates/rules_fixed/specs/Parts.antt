@@ -1,4 +1,4 @@
--- A part of a run in one step: n minutes of one activity, where no week ends before the last, and which are one minute or change nothing that is
+-- Inner: a part of a run in one step, n minutes of one activity, where no week ends before the last, and which are one minute or change nothing that is
 -- broken. Nobody has to believe it: proofs/PartRight.antt shows that the account after it is the one kept minute by minute.
 -- Assumes nothing.
 use mathlib.Core.Bool.{Bool}
@@ -8,7 +8,7 @@ use Rattle.recording.specs.Tests.{_and_, pick, one}
 use Rattle.recording.specs.Words.{isDriving}
 use Rattle.recording.specs.Weeks.{isRest}
 use Rattle.rules.specs.Fixed.{rested, ordinaryDay}
-use Rattle.rules.specs.declared.Driven.{Driven}
+use Rattle.rules.specs.declared.Accumulated.{Accumulated}
 use Rattle.rules_fixed.specs.Account.{dayAfter, weekNext, brokenAt, smaller, firstBreak}
 use Rattle.rules_fixed.specs.Walk.{Ran}
 use Rattle.rules_fixed.specs.declared.Day.{Day}
@@ -26,8 +26,8 @@ abbrev pub inWeek : ℕ → ℕ → ℕ → ℕ
 inWeek now end n = min n (1 + (end - (now + 1)))
 
 -- ---- the driving sum, the day and the week with k minutes of driving more; a day is extended once, where it passes the ordinary driving
-abbrev pub drivenMore : ℕ → Driven → Driven
-drivenMore k d = record { sum = d .sum + k; split = d .split }
+abbrev pub accumulatedMore : ℕ → Accumulated → Accumulated
+accumulatedMore k d = record { sum = d .sum + k; split = d .split }
 
 unfoldable pub dayMore : ℕ → Day → Day
 dayMore k d =
@@ -45,20 +45,20 @@ unfoldable pub restPart : Account → ℕ → Account
 restPart s n = record {
   now = s .now + n;
   from = s .from;
-  driven = s .driven;
+  accumulated = s .accumulated;
   day = s .day;
   week = weekNext (s .now + n) (s .week);
   rule = s .rule;
   first = s .first;
 }
 
-abbrev pub judgedAt : ℕ → Driven → Day → Week → ℕ → Break → Account
+abbrev pub judgedAt : ℕ → Accumulated → Day → Week → ℕ → Break → Account
 judgedAt now d y w rule first =
     let b = brokenAt now d y w in
     record {
       now = now;
       from = now;
-      driven = d;
+      accumulated = d;
       day = y;
       week = weekNext now w;
       rule = smaller rule b;
@@ -70,7 +70,7 @@ busyPart s a n =
     let rest = s .now - s .from in
     judgedAt
     (s .now + n)
-    (drivenMore (drivingOf a n) (rested rest (s .driven)))
+    (accumulatedMore (drivingOf a n) (rested rest (s .accumulated)))
     (dayMore (drivingOf a n) (dayAfter rest (s .now) (s .week .end) (s .day)))
     (weekMore (drivingOf a n) (s .week))
     (s .rule)

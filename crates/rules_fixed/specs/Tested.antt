@@ -1,4 +1,5 @@
--- Cited by the contracts of both tests: what the enum of their answers says. Assumes nothing.
+-- Public: what the enum of both tests' answers says.
+-- Assumes nothing.
 use Prim.Native.Nat.{ℕ}
 use Rattle.recording.specs.Answers.{Answer, refused, answered}
 use Rattle.rules_fixed.specs.declared.Tested.{Tested}

@@ -1,4 +1,4 @@
--- What the inner functions of this layer keep and answer. Nobody has to believe it: no public contract cites it.
+-- Inner: what the functions of this layer keep and answer. Nobody has to believe it: no public contract cites it.
 -- Assumes nothing.
 use mathlib.Core.Path.{_≡_}
 use mathlib.Core.List.{List}
@@ -17,7 +17,7 @@ use Rattle.rules_fixed.specs.declared.Survey.{Survey}
 -- no part of an account is past its minute
 pub record Bounded (s : Account) : Type 0 where
   pub from : s .from ≤ s .now
-  pub sum : s .driven .sum ≤ s .now
+  pub sum : s .accumulated .sum ≤ s .now
   pub start : s .day .start ≤ s .now
   pub driving : s .day .driving ≤ s .now
   pub extended : s .day .extended ≤ s .now

@@ -1,7 +1,7 @@
 // The fixed rules, 1 to 5, in one walk over a recording; and what the later rules ask of its long rests.
 use recording::Place;
 use recording::Weighing;
-use rules::Driven;
+use rules::Accumulated;
 ghost use mathlib.Core.Path.{_≡_};
 ghost use Prim.Native.Nat.{_+_, _<_, _≤_};
 ghost use lib.ListN.{length, take};
@@ -15,7 +15,7 @@ ghost use Rattle.rules_fixed.specs.Account.{dayAfter, weekNext, brokenAt
 ghost use Rattle.rules_fixed.specs.Nets.{regularNet, netsIn, Within};
 ghost use Rattle.rules_fixed.specs.Walk.{Bounded, Ran, Surveyed};
 ghost use Rattle.rules_fixed.specs.Tested.{tested};
-ghost use Rattle.rules_fixed.specs.Parts.{drivingOf, inWeek, drivenMore, dayMore, weekMore, partAfter, sameBreaches, Taken};
+ghost use Rattle.rules_fixed.specs.Parts.{drivingOf, inWeek, accumulatedMore, dayMore, weekMore, partAfter, sameBreaches, Taken};
 
 // The day that runs: its start P, its driving, and how many days that began in its week were extended.
 pub struct Day {
@@ -42,7 +42,7 @@ pub struct Break {
 pub struct Account {
     pub now: u32,
     pub from: u32,
-    pub driven: Driven,
+    pub accumulated: Accumulated,
     pub day: Day,
     pub week: Week,
     pub rule: u32,
@@ -73,7 +73,7 @@ const FIRST_PART: u32 = 15;
 
 const SECOND_PART: u32 = 30;
 
-const SPELL: u32 = 270;
+const ACCUMULATED_AT_MOST: u32 = 270;
 
 const DAY: u32 = 600;
 
@@ -92,11 +92,11 @@ const DAILY_WINDOW: u32 = 1440;
 const FULL_PORTION: u32 = 660;
 
 // Rule 1: the driving sum after a rest of n minutes.
-fn rested_for(n: u32, d: Driven) -> Driven
+fn rested_for(n: u32, d: Accumulated) -> Accumulated
     ensures { λ r. ⌜ r ≡ rested n d ⌝ }
 {
     if FULL_BREAK <= n {
-        return Driven {
+        return Accumulated {
             sum: 0,
             split: false,
         };
@@ -105,18 +105,18 @@ fn rested_for(n: u32, d: Driven) -> Driven
         return d;
     }
     if n < SECOND_PART {
-        return Driven {
+        return Accumulated {
             sum: d.sum,
             split: true,
         };
     }
     if d.split {
-        return Driven {
+        return Accumulated {
             sum: 0,
             split: false,
         };
     }
-    Driven {
+    Accumulated {
         sum: d.sum,
         split: true,
     }
@@ -155,11 +155,11 @@ fn driving_of(activity: u32, n: u32) -> u32
 }
 
 // Rule 1: the driving sum with k minutes more.
-fn driven_more(k: u32, d: Driven) -> Driven
+fn accumulated_more(k: u32, d: Accumulated) -> Accumulated
     requires { ⌜ d .sum + k ≤ totalAtMost ⌝ }
-    ensures { λ r. ⌜ r ≡ drivenMore k d ⌝ }
+    ensures { λ r. ⌜ r ≡ accumulatedMore k d ⌝ }
 {
-    Driven {
+    Accumulated {
         sum: d.sum + k,
         split: d.split,
     }
@@ -219,11 +219,11 @@ fn week_next(minute: u32, w: Week) -> Week
 }
 
 // The smallest rule that is broken at the minute that ends now, or 0.
-fn broken_at(minute: u32, d: Driven, y: Day, w: Week) -> u32
+fn broken_at(minute: u32, d: Accumulated, y: Day, w: Week) -> u32
     requires { ⌜ (y .start ≤ totalAtMost) × (w .last ≤ totalAtMost) × (w .driving ≤ totalAtMost) ⌝ }
     ensures { λ r. ⌜ r ≡ brokenAt minute d y w ⌝ }
 {
-    if SPELL < d.sum {
+    if ACCUMULATED_AT_MOST < d.sum {
         return 1;
     }
     if DAY < y.driving {
@@ -283,7 +283,7 @@ fn part_after(s: Account, activity: u32, n: u32) -> Account
     ensures { λ r. ⌜ r ≡ partAfter s activity n ⌝ }
 {
     let now = s.now + n;
-    let driven = s.driven;
+    let accumulated = s.accumulated;
     let day = s.day;
     let week = s.week;
     let first = s.first;
@@ -291,7 +291,7 @@ fn part_after(s: Account, activity: u32, n: u32) -> Account
         0 => Account {
             now: now,
             from: s.from,
-            driven: driven,
+            accumulated: accumulated,
             day: day,
             week: week_next(now, week),
             rule: s.rule,
@@ -300,14 +300,14 @@ fn part_after(s: Account, activity: u32, n: u32) -> Account
         1 | 2 | 3 | _ => {
             let rest = s.now - s.from;
             let k = driving_of(activity, n);
-            let d = driven_more(k, rested_for(rest, driven));
+            let d = accumulated_more(k, rested_for(rest, accumulated));
             let y = day_more(k, day_after(rest, s.now, week.end, day));
             let w = week_more(k, week);
             let b = broken_at(now, d, y, w);
             Account {
                 now: now,
                 from: now,
-                driven: d,
+                accumulated: d,
                 day: y,
                 week: week_next(now, w),
                 rule: smaller_of(s.rule, b),
@@ -396,7 +396,7 @@ fn account_of(words: &[u32], m: u32) -> Account
     let mut s = Account {
         now: 0,
         from: 0,
-        driven: Driven {
+        accumulated: Accumulated {
             sum: 0,
             split: false,
         },

@@ -2,19 +2,20 @@
 use mathlib.Core.Path.{_≡_, refl, sym, ap, _∙_}
 use mathlib.Core.Bool.{Bool, true, false}
 use mathlib.Core.List.{List}
-use Prim.Native.Nat.{ℕ, zero, suc, _+_, _-_, _*_, _≤_, _<_}
+use Prim.Native.Nat.{ℕ, zero, suc, _+_, _-_, _≤_, _<_}
 use native.Mathlib.Omega.{arith}
 use lib.Dec.{leb, ltb}
 use lib.ListN.{getD, set}
-use borrow.Author.Tests.{le-leb, lt-ltb, ne-eqb}
+use borrow.Author.Tests.{le-leb, lt-ltb, ltb-false, ne-eqb}
 use Rattle.recording.specs.Tests.{_and_, _or_, pick}
 use Rattle.recording.specs.Weeks.{weekStart, touches}
 use Rattle.recording.specs.Operations.{totalAtMost}
-use Rattle.rules.specs.Reading.{weeklyKind, asRead, isWeekly}
+use Rattle.rules.specs.Reading.{weeklyKind, regularMinutes, standingOf, asRead, isWeekly, reductionOf}
 use Rattle.rules.specs.declared.Kind.{Kind}
+use Rattle.rules.specs.declared.Kind.the-variants.{Weekly}
 use Rattle.rules.specs.ReadingRules.{weeklyLength, formedDaily, formedWeekly, formed, fullPortion, shortened}
 use Rattle.rules_fixed.proofs.NetLaws.{net-most, net-says}
-use Rattle.rules_reading.specs.Items.{entryBy, endBefore, endAt, Sane, restBy, paid}
+use Rattle.rules_reading.specs.Items.{entryBy, endBefore, endAt, Sane, standingFor, restBy, addedTo}
 use Rattle.rules_reading.specs.declared.LongRest.{LongRest}
 use Rattle.rules_reading.specs.declared.Item.{Item}
 
@@ -25,6 +26,14 @@ end-before-suc ends (suc i) h = let e : suc i - 1 ≡ i = omega arith in ap (λ 
 pub end-at-suc : (ends : List ℕ) (k n : ℕ) → (n ≡ 0 → ⊥) → endAt ends k n ≡ pick (ltb (n - 1) k) (getD ends (n - 1) 0) 0
 end-at-suc ends k zero h = absurd (h refl)
 end-at-suc ends k (suc i) h = let e : i ≡ suc i - 1 = omega arith in ap (λ (n : ℕ). pick (ltb n k) (getD ends n 0) 0) e
+
+-- the reduction of a weekly rest is what it lacks
+pub standing-reduction : (minutes compensation : ℕ) → reductionOf (Weekly (standingFor minutes compensation)) ≡ regularMinutes + compensation - minutes
+standing-reduction minutes compensation = by (ltb minutes (regularMinutes + compensation)) refl
+  where
+    by : (b : Bool) → ltb minutes (regularMinutes + compensation) ≡ b → reductionOf (Weekly (standingOf b (regularMinutes + compensation - minutes))) ≡ regularMinutes + compensation - minutes
+    by true e = refl
+    by false e = let h : regularMinutes + compensation ≤ minutes = ltb-false minutes (regularMinutes + compensation) e in omega arith
 
 pub or-none : (x : Bool) → x ≡ x or false
 unfolding _or_
@@ -51,13 +60,13 @@ formed-carried k x e l s t z n =
 pub kind-is : (x : Item) {r : LongRest} {m : Kind} → r ≡ restBy x → r .kind ≡ m → asRead (entryBy x) ≡ m
 kind-is x e q = sym (ap (λ (r : LongRest). r .kind) e) ∙ q
 
-pub paid-suc : (loads : List ℕ) (c d : ℕ) → (c ≡ 0 → ⊥) → paid loads c d ≡ set loads (c - 1) (getD loads (c - 1) 0 + d)
-paid-suc loads zero d h = absurd (h refl)
-paid-suc loads (suc c) d h = let e : c ≡ suc c - 1 = omega arith in ap (λ (n : ℕ). set loads n (getD loads n 0 + d)) e
+pub addedTo-suc : (compensations : List ℕ) (c d : ℕ) → (c ≡ 0 → ⊥) → addedTo compensations c d ≡ set compensations (c - 1) (getD compensations (c - 1) 0 + d)
+addedTo-suc compensations zero d h = absurd (h refl)
+addedTo-suc compensations (suc c) d h = let e : c ≡ suc c - 1 = omega arith in ap (λ (n : ℕ). set compensations n (getD compensations n 0 + d)) e
 
 -- rule 9 by the number of an item
 pub item-net : (x : Item) → Sane x → x .net ≤ fullPortion + totalAtMost + 1
 item-net x h = omega (arith, h .net, net-most (x .before) (x .start) (x .end), h .end)
 
-pub item-shortened : (x : Item) → Sane x → isWeekly (asRead (entryBy x)) ≡ false → ltb (x .end - x .start) (x .net + x .load) ≡ shortened (entryBy x)
-item-shortened x h d = ap (λ (n : ℕ). ltb (x .end - x .start) (n + x .load)) (h .net) ∙ sym (net-says (entryBy x) (h .ordered) d)
+pub item-shortened : (x : Item) → Sane x → isWeekly (asRead (entryBy x)) ≡ false → ltb (x .end - x .start) (x .net + x .compensation) ≡ shortened (entryBy x)
+item-shortened x h d = ap (λ (n : ℕ). ltb (x .end - x .start) (n + x .compensation)) (h .net) ∙ sym (net-says (entryBy x) (h .ordered) d)

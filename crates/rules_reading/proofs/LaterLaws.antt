@@ -208,7 +208,7 @@ module _ (ws reading : List ℕ) {m : Measure} (q : measured ws ≡ answered m) 
     starts-in = omega (arith, few, count-is, sized starts (map (λ (x : Span). x .start) (longRests (minutesOf ws))) starts-are);
     ends-in = omega (arith, few, count-is, sized ends (map (λ (x : Span). x .end) (longRests (minutesOf ws))) ends-are);
     nets-in = omega (arith, few, count-is, sized nets (netsFrom 0 (longRests (minutesOf ws))) (v .numbered));
-    loads-in = rw length-replicate (omega (arith, few, count-is));
+    compensations-in = rw length-replicate (omega (arith, few, count-is));
     reading-in = e;
     ordered = λ i h.
         let l : i < length (longRests (minutesOf ws)) = omega (arith, count-is) in

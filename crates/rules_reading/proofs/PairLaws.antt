@@ -1,18 +1,16 @@
 -- Rule 11: the walks over the rests and over the pairs of weeks. Assumes nothing.
 use mathlib.Core.Path.{_≡_, refl, sym, ap, ap₂, _∙_}
 use mathlib.Core.Bool.{Bool, true, false, not}
-use mathlib.Core.List.{List, [], _∷_}
-use Prim.Native.Nat.{ℕ, zero, suc, _+_, _-_, _*_, _/_, _≤_, _<_}
+use mathlib.Core.List.{List, _∷_}
+use Prim.Native.Nat.{ℕ, zero, suc, _+_, _-_, _≤_, _<_}
 use native.Mathlib.Numerals.{add-one}
 use native.Mathlib.Omega.{arith}
 use lib.Dec.{leb}
-use lib.ListN.{length, getD}
+use lib.ListN.{getD}
 use borrow.Author.Tests.{le-leb, lt-leb}
-use Rattle.recording.specs.Tests.{_and_, _or_, pick, allOf, anyOf, allBelow, countOf}
+use Rattle.recording.specs.Tests.{_and_, _or_, pick, anyOf, allBelow, countOf}
 use Rattle.recording.specs.Operations.{totalAtMost}
-use Rattle.recording.specs.Weeks.{weekMinutes, weekStart, week, weekOf, inside}
-use Rattle.recording.specs.declared.Span.{Span}
-use Rattle.recording.proofs.TestLaws.{same-test, below-at, at-below}
+use Rattle.recording.specs.Weeks.{weekStart, week, weekOf, inside}
 use Rattle.rules.specs.Reading.{Entry, isWeekly, isRegular}
 use Rattle.rules.specs.ReadingRules.{ofKind, countedIn, weeklyAtLeast, regularAtLeast, enoughIn, rule11}
 use Rattle.rules_reading.specs.Items.{spanAt, spansFrom, spansIn, countedBy, enoughWith, rule11With, restWeeks}

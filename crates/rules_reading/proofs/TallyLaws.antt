@@ -3,19 +3,18 @@ use mathlib.Core.Path.{_≡_, refl, sym, ap, ap₂, _∙_}
 use mathlib.Core.Logic.{_⊎_, inl, inr}
 use mathlib.Core.Bool.{Bool, true, false, not}
 use mathlib.Core.List.{List, [], _∷_}
-use Prim.Native.Nat.{ℕ, zero, suc, _+_, _-_, _*_, _≤_, _<_, min}
-use native.Mathlib.Nat.{le-refl, le-trans}
+use Prim.Native.Nat.{ℕ, zero, suc, _+_, _-_, _≤_, _<_, min}
 use native.Mathlib.Omega.{arith}
-use lib.Dec.{leb, ltb, eqb, ltb→lt}
+use lib.Dec.{leb, ltb, eqb}
 use lib.ListN.{length, getD, set, length-set, List·getD-eq-default}
-use lib.Seq.{getD-set-same, getD-set-other, set-out}
-use borrow.Author.Tests.{leb-true, leb-false, le-leb, lt-leb, lt-ltb, le-ltb, ltb-true, ltb-false, eqb-true, eqb-false, eq-eqb, ne-eqb}
-use Rattle.recording.specs.Tests.{_and_, _or_, pick, one, allOf, countOf}
+use lib.Seq.{getD-set-same, getD-set-other}
+use borrow.Author.Tests.{leb-true, leb-false, lt-ltb, le-ltb, ltb-true, ltb-false, eqb-true, eqb-false, eq-eqb, ne-eqb}
+use Rattle.recording.specs.Tests.{_and_, _or_, pick, one, allOf}
 use Rattle.recording.specs.Weeks.{weekStart}
 use Rattle.recording.specs.declared.Span.{Span}
-use Rattle.recording.proofs.TestLaws.{less-or-not, and-left, and-right, one-most}
+use Rattle.recording.proofs.TestLaws.{less-or-not, one-most}
 use Rattle.rules.specs.Broken.{unless}
-use Rattle.rules.specs.Reading.{Entry, minutes, regularMinutes, weeklyKind, asRead, isWeekly, isRegular, reductionOf, kindOf, standingOf}
+use Rattle.rules.specs.Reading.{Entry, minutes, regularMinutes, weeklyKind, asRead, isWeekly, reductionOf, kindOf, standingOf}
 use Rattle.rules.specs.ReadingRules.{leastNet, weeksToCompensate, deadline, endOf, byDeadline, settles, compensated, shortenedAtMost, rule9From, inGap, rule10From}
 use Rattle.rules.specs.declared.Kind.{Kind}
 use Rattle.rules.specs.declared.Kind.the-variants.{Daily, Weekly}
@@ -23,7 +22,7 @@ use Rattle.rules.specs.declared.Standing.the-variants.{Regular, Reduced}
 use Rattle.rules_fixed.specs.Account.{smaller}
 use Rattle.rules_fixed.proofs.AccountRight.{Past, past-unless, unless-both}
 use Rattle.rules_reading.specs.declared.Tally.{Tally}
-use Rattle.rules_reading.specs.Items.{endAt, timeBy, shortAfter, brokenBy, tallyBy, paid, bumped, spanAt, spansFrom, spansIn, testFrom}
+use Rattle.rules_reading.specs.Items.{endAt, timeBy, shortAfter, brokenBy, tallyBy, addedTo, incremented, spansFrom, spansIn, testFrom}
 
 -- ---- the smaller rule, of three
 smaller-min : (a b : ℕ) → smaller (suc a) (suc b) ≡ suc (min a b)
@@ -52,9 +51,9 @@ three r8 r9 r10 t8 t9 t10 =
     (unless-both 9 r10 t10 0 0 0 (inl refl) (inl refl) refl))
 
 -- ---- rule 8, as the code asks it
-by-test : (b : Bool) (s : ℕ) (rs : List Span) (c due : ℕ) → pick b (ltb s due) (leb (endOf rs c) due) ≡ byDeadline b s rs c due
-by-test true s rs c due = refl
-by-test false s rs c due = refl
+by-test : (b : Bool) (s : ℕ) (rs : List Span) (c deadline : ℕ) → pick b (ltb s deadline) (leb (endOf rs c) deadline) ≡ byDeadline b s rs c deadline
+by-test true s rs c deadline = refl
+by-test false s rs c deadline = refl
 
 time-settles : (m : Kind) (s : ℕ) (rs : List Span) (week c : ℕ) → timeBy m week c (endOf rs c) s ≡ settles m s rs c (weekStart (week + weeksToCompensate))
 time-settles Daily s rs week c = refl
@@ -119,49 +118,49 @@ same-suc c j = at (eqb c j) refl
     at true e = sym (eq-eqb (suc c) (suc j) (ap suc (eqb-true c j e)))
     at false e = sym (ne-eqb (suc c) (suc j) (λ q. eqb-false c j e (omega arith)))
 
-pub paid-at : (loads : List ℕ) (c d j : ℕ) → j < length loads → getD (paid loads c d) j 0 ≡ pick (eqb c (suc j)) d 0 + getD loads j 0
-paid-at loads zero d j h = rw (ne-eqb 0 (suc j) (λ q. omega arith)) (omega arith)
-paid-at loads (suc c) d j h = set-at loads c d j h ∙ ap (λ (b : Bool). pick b d 0 + getD loads j 0) (same-suc c j)
+pub addedTo-at : (compensations : List ℕ) (c d j : ℕ) → j < length compensations → getD (addedTo compensations c d) j 0 ≡ pick (eqb c (suc j)) d 0 + getD compensations j 0
+addedTo-at compensations zero d j h = rw (ne-eqb 0 (suc j) (λ q. omega arith)) (omega arith)
+addedTo-at compensations (suc c) d j h = set-at compensations c d j h ∙ ap (λ (b : Bool). pick b d 0 + getD compensations j 0) (same-suc c j)
 
-pub paid-length : (loads : List ℕ) (c d : ℕ) → length (paid loads c d) ≡ length loads
-paid-length loads zero d = refl
-paid-length loads (suc c) d = length-set loads c _
+pub addedTo-length : (compensations : List ℕ) (c d : ℕ) → length (addedTo compensations c d) ≡ length compensations
+addedTo-length compensations zero d = refl
+addedTo-length compensations (suc c) d = length-set compensations c _
 
 pick-le : (b : Bool) (d n : ℕ) → d ≤ n → pick b d 0 ≤ n
 pick-le true d n h = h
 pick-le false d n h = omega arith
 
-pub paid-below : (loads : List ℕ) (c d n m : ℕ) → ((i : ℕ) → getD loads i 0 ≤ n) → d ≤ m → (i : ℕ) → getD (paid loads c d) i 0 ≤ n + m
-paid-below loads c d n m f h i = at (less-or-not i (length loads))
+pub addedTo-below : (compensations : List ℕ) (c d n m : ℕ) → ((i : ℕ) → getD compensations i 0 ≤ n) → d ≤ m → (i : ℕ) → getD (addedTo compensations c d) i 0 ≤ n + m
+addedTo-below compensations c d n m f h i = at (less-or-not i (length compensations))
   where
-    at : (i < length loads) ⊎ (length loads ≤ i) → getD (paid loads c d) i 0 ≤ n + m
-    at (inl l) = omega (arith, paid-at loads c d i l, f i, pick-le (eqb c (suc i)) d m h)
-    at (inr l) = omega (arith, List·getD-eq-default (paid loads c d) 0 {n = i} (rw (paid-length loads c d) l))
+    at : (i < length compensations) ⊎ (length compensations ≤ i) → getD (addedTo compensations c d) i 0 ≤ n + m
+    at (inl l) = omega (arith, addedTo-at compensations c d i l, f i, pick-le (eqb c (suc i)) d m h)
+    at (inr l) = omega (arith, List·getD-eq-default (addedTo compensations c d) 0 {n = i} (rw (addedTo-length compensations c d) l))
 
-pub bumped-at : (b : Bool) (counts : List ℕ) (w v : ℕ) → v < length counts → getD (bumped b counts w) v 0 ≡ one (b and eqb w v) + getD counts v 0
+pub incremented-at : (b : Bool) (counts : List ℕ) (w v : ℕ) → v < length counts → getD (incremented b counts w) v 0 ≡ one (b and eqb w v) + getD counts v 0
 unfolding _and_
-bumped-at true counts w v h = set-at counts w 1 v h ∙ ap (λ (n : ℕ). n + getD counts v 0) (as-one (eqb w v))
+incremented-at true counts w v h = set-at counts w 1 v h ∙ ap (λ (n : ℕ). n + getD counts v 0) (as-one (eqb w v))
   where
     as-one : (b : Bool) → pick b 1 0 ≡ one b
     as-one true = refl
     as-one false = refl
-bumped-at false counts w v h = omega arith
+incremented-at false counts w v h = omega arith
 
-pub bumped-length : (b : Bool) (counts : List ℕ) (w : ℕ) → length (bumped b counts w) ≡ length counts
-bumped-length true counts w = length-set counts w _
-bumped-length false counts w = refl
+pub incremented-length : (b : Bool) (counts : List ℕ) (w : ℕ) → length (incremented b counts w) ≡ length counts
+incremented-length true counts w = length-set counts w _
+incremented-length false counts w = refl
 
-pub bumped-below : (b : Bool) (counts : List ℕ) (w n : ℕ) → ((i : ℕ) → getD counts i 0 ≤ n) → (i : ℕ) → getD (bumped b counts w) i 0 ≤ n + 1
-bumped-below b counts w n f i = at (less-or-not i (length counts))
+pub incremented-below : (b : Bool) (counts : List ℕ) (w n : ℕ) → ((i : ℕ) → getD counts i 0 ≤ n) → (i : ℕ) → getD (incremented b counts w) i 0 ≤ n + 1
+incremented-below b counts w n f i = at (less-or-not i (length counts))
   where
-    at : (i < length counts) ⊎ (length counts ≤ i) → getD (bumped b counts w) i 0 ≤ n + 1
-    at (inl l) = omega (arith, bumped-at b counts w i l, f i, one-most (b and eqb w i))
-    at (inr l) = omega (arith, List·getD-eq-default (bumped b counts w) 0 {n = i} (rw (bumped-length b counts w) l))
+    at : (i < length counts) ⊎ (length counts ≤ i) → getD (incremented b counts w) i 0 ≤ n + 1
+    at (inl l) = omega (arith, incremented-at b counts w i l, f i, one-most (b and eqb w i))
+    at (inr l) = omega (arith, List·getD-eq-default (incremented b counts w) 0 {n = i} (rw (incremented-length b counts w) l))
 
--- ---- a rest that is long enough owes no more than a regular one has
-pub owes-little : (e : Entry) → leb (leastNet (asRead e) + e .compensation) (minutes e) ≡ true → reductionOf (asRead e) ≤ regularMinutes
+-- ---- a rest that is long enough is reduced by no more than a regular one has
+pub isOutstanding-little : (e : Entry) → leb (leastNet (asRead e) + e .compensation) (minutes e) ≡ true → reductionOf (asRead e) ≤ regularMinutes
 unfolding asRead
-owes-little e t = at (eqb (e .kind) weeklyKind) (ltb (minutes e) (regularMinutes + e .compensation)) t
+isOutstanding-little e t = at (eqb (e .kind) weeklyKind) (ltb (minutes e) (regularMinutes + e .compensation)) t
   where
     at : (a b : Bool) → leb (leastNet (kindOf a (standingOf b (regularMinutes + e .compensation - minutes e))) + e .compensation) (minutes e) ≡ true
         → reductionOf (kindOf a (standingOf b (regularMinutes + e .compensation - minutes e))) ≤ regularMinutes

@@ -1,37 +1,27 @@
 -- The walks over the long rests: what they keep. Assumes nothing.
 use mathlib.Core.Path.{_≡_, refl, sym, ap, ap₂, _∙_}
-use mathlib.Core.Logic.{_⊎_, inl, inr}
-use mathlib.Core.Bool.{Bool, true, false, not}
+use mathlib.Core.Bool.{Bool, true, false}
 use mathlib.Core.List.{List, [], _∷_}
-use Prim.Native.Nat.{ℕ, zero, suc, _+_, _-_, _*_, _≤_, _<_, min}
+use Prim.Native.Nat.{ℕ, zero, suc, _+_, _-_, _*_, _≤_, _<_}
 use native.Mathlib.Nat.{le-refl, le-trans, le-of-eq}
 use native.Mathlib.Numerals.{add-one}
 use native.Mathlib.Omega.{arith}
-use lib.Dec.{leb, ltb, eqb}
-use lib.ListN.{length, drop, getD, set}
-use lib.Seq.{drop-drop, getD-drop, getD-set-same, getD-set-other}
-use borrow.Author.Tests.{leb-true, leb-false, le-leb, lt-leb, ltb-true, ltb-false, eqb-true, eqb-false, eq-eqb, ne-eqb}
-use Rattle.recording.specs.Tests.{_and_, _or_, pick, one, allOf, countOf}
-use Rattle.recording.specs.Rests.{lengthOf, longRestsAtMost}
+use lib.Dec.{leb, eqb}
+use lib.ListN.{length, drop, getD}
+use lib.Seq.{drop-drop, getD-drop}
+use Rattle.recording.specs.Tests.{_and_, pick, one, allOf, countOf}
 use Rattle.recording.specs.Operations.{totalAtMost}
 use Rattle.recording.specs.declared.Span.{Span}
-use Rattle.recording.proofs.TestLaws.{less-or-not, one-most}
-use Rattle.rules.specs.Broken.{unless}
-use Rattle.rules.specs.Reading.{Entry, minutes, regularMinutes, weeklyKind, asRead, isWeekly, isRegular, reductionOf, kindOf, standingOf, compensationOf, entryBytes, entryOf, entriesFrom, entries}
-use Rattle.rules.specs.ReadingRules.{formed, formedDaily, formedWeekly, rule6, leastNet, longEnough, rule7, endOf, byDeadline, settles, compensated, deadline, shortened, shortenedAtMost}
-use Rattle.rules.specs.ReadingRules.{rule9From, inGap, rule10From, ofKind}
+use Rattle.recording.proofs.TestLaws.{one-most}
+use Rattle.rules.specs.Reading.{Entry, minutes, regularMinutes, asRead, isWeekly, isRegular, reductionOf, compensationOf, entryBytes, entryOf, entriesFrom, entries}
+use Rattle.rules.specs.ReadingRules.{formed, formedDaily, formedWeekly, rule6, leastNet, longEnough, rule7, endOf, shortened}
+use Rattle.rules.specs.ReadingRules.{ofKind}
 use Rattle.rules.specs.declared.Kind.{Kind}
-use Rattle.rules.specs.declared.Kind.the-variants.{Daily, Weekly}
-use Rattle.rules.specs.declared.Standing.the-variants.{Regular, Reduced}
-use Rattle.rules_fixed.specs.Account.{smaller}
-use Rattle.rules_fixed.proofs.AccountRight.{Past, past-unless, unless-both}
-use Rattle.rules_reading.specs.declared.Item.{Item}
 use Rattle.rules_reading.specs.declared.LongRest.{LongRest}
 use Rattle.rules_reading.specs.declared.Tally.{Tally}
-use Rattle.rules_reading.specs.declared.Walk.the-variants.{TooShort, AllThrough}
-use Rattle.rules_reading.proofs.TallyLaws.{test-next, end-of-spans, paid-at, paid-length, paid-below, bumped-at, bumped-length, bumped-below, owes-little}
-use Rattle.rules_reading.specs.Items.{entryBy, endBefore, itemAt, loadAtMost, Sane, restBy, enoughBy, endAt, timeBy, gapBy, Below, shortAfter, brokenBy, tallyBy, paid, bumped, spanAt}
-use Rattle.rules_reading.specs.Items.{spansFrom, spansIn, Laid, Zeros, testFrom, freshTally, Through, Walked}
+use Rattle.rules_reading.proofs.TallyLaws.{test-next, end-of-spans, addedTo-at, addedTo-length, addedTo-below, incremented-at, incremented-length, incremented-below, isOutstanding-little}
+use Rattle.rules_reading.specs.Items.{entryBy, endBefore, itemAt, compensationAtMost, Sane, restBy, enoughBy, endAt, Below, shortAfter, tallyBy, addedTo, incremented, spanAt}
+use Rattle.rules_reading.specs.Items.{spansFrom, spansIn, Laid, Zeros, testFrom, freshTally, Through}
 
 -- ---- the entries that are left at index i, after those before them
 module _ (starts ends reading : List ℕ) (k : ℕ) where
@@ -65,10 +55,10 @@ module _ (starts ends reading : List ℕ) (k : ℕ) where
   byte-at : (i j : ℕ) → getD (drop (entryBytes * i) reading) j 0 ≡ getD reading (3 * i + j) 0
   byte-at i j = getD-drop (entryBytes * i) reading j 0
 
-  -- the item is that entry, where its load is the compensation
-  pub item-entry : (i : ℕ) (earlier : List Entry) (nets loads : List ℕ) → getD loads i 0 ≡ compensationOf (suc i) earlier
-      → entryBy (itemAt starts ends nets reading loads i) ≡ thisEntry i earlier
-  item-entry i earlier nets loads e =
+  -- the item is that entry, where its compensation is the entry's
+  pub item-entry : (i : ℕ) (earlier : List Entry) (nets compensations : List ℕ) → getD compensations i 0 ≡ compensationOf (suc i) earlier
+      → entryBy (itemAt starts ends nets reading compensations i) ≡ thisEntry i earlier
+  item-entry i earlier nets compensations e =
       let z : 3 * i ≡ 3 * i + 0 = omega arith in
       λ t. record {
         number = add-one i t;
@@ -80,10 +70,10 @@ module _ (starts ends reading : List ℕ) (k : ℕ) where
         compensation = e t;
       }
 
-  -- whatever its load, it has the same form
-  pub item-formed : (i : ℕ) (earlier : List Entry) (nets loads : List ℕ) → formed k (entryBy (itemAt starts ends nets reading loads i)) ≡ formed k (thisEntry i earlier)
+  -- whatever its compensation, it has the same form
+  pub item-formed : (i : ℕ) (earlier : List Entry) (nets compensations : List ℕ) → formed k (entryBy (itemAt starts ends nets reading compensations i)) ≡ formed k (thisEntry i earlier)
   unfolding formed formedDaily formedWeekly
-  item-formed i earlier nets loads =
+  item-formed i earlier nets compensations =
       let z : 3 * i ≡ 3 * i + 0 = omega arith in
       let k0 = ap (λ (n : ℕ). getD reading n 0) z ∙ sym (byte-at i 0) in
       λ t. formed k (record {
@@ -105,19 +95,19 @@ module _ (starts ends reading : List ℕ) (k : ℕ) where
   unfolding rule6
   form-start = record { earlier = []; same = ap (allOf (formed k)) left-all }
 
-  pub form-on : {i : ℕ} (f : Forming i) (nets loads : List ℕ) → i < k → formed k (entryBy (itemAt starts ends nets reading loads i)) ≡ true → Forming (i + 1)
+  pub form-on : {i : ℕ} (f : Forming i) (nets compensations : List ℕ) → i < k → formed k (entryBy (itemAt starts ends nets reading compensations i)) ≡ true → Forming (i + 1)
   unfolding allOf _and_
-  form-on {i} f nets loads h t =
+  form-on {i} f nets compensations h t =
       record {
         earlier = thisEntry i (f .earlier) ∷ f .earlier;
-        same = f .same ∙ ap (allOf (formed k)) (left-next i (f .earlier) h) ∙ rw (sym (item-formed i (f .earlier) nets loads) ∙ t) refl;
+        same = f .same ∙ ap (allOf (formed k)) (left-next i (f .earlier) h) ∙ rw (sym (item-formed i (f .earlier) nets compensations) ∙ t) refl;
       }
 
-  pub form-broken : {i : ℕ} (f : Forming i) (nets loads : List ℕ) → i < k → formed k (entryBy (itemAt starts ends nets reading loads i)) ≡ false
+  pub form-broken : {i : ℕ} (f : Forming i) (nets compensations : List ℕ) → i < k → formed k (entryBy (itemAt starts ends nets reading compensations i)) ≡ false
       → false ≡ rule6 k (entries (spansIn starts ends k) reading)
   unfolding allOf _and_
-  form-broken {i} f nets loads h t =
-      sym (f .same ∙ ap (allOf (formed k)) (left-next i (f .earlier) h) ∙ rw (sym (item-formed i (f .earlier) nets loads) ∙ t) refl)
+  form-broken {i} f nets compensations h t =
+      sym (f .same ∙ ap (allOf (formed k)) (left-next i (f .earlier) h) ∙ rw (sym (item-formed i (f .earlier) nets compensations) ∙ t) refl)
 
   pub form-done : {i : ℕ} → Forming i → k ≤ i → true ≡ rule6 k (entries (spansIn starts ends k) reading)
   unfolding allOf
@@ -128,14 +118,15 @@ end-before-most : (ends : List ℕ) (k : ℕ) → ((i : ℕ) → i < k → getD 
 end-before-most ends k f zero h = omega arith
 end-before-most ends k f (suc i) h = f i (omega arith)
 
-pub sane-item : (starts ends nets reading loads : List ℕ) (k i : ℕ) → Laid starts ends nets reading loads k → ((j : ℕ) → getD reading j 0 < 256) → i < k → getD loads i 0 ≤ loadAtMost
-    → Sane (itemAt starts ends nets reading loads i)
-sane-item starts ends nets reading loads k i l b h g = record {
+pub sane-item : (starts ends nets reading compensations : List ℕ) (k i : ℕ) → Laid starts ends nets reading compensations k → ((j : ℕ) → getD reading j 0 < 256) → i < k
+    → getD compensations i 0 ≤ compensationAtMost
+    → Sane (itemAt starts ends nets reading compensations i)
+sane-item starts ends nets reading compensations k i l b h g = record {
   before = end-before-most ends k (l .limited) i h;
   ordered = l .ordered i h;
   end = l .limited i h;
   week = omega (arith, b (3 * i + 1));
-  load = g;
+  compensation = g;
   net = l .numbered i h;
 }
 
@@ -156,9 +147,9 @@ last-on s end t e h l = at (isWeekly (asRead e))
     at true = h
     at false = l
 
-owes-here : (e : Entry) {d : ℕ} → longEnough e ≡ true → d ≡ reductionOf (asRead e) → d ≤ regularMinutes
+isOutstanding-here : (e : Entry) {d : ℕ} → longEnough e ≡ true → d ≡ reductionOf (asRead e) → d ≤ regularMinutes
 unfolding longEnough
-owes-here e t q = rw q (owes-little e t)
+isOutstanding-here e t q = rw q (isOutstanding-little e t)
 
 -- ---- rules 7 to 10 and the counts: what the walk keeps at index i
 module _ (starts ends nets reading : List ℕ) (k s : ℕ) where
@@ -168,11 +159,11 @@ module _ (starts ends nets reading : List ℕ) (k s : ℕ) where
   abbrev all : List Entry
   all = entries (spansIn starts ends k) reading
 
-  pub record Walking (i : ℕ) (t : Tally) (loads weekly regular : List ℕ) : Type 0 where
+  pub record Walking (i : ℕ) (t : Tally) (compensations weekly regular : List ℕ) : Type 0 where
     pub earlier : List Entry
-    pub laid : Laid starts ends nets reading loads k
-    pub owed : (j : ℕ) → i ≤ j → j < k → getD loads j 0 ≡ compensationOf (suc j) earlier
-    pub below : Below (regularMinutes * i) loads
+    pub laid : Laid starts ends nets reading compensations k
+    pub outstanding : (j : ℕ) → i ≤ j → j < k → getD compensations j 0 ≡ compensationOf (suc j) earlier
+    pub below : Below (regularMinutes * i) compensations
     pub seven : rule7 (entries (spansIn starts ends k) reading) ≡ allOf longEnough (left starts ends reading k i earlier)
     pub tally : testFrom s (spansIn starts ends k) freshTally (entries (spansIn starts ends k) reading) ≡ testFrom s (spansIn starts ends k) t (left starts ends reading k i earlier)
     pub short : t .short ≤ i
@@ -186,13 +177,14 @@ module _ (starts ends nets reading : List ℕ) (k s : ℕ) where
     pub weekly-size : length weekly ≡ 256
     pub regular-size : length regular ≡ 256
 
-  pub walk-start : (loads weekly regular : List ℕ) → Laid starts ends nets reading loads k → Zeros loads → Zeros weekly → Zeros regular → length weekly ≡ 256 → length regular ≡ 256
-      → Walking 0 freshTally loads weekly regular
+  pub walk-start : (compensations weekly regular : List ℕ) → Laid starts ends nets reading compensations k → Zeros compensations → Zeros weekly → Zeros regular → length weekly ≡ 256
+      → length regular ≡ 256
+      → Walking 0 freshTally compensations weekly regular
   unfolding rule7 compensationOf
-  walk-start loads weekly regular l z zw zr nw nr = record {
+  walk-start compensations weekly regular l z zw zr nw nr = record {
     earlier = [];
     laid = l;
-    owed = λ j h g. z j;
+    outstanding = λ j h g. z j;
     below = λ j. omega (arith, z j);
     seven = ap (allOf longEnough) (left-all starts ends reading k);
     tally = ap (testFrom s (spansIn starts ends k) freshTally) (left-all starts ends reading k);
@@ -206,29 +198,29 @@ module _ (starts ends nets reading : List ℕ) (k s : ℕ) where
     regular-size = nr;
   }
 
-  module _ {i : ℕ} {t : Tally} {loads weekly regular : List ℕ} (w : Walking i t loads weekly regular) (h : i < k) where
+  module _ {i : ℕ} {t : Tally} {compensations weekly regular : List ℕ} (w : Walking i t compensations weekly regular) (h : i < k) where
     abbrev this : Entry
     this = thisEntry starts ends reading k i (w .earlier)
 
     -- the item is the entry
-    pub here-item : entryBy (itemAt starts ends nets reading loads i) ≡ thisEntry starts ends reading k i (w .earlier)
-    here-item = item-entry starts ends reading k i (w .earlier) nets loads (w .owed i (le-refl _) h)
+    pub here-item : entryBy (itemAt starts ends nets reading compensations i) ≡ thisEntry starts ends reading k i (w .earlier)
+    here-item = item-entry starts ends reading k i (w .earlier) nets compensations (w .outstanding i (le-refl _) h)
 
-    pub item-sane : ((j : ℕ) → getD reading j 0 < 256) → Sane (itemAt starts ends nets reading loads i)
-    item-sane b = sane-item starts ends nets reading loads k i (w .laid) b h (omega (arith, w .below i, w .laid .few))
+    pub item-sane : ((j : ℕ) → getD reading j 0 < 256) → Sane (itemAt starts ends nets reading compensations i)
+    item-sane b = sane-item starts ends nets reading compensations k i (w .laid) b h (omega (arith, w .below i, w .laid .few))
 
     next : left starts ends reading k i (w .earlier) ≡ this ∷ left starts ends reading k (i + 1) (this ∷ w .earlier)
     next = left-next starts ends reading k i (w .earlier) h
 
-    enough-here : (b : Bool) → b ≡ enoughBy (restBy (itemAt starts ends nets reading loads i)) (getD loads i 0) → b ≡ longEnough this
+    enough-here : (b : Bool) → b ≡ enoughBy (restBy (itemAt starts ends nets reading compensations i)) (getD compensations i 0) → b ≡ longEnough this
     unfolding longEnough
     enough-here b e = e ∙ ap (λ (x : Entry). leb (leastNet (asRead x) + x .compensation) (minutes x)) here-item
 
-    pub too-short : {r : LongRest} {b : Bool} → r ≡ restBy (itemAt starts ends nets reading loads i) → b ≡ enoughBy r (getD loads i 0) → b ≡ false
+    pub too-short : {r : LongRest} {b : Bool} → r ≡ restBy (itemAt starts ends nets reading compensations i) → b ≡ enoughBy r (getD compensations i 0) → b ≡ false
         → rule7 (entries (spansIn starts ends k) reading) ≡ false
     unfolding allOf _and_
     too-short {r} {b} q e z =
-        let f : longEnough this ≡ false = sym (enough-here b (e ∙ ap (λ (x : LongRest). enoughBy x (getD loads i 0)) q)) ∙ z in
+        let f : longEnough this ≡ false = sym (enough-here b (e ∙ ap (λ (x : LongRest). enoughBy x (getD compensations i 0)) q)) ∙ z in
         w .seven ∙ ap (allOf longEnough) next ∙ rw f refl
 
     -- a rest that is counted in its week
@@ -237,38 +229,38 @@ module _ (starts ends nets reading : List ℕ) (k s : ℕ) where
     unfolding countOf ofKind
     count-on f v = ap (countOf (ofKind f v)) next
 
-    bump-on : (f : Kind → Bool) (counts counts′ : List ℕ) (m : Kind) (wk v : ℕ) → m ≡ asRead this → wk ≡ this .week → length counts ≡ 256 → v < 256
-        → counts′ ≡ bumped (f m) counts wk
+    increment-on : (f : Kind → Bool) (counts counts′ : List ℕ) (m : Kind) (wk v : ℕ) → m ≡ asRead this → wk ≡ this .week → length counts ≡ 256 → v < 256
+        → counts′ ≡ incremented (f m) counts wk
         → getD counts v 0 + countOf (ofKind f v) (left starts ends reading k i (w .earlier)) ≡ countOf (ofKind f v) (entries (spansIn starts ends k) reading)
         → getD counts′ v 0 + countOf (ofKind f v) (left starts ends reading k (i + 1) (this ∷ w .earlier)) ≡ countOf (ofKind f v) (entries (spansIn starts ends k) reading)
-    bump-on f counts counts′ m wk v p q n l e o =
+    increment-on f counts counts′ m wk v p q n l e o =
         omega (
           arith,
           ap (λ (x : List ℕ). getD x v 0) e,
-          bumped-at (f m) counts wk v (omega arith),
+          incremented-at (f m) counts wk v (omega arith),
           count-on f v,
           ap₂ (λ (x : Kind) (y : ℕ). one (f x and eqb y v)) p q,
         )
 
-    pub walk-on : {r : LongRest} {b : Bool} {end : ℕ} {t′ : Tally} {loads′ weekly′ regular′ : List ℕ} {d : ℕ}
-        → r ≡ restBy (itemAt starts ends nets reading loads i) → b ≡ enoughBy r (getD loads i 0) → b ≡ true
-        → end ≡ endAt ends k (itemAt starts ends nets reading loads i .carrier)
-        → t′ ≡ tallyBy s end t (entryBy (itemAt starts ends nets reading loads i))
-        → weekly′ ≡ bumped (isWeekly (r .kind)) weekly (itemAt starts ends nets reading loads i .week)
-        → regular′ ≡ bumped (isRegular (r .kind)) regular (itemAt starts ends nets reading loads i .week)
+    pub walk-on : {r : LongRest} {b : Bool} {end : ℕ} {t′ : Tally} {compensations′ weekly′ regular′ : List ℕ} {d : ℕ}
+        → r ≡ restBy (itemAt starts ends nets reading compensations i) → b ≡ enoughBy r (getD compensations i 0) → b ≡ true
+        → end ≡ endAt ends k (itemAt starts ends nets reading compensations i .carrier)
+        → t′ ≡ tallyBy s end t (entryBy (itemAt starts ends nets reading compensations i))
+        → weekly′ ≡ incremented (isWeekly (r .kind)) weekly (itemAt starts ends nets reading compensations i .week)
+        → regular′ ≡ incremented (isRegular (r .kind)) regular (itemAt starts ends nets reading compensations i .week)
         → d ≡ reductionOf (r .kind)
-        → loads′ ≡ paid loads (itemAt starts ends nets reading loads i .carrier) d
-        → Walking (i + 1) t′ loads′ weekly′ regular′
+        → compensations′ ≡ addedTo compensations (itemAt starts ends nets reading compensations i .carrier) d
+        → Walking (i + 1) t′ compensations′ weekly′ regular′
     unfolding allOf _and_ compensationOf
-    walk-on {r} {b} {end} {t′} {loads′} {weekly′} {regular′} {d} qr qb eb qe qt qw qg qd ql =
-        let x = itemAt starts ends nets reading loads i in
+    walk-on {r} {b} {end} {t′} {compensations′} {weekly′} {regular′} {d} qr qb eb qe qt qw qg qd ql =
+        let x = itemAt starts ends nets reading compensations i in
         let kind : r .kind ≡ asRead this = ap (λ (y : LongRest). y .kind) qr ∙ ap asRead here-item in
         let wk : x .week ≡ this .week = ap (λ (y : Entry). y .week) here-item in
         let carried : x .carrier ≡ this .compensatedBy = ap (λ (y : Entry). y .compensatedBy) here-item in
-        let long : longEnough this ≡ true = sym (enough-here b (qb ∙ ap (λ (y : LongRest). enoughBy y (getD loads i 0)) qr)) ∙ eb in
-        let owes : d ≡ reductionOf (asRead this) = qd ∙ ap reductionOf kind in
-        let little : d ≤ regularMinutes = owes-here this long owes in
-        let size : length loads′ ≡ length loads = ap length ql ∙ paid-length loads (x .carrier) d in
+        let long : longEnough this ≡ true = sym (enough-here b (qb ∙ ap (λ (y : LongRest). enoughBy y (getD compensations i 0)) qr)) ∙ eb in
+        let isOutstanding : d ≡ reductionOf (asRead this) = qd ∙ ap reductionOf kind in
+        let little : d ≤ regularMinutes = isOutstanding-here this long isOutstanding in
+        let size : length compensations′ ≡ length compensations = ap length ql ∙ addedTo-length compensations (x .carrier) d in
         record {
           earlier = this ∷ w .earlier;
           laid = record {
@@ -276,16 +268,16 @@ module _ (starts ends nets reading : List ℕ) (k s : ℕ) where
             starts-in = w .laid .starts-in;
             ends-in = w .laid .ends-in;
             nets-in = w .laid .nets-in;
-            loads-in = omega (arith, w .laid .loads-in);
+            compensations-in = omega (arith, w .laid .compensations-in);
             reading-in = w .laid .reading-in;
             ordered = w .laid .ordered;
             limited = w .laid .limited;
             numbered = w .laid .numbered;
           };
-          owed = λ j g l.
-              ap (λ (y : List ℕ). getD y j 0) ql ∙ paid-at loads (x .carrier) d j (omega (arith, w .laid .loads-in))
-              ∙ ap₂ _+_ (ap₂ (λ (c e : ℕ). pick (eqb c (suc j)) e 0) carried owes) (w .owed j (omega arith) l);
-          below = λ j. let z = paid-below loads (x .carrier) d (regularMinutes * i) regularMinutes (w .below) little j in omega (arith, ap (λ (y : List ℕ). getD y j 0) ql);
+          outstanding = λ j g l.
+              ap (λ (y : List ℕ). getD y j 0) ql ∙ addedTo-at compensations (x .carrier) d j (omega (arith, w .laid .compensations-in))
+              ∙ ap₂ _+_ (ap₂ (λ (c e : ℕ). pick (eqb c (suc j)) e 0) carried isOutstanding) (w .outstanding j (omega arith) l);
+          below = λ j. let z = addedTo-below compensations (x .carrier) d (regularMinutes * i) regularMinutes (w .below) little j in omega (arith, ap (λ (y : List ℕ). getD y j 0) ql);
           seven = w .seven ∙ ap (allOf longEnough) next ∙ rw long refl;
           tally =
               w .tally ∙ ap (testFrom s (spansIn starts ends k) t) next
@@ -294,22 +286,22 @@ module _ (starts ends nets reading : List ℕ) (k s : ℕ) where
               (sym (qt ∙ ap₂ (λ (e : ℕ) (y : Entry). tallyBy s e t y) (qe ∙ end-of-spans starts ends k (x .carrier) ∙ ap (endOf (spansIn starts ends k)) carried) here-item));
           short = omega (arith, ap (λ (y : Tally). y .short) qt, short-on s end t (entryBy x), w .short);
           last = le-trans (le-of-eq (ap (λ (y : Tally). y .last) qt)) (last-on s end t (entryBy x) (w .laid .limited i h) (w .last));
-          weeklies = λ v l. bump-on isWeekly weekly weekly′ (r .kind) (x .week) v kind wk (w .weekly-size) l qw (w .weeklies v l);
-          regulars = λ v l. bump-on isRegular regular regular′ (r .kind) (x .week) v kind wk (w .regular-size) l qg (w .regulars v l);
-          few-weeklies = λ j. omega (arith, ap (λ (y : List ℕ). getD y j 0) qw, bumped-below (isWeekly (r .kind)) weekly (x .week) i (w .few-weeklies) j);
-          few-regulars = λ j. omega (arith, ap (λ (y : List ℕ). getD y j 0) qg, bumped-below (isRegular (r .kind)) regular (x .week) i (w .few-regulars) j);
-          weekly-size = ap length qw ∙ bumped-length (isWeekly (r .kind)) weekly (x .week) ∙ w .weekly-size;
-          regular-size = ap length qg ∙ bumped-length (isRegular (r .kind)) regular (x .week) ∙ w .regular-size;
+          weeklies = λ v l. increment-on isWeekly weekly weekly′ (r .kind) (x .week) v kind wk (w .weekly-size) l qw (w .weeklies v l);
+          regulars = λ v l. increment-on isRegular regular regular′ (r .kind) (x .week) v kind wk (w .regular-size) l qg (w .regulars v l);
+          few-weeklies = λ j. omega (arith, ap (λ (y : List ℕ). getD y j 0) qw, incremented-below (isWeekly (r .kind)) weekly (x .week) i (w .few-weeklies) j);
+          few-regulars = λ j. omega (arith, ap (λ (y : List ℕ). getD y j 0) qg, incremented-below (isRegular (r .kind)) regular (x .week) i (w .few-regulars) j);
+          weekly-size = ap length qw ∙ incremented-length (isWeekly (r .kind)) weekly (x .week) ∙ w .weekly-size;
+          regular-size = ap length qg ∙ incremented-length (isRegular (r .kind)) regular (x .week) ∙ w .regular-size;
         }
 
-    pub pay-room : {r : LongRest} {b : Bool} {d : ℕ} → r ≡ restBy (itemAt starts ends nets reading loads i) → b ≡ enoughBy r (getD loads i 0) → b ≡ true
-        → d ≡ reductionOf (r .kind) → (d ≤ loadAtMost) × Below loadAtMost loads
-    pay-room {r} {b} qr qb eb qd =
+    pub compensate-room : {r : LongRest} {b : Bool} {d : ℕ} → r ≡ restBy (itemAt starts ends nets reading compensations i) → b ≡ enoughBy r (getD compensations i 0) → b ≡ true
+        → d ≡ reductionOf (r .kind) → (d ≤ compensationAtMost) × Below compensationAtMost compensations
+    compensate-room {r} {b} qr qb eb qd =
         let kind : r .kind ≡ asRead this = ap (λ (y : LongRest). y .kind) qr ∙ ap asRead here-item in
-        let long : longEnough this ≡ true = sym (enough-here b (qb ∙ ap (λ (y : LongRest). enoughBy y (getD loads i 0)) qr)) ∙ eb in
-        (le-trans (owes-here this long (qd ∙ ap reductionOf kind)) (omega arith), λ j. omega (arith, w .below j, w .laid .few))
+        let long : longEnough this ≡ true = sym (enough-here b (qb ∙ ap (λ (y : LongRest). enoughBy y (getD compensations i 0)) qr)) ∙ eb in
+        (le-trans (isOutstanding-here this long (qd ∙ ap reductionOf kind)) (omega arith), λ j. omega (arith, w .below j, w .laid .few))
 
-  pub walk-through : {i : ℕ} {t : Tally} {loads weekly regular : List ℕ} → Walking i t loads weekly regular → k ≤ i → i ≤ k
+  pub walk-through : {i : ℕ} {t : Tally} {compensations weekly regular : List ℕ} → Walking i t compensations weekly regular → k ≤ i → i ≤ k
       → Through s (spansIn starts ends k) (entries (spansIn starts ends k) reading) t weekly regular
   unfolding allOf countOf
   walk-through {i} w h g =

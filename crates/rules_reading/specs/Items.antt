@@ -1,4 +1,4 @@
--- What the inner functions of this layer answer. Nobody has to believe it: the public contracts do not speak of it.
+-- Inner: what the functions of this layer answer. Nobody has to believe it: no public contract cites it.
 -- Assumes nothing.
 use mathlib.Core.Path.{_≡_}
 use mathlib.Core.Bool.{Bool, true, false, not}
@@ -12,10 +12,11 @@ use Rattle.recording.specs.Operations.{totalAtMost}
 use Rattle.recording.specs.Weeks.{weekStart, week, weekOf, inside}
 use Rattle.recording.specs.declared.Span.{Span}
 use Rattle.rules.specs.Broken.{unless}
-use Rattle.rules.specs.Reading.{Entry, asRead, isWeekly, isRegular, entryBytes, entries}
+use Rattle.rules.specs.Reading.{Entry, regularMinutes, standingOf, asRead, isWeekly, isRegular, entryBytes, entries}
 use Rattle.rules.specs.ReadingRules.{leastNet, rule7, weeksToCompensate, compensated, shortened, shortenedAtMost, rule9From, inGap, rule10From, ofKind, weeklyAtLeast, regularAtLeast, laterTest}
 use Rattle.rules.specs.declared.Kind.{Kind}
 use Rattle.rules.specs.declared.Kind.the-variants.{Daily, Weekly}
+use Rattle.rules.specs.declared.Standing.{Standing}
 use Rattle.rules.specs.declared.Standing.the-variants.{Regular, Reduced}
 use Rattle.rules_fixed.specs.Account.{smaller}
 use Rattle.rules_fixed.specs.Nets.{regularNet}
@@ -34,7 +35,7 @@ entryBy x = record {
   kind = x .kind;
   week = x .week;
   compensatedBy = x .carrier;
-  compensation = x .load;
+  compensation = x .compensation;
 }
 
 -- the rest before the one of index i ends there, or at 0
@@ -42,9 +43,9 @@ abbrev pub endBefore : List ℕ → ℕ → ℕ
 endBefore ends zero = 0
 endBefore ends (suc i) = getD ends i 0
 
--- the item of index i, from the rests' starts, ends and numbers by rule 9, the reading and the loads
+-- the item of index i, from the rests' starts, ends and numbers by rule 9, the reading and the compensations
 abbrev pub itemAt : List ℕ → List ℕ → List ℕ → List ℕ → List ℕ → ℕ → Item
-itemAt starts ends nets reading loads i = record {
+itemAt starts ends nets reading compensations i = record {
   number = i + 1;
   before = endBefore ends i;
   start = getD starts i 0;
@@ -53,27 +54,31 @@ itemAt starts ends nets reading loads i = record {
   kind = getD reading (3 * i) 0;
   week = getD reading (3 * i + 1) 0;
   carrier = getD reading (3 * i + 2) 0;
-  load = getD loads i 0;
+  compensation = getD compensations i 0;
 }
 
 -- an item whose numbers are in bounds, with its number by rule 9
-abbrev pub loadAtMost : ℕ
-loadAtMost = 1000000
+abbrev pub compensationAtMost : ℕ
+compensationAtMost = 1000000
 
 pub record Sane (x : Item) : Type 0 where
   pub before : x .before ≤ totalAtMost
   pub ordered : x .start ≤ x .end
   pub end : x .end ≤ totalAtMost
   pub week : x .week ≤ 255
-  pub load : x .load ≤ loadAtMost
+  pub compensation : x .compensation ≤ compensationAtMost
   pub net : x .net ≡ regularNet (x .before) (x .start) (x .end)
+
+-- ---- the standing of a weekly rest of so many minutes, with a compensation
+abbrev pub standingFor : ℕ → ℕ → Standing
+standingFor minutes compensation = standingOf (ltb minutes (regularMinutes + compensation)) (regularMinutes + compensation - minutes)
 
 -- ---- an item as a long rest, and the rules of one
 abbrev pub restBy : Item → LongRest
 restBy x = record { start = x .start; end = x .end; kind = asRead (entryBy x) }
 
 abbrev pub enoughBy : LongRest → ℕ → Bool
-enoughBy r load = leb (leastNet (r .kind) + load) (r .end - r .start)
+enoughBy r compensation = leb (leastNet (r .kind) + compensation) (r .end - r .start)
 
 abbrev pub endAt : List ℕ → ℕ → ℕ → ℕ
 endAt ends k zero = 0
@@ -109,13 +114,13 @@ tallyBy s end t e = record {
 }
 
 -- ---- a payment to a carrier, and a rest counted in its week
-abbrev pub paid : List ℕ → ℕ → ℕ → List ℕ
-paid loads zero d = loads
-paid loads (suc c) d = set loads c (getD loads c 0 + d)
+abbrev pub addedTo : List ℕ → ℕ → ℕ → List ℕ
+addedTo compensations zero d = compensations
+addedTo compensations (suc c) d = set compensations c (getD compensations c 0 + d)
 
-abbrev pub bumped : Bool → List ℕ → ℕ → List ℕ
-bumped true counts w = set counts w (getD counts w 0 + 1)
-bumped false counts w = counts
+abbrev pub incremented : Bool → List ℕ → ℕ → List ℕ
+incremented true counts w = set counts w (getD counts w 0 + 1)
+incremented false counts w = counts
 
 -- ---- the long rests of index i to k, from their starts and ends
 abbrev pub spanAt : List ℕ → List ℕ → ℕ → Span
@@ -129,12 +134,12 @@ abbrev pub spansIn : List ℕ → List ℕ → ℕ → List Span
 spansIn starts ends k = spansFrom starts ends 0 k
 
 -- they stand in the slices, in order, within the limit, with their numbers by rule 9
-pub record Laid (starts ends nets reading loads : List ℕ) (k : ℕ) : Type 0 where
+pub record Laid (starts ends nets reading compensations : List ℕ) (k : ℕ) : Type 0 where
   pub few : k ≤ longRestsAtMost
   pub starts-in : k ≤ length starts
   pub ends-in : k ≤ length ends
   pub nets-in : k ≤ length nets
-  pub loads-in : k ≤ length loads
+  pub compensations-in : k ≤ length compensations
   pub reading-in : length reading ≡ entryBytes * k
   pub ordered : (i : ℕ) → i < k → getD starts i 0 ≤ getD ends i 0
   pub limited : (i : ℕ) → i < k → getD ends i 0 ≤ totalAtMost
@@ -161,8 +166,8 @@ pub record Through (s : ℕ) (rs : List Span) (es : List Entry) (t : Tally) (wee
   pub last : t .last ≤ totalAtMost
   pub weeklies : (w : ℕ) → w < 256 → getD weekly w 0 ≡ countOf (ofKind isWeekly w) es
   pub regulars : (w : ℕ) → w < 256 → getD regular w 0 ≡ countOf (ofKind isRegular w) es
-  pub few-weeklies : Below loadAtMost weekly
-  pub few-regulars : Below loadAtMost regular
+  pub few-weeklies : Below compensationAtMost weekly
+  pub few-regulars : Below compensationAtMost regular
   pub weekly-size : length weekly ≡ 256
   pub regular-size : length regular ≡ 256
 

@@ -16,11 +16,12 @@ ghost use Rattle.rules.specs.Reading.{isWeekly, isRegular, reductionOf, entries
 ghost use Rattle.rules.specs.ReadingRules.{formed, rule6, shortened, shortenedAtMost, inGap};
 ghost use Rattle.rules.specs.Operations.{readingTested};
 ghost use Rattle.rules_fixed.specs.Tested.{tested};
-ghost use Rattle.rules_reading.specs.Items.{entryBy, endBefore, itemAt, Sane, loadAtMost, Below, restBy, enoughBy, endAt, timeBy, gapBy, shortAfter, tallyBy, paid, bumped, spansIn, Laid};
-ghost use Rattle.rules_reading.specs.Items.{Zeros, Walked, enoughWith, rule11With, restWeeks, spanOf, zeros, laterBy};
+ghost use Rattle.rules_reading.specs.Items.{entryBy, endBefore, itemAt, Sane, compensationAtMost, Below, restBy, enoughBy};
+ghost use Rattle.rules_reading.specs.Items.{endAt, timeBy, gapBy, shortAfter, tallyBy, addedTo, incremented, spansIn, Laid};
+ghost use Rattle.rules_reading.specs.Items.{standingFor, Zeros, Walked, enoughWith, rule11With, restWeeks, spanOf, zeros, laterBy};
 
 // A long rest with its entry: its number from 1, the end of the long rest before it or 0, its start and end, the least net length
-// at which it is no shortened daily rest, its three bytes, and the compensation that it gives, the document's load.
+// at which it is no shortened daily rest, its three bytes, and the compensation that it gives, the document's compensation.
 pub struct Item {
     pub number: u32,
     pub before: u32,
@@ -30,7 +31,7 @@ pub struct Item {
     pub kind: u32,
     pub week: u32,
     pub carrier: u32,
-    pub load: u32,
+    pub compensation: u32,
 }
 
 // A long rest as a reading takes it.
@@ -100,11 +101,11 @@ fn item_at(
     ends: &[u32],
     nets: &[u32],
     reading: &[u8],
-    loads: &[u32],
+    compensations: &[u32],
     i: usize,
 ) -> Item
-    requires { ⌜ (i < 1000) × (i < length (now starts)) × (i < length (now ends)) × (i < length (now nets)) × (3 * i + 2 < length (now reading)) × (i < length (now loads)) ⌝ }
-    ensures { λ r. ⌜ r ≡ itemAt (now (starts .entry)) (now (ends .entry)) (now (nets .entry)) (now (reading .entry)) (now (loads .entry)) i ⌝ }
+    requires { ⌜ (i < 1000) × (i < length (now starts)) × (i < length (now ends)) × (i < length (now nets)) × (3 * i + 2 < length (now reading)) × (i < length (now compensations)) ⌝ }
+    ensures { λ r. ⌜ r ≡ itemAt (now (starts .entry)) (now (ends .entry)) (now (nets .entry)) (now (reading .entry)) (now (compensations .entry)) i ⌝ }
 {
     let at = rules_entries::ENTRY_BYTES * i;
     let week = at + 1;
@@ -118,8 +119,20 @@ fn item_at(
         kind: recording::wide(reading[at]),
         week: recording::wide(reading[week]),
         carrier: recording::wide(reading[carrier]),
-        load: loads[i],
+        compensation: compensations[i],
     }
+}
+
+// The standing of a weekly rest of so many minutes, with a compensation: regular, or reduced by what it lacks.
+pub fn standing_of(minutes: u32, compensation: u32) -> Standing
+    requires { ⌜ compensation ≤ compensationAtMost ⌝ }
+    ensures { λ r. ⌜ r ≡ standingFor minutes compensation ⌝ }
+{
+    let full = REGULAR + compensation;
+    if minutes < full {
+        return Standing::Reduced(full - minutes);
+    }
+    Standing::Regular
 }
 
 // A long rest as its entry reads it: daily, regular weekly or reduced weekly with its reduction.
@@ -134,19 +147,11 @@ pub fn as_read(x: Item) -> LongRest
             kind: Kind::Daily,
         };
     }
-    let length = x.end - x.start;
-    let full = REGULAR + x.load;
-    if length < full {
-        return LongRest {
-            start: x.start,
-            end: x.end,
-            kind: Kind::Weekly(Standing::Reduced(full - length)),
-        };
-    }
+    let standing = standing_of(x.end - x.start, x.compensation);
     LongRest {
         start: x.start,
         end: x.end,
-        kind: Kind::Weekly(Standing::Regular),
+        kind: Kind::Weekly(standing),
     }
 }
 
@@ -183,14 +188,14 @@ fn formed_item(k: u32, x: Item) -> bool
 }
 
 // Rule 7: long enough net of the compensation that it gives.
-fn long_enough(r: LongRest, load: u32) -> bool
-    requires { ⌜ (r .start ≤ r .end) × (load ≤ loadAtMost) ⌝ }
-    ensures { λ b. ⌜ b ≡ enoughBy r load ⌝ }
+fn long_enough(r: LongRest, compensation: u32) -> bool
+    requires { ⌜ (r .start ≤ r .end) × (compensation ≤ compensationAtMost) ⌝ }
+    ensures { λ b. ⌜ b ≡ enoughBy r compensation ⌝ }
 {
     let kind = r.kind;
     match kind {
-        Kind::Daily => DAILY_NET + load <= r.end - r.start,
-        Kind::Weekly(_) => WEEKLY_NET + load <= r.end - r.start,
+        Kind::Daily => DAILY_NET + compensation <= r.end - r.start,
+        Kind::Weekly(_) => WEEKLY_NET + compensation <= r.end - r.start,
     }
 }
 
@@ -214,7 +219,7 @@ fn in_time(r: LongRest, week: u32, carrier: u32, end: u32, s: u32) -> bool
     requires { ⌜ week ≤ 255 ⌝ }
     ensures { λ b. ⌜ b ≡ timeBy (r .kind) week carrier end s ⌝ }
 {
-    let due = recording::WEEK_MINUTES * (week + WEEKS_TO_COMPENSATE);
+    let deadline = recording::WEEK_MINUTES * (week + WEEKS_TO_COMPENSATE);
     let kind = r.kind;
     match kind {
         Kind::Daily => true,
@@ -222,9 +227,9 @@ fn in_time(r: LongRest, week: u32, carrier: u32, end: u32, s: u32) -> bool
             Standing::Regular => carrier == 0,
             Standing::Reduced(_) => {
                 if carrier == 0 {
-                    return s < due;
+                    return s < deadline;
                 }
-                end <= due
+                end <= deadline
             }
         },
     }
@@ -237,7 +242,7 @@ fn shortened_item(x: Item, r: LongRest) -> bool
 {
     let kind = r.kind;
     match kind {
-        Kind::Daily => x.end - x.start < x.net + x.load,
+        Kind::Daily => x.end - x.start < x.net + x.compensation,
         Kind::Weekly(_) => false,
     }
 }
@@ -315,11 +320,10 @@ fn tally_after(s: u32, end: u32, t: Tally, x: Item, r: LongRest) -> Tally
     }
 }
 
-// The reduction of a rest, the document's debt.
-fn reduction(r: LongRest) -> u32
-    ensures { λ b. ⌜ b ≡ reductionOf (r .kind) ⌝ }
+// The reduction of a rest, the document's reduction.
+pub fn reduction(kind: Kind) -> u32
+    ensures { λ r. ⌜ r ≡ reductionOf kind ⌝ }
 {
-    let kind = r.kind;
     match kind {
         Kind::Daily => 0,
         Kind::Weekly(standing) => match standing {
@@ -329,24 +333,24 @@ fn reduction(r: LongRest) -> u32
     }
 }
 
-// The reduction d is to be paid back by the rest of number `carrier`, if that is one.
-fn pay(loads: &mut [u32], carrier: u32, d: u32)
-    requires { ⌜ (d ≤ loadAtMost) × Below loadAtMost (now loads) ⌝ }
-    ensures { λ r. ⌜ now (loads .exit) ≡ paid (now (loads .entry)) carrier d ⌝ }
+// The reduction d is to be compensated for by the rest of number `carrier`, if that is one.
+fn compensate(compensations: &mut [u32], carrier: u32, d: u32)
+    requires { ⌜ (d ≤ compensationAtMost) × Below compensationAtMost (now compensations) ⌝ }
+    ensures { λ r. ⌜ now (compensations .exit) ≡ addedTo (now (compensations .entry)) carrier d ⌝ }
 {
     if carrier == 0 {
         return;
     }
     let at = (carrier - 1) as usize;
-    if at < loads.len() {
-        loads[at] = loads[at] + d;
+    if at < compensations.len() {
+        compensations[at] = compensations[at] + d;
     }
 }
 
 // One rest more is counted in a week.
-fn bump(wanted: bool, counts: &mut [u32], week: u32)
-    requires { ⌜ Below loadAtMost (now counts) ⌝ }
-    ensures { λ r. ⌜ now (counts .exit) ≡ bumped wanted (now (counts .entry)) week ⌝ }
+fn increment(wanted: bool, counts: &mut [u32], week: u32)
+    requires { ⌜ Below compensationAtMost (now counts) ⌝ }
+    ensures { λ r. ⌜ now (counts .exit) ≡ incremented wanted (now (counts .entry)) week ⌝ }
 {
     if wanted {
         let at = week as usize;
@@ -385,15 +389,15 @@ fn form_test(
     ends: &[u32],
     nets: &[u32],
     reading: &[u8],
-    loads: &[u32],
+    compensations: &[u32],
     k: usize,
 ) -> bool
-    requires { ⌜ Laid (now starts) (now ends) (now nets) (now reading) (now loads) k × Zeros (now loads) ⌝ }
+    requires { ⌜ Laid (now starts) (now ends) (now nets) (now reading) (now compensations) k × Zeros (now compensations) ⌝ }
     ensures { λ r. ⌜ r ≡ rule6 k (entries (spansIn (now (starts .entry)) (now (ends .entry)) k) (now (reading .entry))) ⌝ }
 {
     let mut i = 0;
     while i < k {
-        let x = item_at(starts, ends, nets, reading, loads, i);
+        let x = item_at(starts, ends, nets, reading, compensations, i);
         i += 1;
         if !formed_item(k as u32, x) {
             return false;
@@ -403,19 +407,19 @@ fn form_test(
 }
 
 // Rules 7 to 10, and the rests counted in each week, in one walk over the long rests. What each compensates for is summed in
-// `loads` as the walk goes.
+// `compensations` as the walk goes.
 fn rest_walk(
     starts: &[u32],
     ends: &[u32],
     nets: &[u32],
     reading: &[u8],
-    loads: &mut [u32],
+    compensations: &mut [u32],
     weekly: &mut [u32],
     regular: &mut [u32],
     k: usize,
     s: u32,
 ) -> Walk
-    requires { ⌜ Laid (now starts) (now ends) (now nets) (now reading) (now loads) k × Zeros (now loads) × Zeros (now weekly) × Zeros (now regular) × (length (now weekly) ≡ 256)
+    requires { ⌜ Laid (now starts) (now ends) (now nets) (now reading) (now compensations) k × Zeros (now compensations) × Zeros (now weekly) × Zeros (now regular) × (length (now weekly) ≡ 256)
         × (length (now regular) ≡ 256) ⌝ }
     ensures { λ r. ⌜ Walked s (spansIn (now (starts .entry)) (now (ends .entry)) k) (entries (spansIn (now (starts .entry)) (now (ends .entry)) k) (now (reading .entry)))
         r (now (weekly .exit)) (now (regular .exit)) ⌝ }
@@ -427,16 +431,17 @@ fn rest_walk(
     };
     let mut i = 0;
     while i < k {
-        let x = item_at(starts, ends, nets, reading, loads, i);
+        let x = item_at(starts, ends, nets, reading, compensations, i);
         i += 1;
         let r = as_read(x);
-        if !long_enough(r, x.load) {
+        if !long_enough(r, x.compensation) {
             return Walk::TooShort;
         }
         t = tally_after(s, end_of(ends, k, x.carrier), t, x, r);
-        bump(is_weekly(r), weekly, x.week);
-        bump(is_regular(r), regular, x.week);
-        pay(loads, x.carrier, reduction(r));
+        increment(is_weekly(r), weekly, x.week);
+        increment(is_regular(r), regular, x.week);
+        let kind = r.kind;
+        compensate(compensations, x.carrier, reduction(kind));
     }
     Walk::AllThrough(t)
 }
@@ -490,8 +495,8 @@ fn enough_in(
     k: usize,
     w: u32,
 ) -> bool
-    requires { ⌜ (k ≤ length (now starts)) × (k ≤ length (now ends)) × (w < 254) × (length (now weekly) ≡ 256) × (length (now regular) ≡ 256) × Below loadAtMost (now weekly)
-        × Below loadAtMost (now regular) ⌝ }
+    requires { ⌜ (k ≤ length (now starts)) × (k ≤ length (now ends)) × (w < 254) × (length (now weekly) ≡ 256) × (length (now regular) ≡ 256) × Below compensationAtMost (now weekly)
+        × Below compensationAtMost (now regular) ⌝ }
     ensures { λ r. ⌜ r ≡ enoughWith (restWeeks (spansIn (now (starts .entry)) (now (ends .entry)) k)) (now (weekly .entry)) (now (regular .entry)) w ⌝ }
 {
     let next = w + 1;
@@ -513,8 +518,8 @@ fn pair_kept(
     s: u32,
     w: u32,
 ) -> bool
-    requires { ⌜ (k ≤ length (now starts)) × (k ≤ length (now ends)) × (w < 254) × (length (now weekly) ≡ 256) × (length (now regular) ≡ 256) × Below loadAtMost (now weekly)
-        × Below loadAtMost (now regular) ⌝ }
+    requires { ⌜ (k ≤ length (now starts)) × (k ≤ length (now ends)) × (w < 254) × (length (now weekly) ≡ 256) × (length (now regular) ≡ 256) × Below compensationAtMost (now weekly)
+        × Below compensationAtMost (now regular) ⌝ }
     ensures { λ r. ⌜ r ≡ not (leb (weekStart (w + 2)) s) or enoughWith (restWeeks (spansIn (now (starts .entry)) (now (ends .entry)) k)) (now (weekly .entry)) (now (regular .entry)) w ⌝ }
 {
     if s < recording::WEEK_MINUTES * (w + 2) {
@@ -532,8 +537,8 @@ fn pairs_test(
     k: usize,
     s: u32,
 ) -> bool
-    requires { ⌜ (k ≤ length (now starts)) × (k ≤ length (now ends)) × (s ≤ totalAtMost) × (length (now weekly) ≡ 256) × (length (now regular) ≡ 256) × Below loadAtMost (now weekly)
-        × Below loadAtMost (now regular) ⌝ }
+    requires { ⌜ (k ≤ length (now starts)) × (k ≤ length (now ends)) × (s ≤ totalAtMost) × (length (now weekly) ≡ 256) × (length (now regular) ≡ 256) × Below compensationAtMost (now weekly)
+        × Below compensationAtMost (now regular) ⌝ }
     ensures { λ r. ⌜ r ≡ rule11With (restWeeks (spansIn (now (starts .entry)) (now (ends .entry)) k)) s (now (weekly .entry)) (now (regular .entry)) ⌝ }
 {
     let mut w = s / recording::WEEK_MINUTES;
@@ -562,8 +567,8 @@ fn later_test(starts: &[u32], ends: &[u32], nets: &[u32], reading: &[u8], k: usi
     requires { ⌜ Laid (now starts) (now ends) (now nets) (now reading) zeros k × (s ≤ totalAtMost) ⌝ }
     ensures { λ r. ⌜ r ≡ laterBy (now (starts .entry)) (now (ends .entry)) (now (reading .entry)) k s ⌝ }
 {
-    let mut loads = [0u32; recording::LONG_RESTS];
-    if !form_test(starts, ends, nets, reading, &loads, k) {
+    let mut compensations = [0u32; recording::LONG_RESTS];
+    if !form_test(starts, ends, nets, reading, &compensations, k) {
         return FORM_BROKEN;
     }
     let mut weekly = [0u32; 256];
@@ -573,7 +578,7 @@ fn later_test(starts: &[u32], ends: &[u32], nets: &[u32], reading: &[u8], k: usi
         ends,
         nets,
         reading,
-        &mut loads,
+        &mut compensations,
         &mut weekly,
         &mut regular,
         k,

@@ -15,7 +15,6 @@ use Rattle.recording.specs.Weeks.{weekMinutes}
 use Rattle.recording.proofs.WordLaws.{minutes-in, activity-in}
 use Rattle.text_lines.specs.Form.{lineEnd, weekLine, closingLine, runName, digitZero, base, digitAt, decimal, lineText, textOfLines}
 use Rattle.text.specs.Passes.{Put, partLines}
-use Rattle.text_lines.specs.declared.Line.{Line}
 use Rattle.text_lines.specs.declared.Line.the-variants as line
 use Rattle.text_lines.proofs.Slices.{sets-append}
 

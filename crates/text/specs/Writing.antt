@@ -1,4 +1,4 @@
--- Document 01, "Operations": the text of a recording.
+-- Public: document 01, "Operations", the text of a recording.
 -- Assumes nothing.
 use mathlib.Core.List.{List, [], _∷_}
 use Prim.Native.Nat.{ℕ, zero, suc, _+_}

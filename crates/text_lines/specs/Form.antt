@@ -1,4 +1,4 @@
--- Document 01, "Bracket text": the form, said by generation. A list of weeks of runs has a text, and some lists are allowed. A run is a word of the
+-- Public: document 01, "Bracket text", the form, said by generation. A list of weeks of runs has a text, and some lists are allowed. A run is a word of the
 -- recording: its activity and its minutes.
 -- Assumes nothing.
 use mathlib.Core.Path.{_≡_}

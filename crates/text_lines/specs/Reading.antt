@@ -1,11 +1,11 @@
--- Document 01, "Bracket text": the form, said by reading line by line, and what reading a text answers.
+-- Public: document 01, "Bracket text", the form, said by reading line by line, and what reading a text answers.
 -- Assumes nothing.
 use mathlib.Core.Bool.{Bool, true, false, not}
 use mathlib.Core.List.{List, [], _∷_, _++_}
 use Prim.Native.Nat.{ℕ, _+_, _-_, _*_}
 use lib.Dec.{eqb, leb, ltb}
 use lib.ListN.{length}
-use Rattle.recording.specs.Tests.{_and_, pick}
+use Rattle.recording.specs.Tests.{pick}
 use Rattle.recording.specs.Answers.{Answer, answered, refuseIf}
 use Rattle.recording.specs.Words.{wordOf, minutesIn, rest, availability, otherWork, driving}
 use Rattle.recording.specs.Weeks.{weekMinutes}

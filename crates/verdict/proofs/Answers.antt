@@ -19,7 +19,7 @@ use Rattle.recording.proofs.Listing.{measured-is}
 use Rattle.rules.specs.Reading.{entryBytes, readingSize}
 use Rattle.rules.specs.Order.{Bytes}
 use Rattle.rules.specs.Verdict.{prefix, isNone, firstLawful, breachMinute, article, Verdict, pass, breach, verdictBy, verdict}
-use Rattle.rules.specs.Operations.{judged, Outcome, passed, breached, outcome, readingAfter}
+use Rattle.rules.specs.Operations.{verdictGiven, Outcome, passed, breached, outcome, readingAfter}
 use Rattle.rules.proofs.Breach.{first-sound, verdict-pass, some-first}
 use Rattle.verdict_completion.specs.Completable.{Course, Lies}
 use Rattle.verdict_first_reading.specs.First.{Least, restsOnly}
@@ -116,24 +116,24 @@ module _ {ws : List ℕ} {k : Measure} {r : Rests} {starts ends nets : List ℕ}
 -- ---- the verdict and its buffer
 module _ (ws old : List ℕ) where
   pub record Told (answer : Answer Outcome) (new : List ℕ) : Type 0 where
-    pub result : answer ≡ outcome (judged ws (length old))
-    pub buffer : new ≡ readingAfter (judged ws (length old)) old
+    pub result : answer ≡ outcome (verdictGiven ws (length old))
+    pub buffer : new ≡ readingAfter (verdictGiven ws (length old)) old
 
-  told : {j : Answer Verdict} → judged ws (length old) ≡ j → {answer : Answer Outcome} {new : List ℕ} → answer ≡ outcome j → new ≡ readingAfter j old → Told answer new
+  told : {j : Answer Verdict} → verdictGiven ws (length old) ≡ j → {answer : Answer Outcome} {new : List ℕ} → answer ≡ outcome j → new ≡ readingAfter j old → Told answer new
   told e a b = record { result = a ∙ ap outcome (sym e); buffer = b ∙ ap (λ (x : Answer Verdict). readingAfter x old) (sym e) }
 
   pub told-refused : {n : ℕ} → measured ws ≡ refused n → Told (refused n) old
-  unfolding judged
+  unfolding verdictGiven
   told-refused {n} q = told {j = refused n} (rw q refl) refl refl
 
   module _ {k : Measure} (q : measured ws ≡ answered k) where
     pub told-short : length old < entryBytes * k .count → Told (refused 4) old
-    unfolding judged
+    unfolding verdictGiven
     told-short h = told {j = refused 4} (rw (q, lt-ltb (length old) (entryBytes * k .count) h) refl) refl refl
 
     module _ (h : entryBytes * k .count ≤ length old) where
-      judged-is : judged ws (length old) ≡ answered (verdict (minutesOf ws))
-      unfolding judged
+      judged-is : verdictGiven ws (length old) ≡ answered (verdict (minutesOf ws))
+      unfolding verdictGiven
       judged-is = rw (q, le-ltb (length old) (entryBytes * k .count) h) refl
 
       pub told-breach : {m a : ℕ} {new : List ℕ} → broken m a ≡ findingOf (verdict (minutesOf ws)) → new ≡ take (entryBytes * k .count) old

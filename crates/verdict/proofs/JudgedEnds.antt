@@ -77,11 +77,11 @@ module _ (s t : ℕ) (week : weekOf t ≤ weekOf s) where
     )
 
   -- ---- rule 8
-  before-due : (w : ℕ) → s < weekStart w → t < weekStart w
-  before-due w h = omega arith
+  before-deadline : (w : ℕ) → s < weekStart w → t < weekStart w
+  before-deadline w h = omega arith
 
   deadline-too : (b : Bool) (rs : List Span) (carrier w : ℕ) → byDeadline b s rs carrier (weekStart w) ≡ true → byDeadline b t rs carrier (weekStart w) ≡ true
-  deadline-too true rs carrier w h = lt-ltb t (weekStart w) (before-due w (ltb-true s (weekStart w) h))
+  deadline-too true rs carrier w h = lt-ltb t (weekStart w) (before-deadline w (ltb-true s (weekStart w) h))
   deadline-too false rs carrier w h = h
 
   settles-too : (k : Kind) (rs : List Span) (carrier w : ℕ) → settles k s rs carrier (weekStart w) ≡ true → settles k t rs carrier (weekStart w) ≡ true

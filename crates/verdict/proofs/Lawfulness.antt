@@ -36,13 +36,13 @@ use Rattle.verdict.specs.Verdicts.{InFront, HasKept, Some, ByRule, HasRe
 use Rattle.verdict.proofs.Days.{lies-later}
 use Rattle.verdict.specs.declared.Rests.{Rests}
 
--- ---- the search's answer on long rests without loads
-module _ (starts ends nets loads owed : List ℕ) (s : ℕ) (lies : Lies (restsOnly starts ends nets s)) (few : length starts ≤ longRestsAtMost) (bound : s ≤ totalAtMost)
-    (no-load : Zeros loads) (size : length owed ≡ length starts) (none-owed : Zeros owed) where
+-- ---- the search's answer on long rests without compensations
+module _ (starts ends nets compensations outstanding : List ℕ) (s : ℕ) (lies : Lies (restsOnly starts ends nets s)) (few : length starts ≤ longRestsAtMost) (bound : s ≤ totalAtMost)
+    (no-compensation : Zeros compensations) (size : length outstanding ≡ length starts) (none-outstanding : Zeros outstanding) where
   abbrev c : Course
-  c = courseOf starts ends nets loads s
+  c = courseOf starts ends nets compensations s
 
-  lies-too : Lies (courseOf starts ends nets loads s)
+  lies-too : Lies (courseOf starts ends nets compensations s)
   lies-too = record {
     ends-too = lies .ends-too;
     nets-too = lies .nets-too;
@@ -55,29 +55,30 @@ module _ (starts ends nets loads owed : List ℕ) (s : ℕ) (lies : Lies (restsO
   all : length starts + 0 ≡ length starts
   all = omega arith
 
-  pub lent : length loads ≡ length starts → Lent (courseOf starts ends nets loads s) owed
+  pub lent : length compensations ≡ length starts → Lent (courseOf starts ends nets compensations s) outstanding
   lent e = record {
     sized = record {
       lies = lies-too;
-      loads-too = e;
-      owed-too = size;
+      compensations-too = e;
+      outstanding-too = size;
       few = few;
       judged = bound;
-      loads-low = λ i. let z = no-load i in omega arith;
+      compensations-low = λ i. let z = no-compensation i in omega arith;
     };
     below = zero-le;
-    unused = λ x _. none-owed x;
+    unused = λ x _. none-outstanding x;
   }
 
-  pub some-reading : {r : Bool} {owed′ nogoods : List ℕ}
-      → Found (Completable (courseOf starts ends nets loads s) (length starts) 0 (startState (restWeek (courseOf starts ends nets loads s) 0)) owed) r owed owed′
-      (Sound (courseOf starts ends nets loads s) nogoods)
+  pub some-reading : {r : Bool} {outstanding′ nogoods : List ℕ}
+      → Found (Completable (courseOf starts ends nets compensations s) (length starts) 0 (startState (restWeek (courseOf starts ends nets compensations s) 0)) outstanding) r outstanding outstanding′
+      (Sound (courseOf starts ends nets compensations s) nogoods)
       → Some (restsAlone starts ends s) r
   unfolding entries compensationOf
   some-reading a =
       record {
-        yes = λ t. extend (courseOf starts ends nets loads s) lies-too (omega arith) bound (length starts) 0 _ owed [] all size none-owed (λ i h. no-load i) (a .yes t);
-        no = λ t bytes k. a .no t (extended (courseOf starts ends nets loads s) lies-too (omega arith) bound (length starts) 0 _ owed [] all size none-owed (λ i h. no-load i) bytes k);
+        yes = λ t. extend (courseOf starts ends nets compensations s) lies-too (omega arith) bound (length starts) 0 _ outstanding [] all size none-outstanding (λ i h. no-compensation i) (a .yes t);
+        no = λ t bytes k. a .no t (extended (courseOf starts ends nets compensations s) lies-too (omega arith) bound (length starts) 0 _ outstanding [] all size none-outstanding
+            (λ i h. no-compensation i) bytes k);
       }
 
 -- ---- the long rests of a recording, in two lists, and with their numbers

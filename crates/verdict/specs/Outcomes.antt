@@ -1,4 +1,4 @@
--- Public.
+-- Public: what the enums of the verdict's answers say; the verdict itself is in rules/specs.
 -- Assumes nothing.
 use Prim.Native.Nat.{ℕ}
 use mathlib.Core.List.{List}

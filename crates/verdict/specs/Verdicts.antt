@@ -1,4 +1,4 @@
--- What the enums of the verdict say, and what its inner functions answer. The public contracts go by the definitions of rules/specs.
+-- Inner: what the functions of this layer answer. Nobody has to believe it: no public contract cites it.
 -- Assumes nothing.
 use mathlib.Core.Path.{_≡_}
 use mathlib.Core.Logic.{_⊎_}

@@ -12,7 +12,7 @@ ghost use Rattle.recording.specs.Operations.{totalAtMost, measured};
 ghost use Rattle.recording.specs.Rests.{longRestsAtMost};
 ghost use Rattle.rules.specs.Verdict.{breachMinute, verdict};
 ghost use Rattle.rules_fixed.specs.Account.{accountFrom, opening};
-ghost use Rattle.rules.specs.Operations.{judged, outcome, readingAfter};
+ghost use Rattle.rules.specs.Operations.{verdictGiven, outcome, readingAfter};
 ghost use Rattle.rules.specs.Reading.{entryBytes};
 ghost use Rattle.verdict_completion.specs.Completable.{at, count, Lies};
 ghost use Rattle.verdict_first_reading.specs.First.{restsOnly};
@@ -112,15 +112,15 @@ fn some_reading(
     ensures { λ r. ⌜ Some (restsAlone (now (starts .entry)) (now (ends .entry)) s) (r .yes) ⌝ }
 {
     let k = starts.len();
-    let loads = [0u32; recording::LONG_RESTS];
-    let mut owed = [0u32; recording::LONG_RESTS];
+    let compensations = [0u32; recording::LONG_RESTS];
+    let mut outstanding = [0u32; recording::LONG_RESTS];
     verdict_sweep::possible(
         starts,
         ends,
         nets,
-        &loads[..k],
+        &compensations[..k],
         s,
-        &mut owed[..k],
+        &mut outstanding[..k],
         nogoods,
         front,
         other,
@@ -563,8 +563,8 @@ pub fn verdict_within(
     beside: &mut [u32],
 ) -> Outcome
     requires { ⌜ measured (now words) ≡ answered measure ⌝ }
-    ensures { λ r. ⌜ (outcomeBy r ≡ outcome (judged (now (words .entry)) (length (now (reading .entry)))))
-        × (now (reading .exit) ≡ readingAfter (judged (now (words .entry)) (length (now (reading .entry)))) (now (reading .entry))) ⌝ }
+    ensures { λ r. ⌜ (outcomeBy r ≡ outcome (verdictGiven (now (words .entry)) (length (now (reading .entry)))))
+        × (now (reading .exit) ≡ readingAfter (verdictGiven (now (words .entry)) (length (now (reading .entry)))) (now (reading .entry))) ⌝ }
 {
     let total = measure.total;
     let count = measure.count;
@@ -611,8 +611,8 @@ pub fn verdict_within(
 // The same with room for few long rests.
 fn within_few(words: &[u32], measure: Measure, reading: &mut [u8]) -> Outcome
     requires { ⌜ measured (now words) ≡ answered measure ⌝ }
-    ensures { λ r. ⌜ (outcomeBy r ≡ outcome (judged (now (words .entry)) (length (now (reading .entry)))))
-        × (now (reading .exit) ≡ readingAfter (judged (now (words .entry)) (length (now (reading .entry)))) (now (reading .entry))) ⌝ }
+    ensures { λ r. ⌜ (outcomeBy r ≡ outcome (verdictGiven (now (words .entry)) (length (now (reading .entry)))))
+        × (now (reading .exit) ≡ readingAfter (verdictGiven (now (words .entry)) (length (now (reading .entry)))) (now (reading .entry))) ⌝ }
 {
     let mut nogoods = [0u32; FEW_NOGOODS];
     let mut front = [0u32; FEW_STATES];
@@ -634,8 +634,8 @@ fn within_few(words: &[u32], measure: Measure, reading: &mut [u8]) -> Outcome
 // The same with room for some long rests.
 fn within_some(words: &[u32], measure: Measure, reading: &mut [u8]) -> Outcome
     requires { ⌜ measured (now words) ≡ answered measure ⌝ }
-    ensures { λ r. ⌜ (outcomeBy r ≡ outcome (judged (now (words .entry)) (length (now (reading .entry)))))
-        × (now (reading .exit) ≡ readingAfter (judged (now (words .entry)) (length (now (reading .entry)))) (now (reading .entry))) ⌝ }
+    ensures { λ r. ⌜ (outcomeBy r ≡ outcome (verdictGiven (now (words .entry)) (length (now (reading .entry)))))
+        × (now (reading .exit) ≡ readingAfter (verdictGiven (now (words .entry)) (length (now (reading .entry)))) (now (reading .entry))) ⌝ }
 {
     let mut nogoods = [0u32; SOME_NOGOODS];
     let mut front = [0u32; SOME_STATES];
@@ -657,8 +657,8 @@ fn within_some(words: &[u32], measure: Measure, reading: &mut [u8]) -> Outcome
 // The same with room for many long rests.
 fn within_many(words: &[u32], measure: Measure, reading: &mut [u8]) -> Outcome
     requires { ⌜ measured (now words) ≡ answered measure ⌝ }
-    ensures { λ r. ⌜ (outcomeBy r ≡ outcome (judged (now (words .entry)) (length (now (reading .entry)))))
-        × (now (reading .exit) ≡ readingAfter (judged (now (words .entry)) (length (now (reading .entry)))) (now (reading .entry))) ⌝ }
+    ensures { λ r. ⌜ (outcomeBy r ≡ outcome (verdictGiven (now (words .entry)) (length (now (reading .entry)))))
+        × (now (reading .exit) ≡ readingAfter (verdictGiven (now (words .entry)) (length (now (reading .entry)))) (now (reading .entry))) ⌝ }
 {
     let mut nogoods = [0u32; MANY_NOGOODS];
     let mut front = [0u32; MANY_STATES];
@@ -680,8 +680,8 @@ fn within_many(words: &[u32], measure: Measure, reading: &mut [u8]) -> Outcome
 // The same with room for as many long rests as there can be.
 fn within_most(words: &[u32], measure: Measure, reading: &mut [u8]) -> Outcome
     requires { ⌜ measured (now words) ≡ answered measure ⌝ }
-    ensures { λ r. ⌜ (outcomeBy r ≡ outcome (judged (now (words .entry)) (length (now (reading .entry)))))
-        × (now (reading .exit) ≡ readingAfter (judged (now (words .entry)) (length (now (reading .entry)))) (now (reading .entry))) ⌝ }
+    ensures { λ r. ⌜ (outcomeBy r ≡ outcome (verdictGiven (now (words .entry)) (length (now (reading .entry)))))
+        × (now (reading .exit) ≡ readingAfter (verdictGiven (now (words .entry)) (length (now (reading .entry)))) (now (reading .entry))) ⌝ }
 {
     let mut nogoods = [0u32; verdict_nogoods::TABLE_WORDS];
     let mut front = [0u32; MOST_STATES];
@@ -700,11 +700,11 @@ fn within_most(words: &[u32], measure: Measure, reading: &mut [u8]) -> Outcome
     )
 }
 
-// The same with room by the number of long rests, so that a short recording does not pay for what a long one needs.
+// The same with room by the number of long rests, so that a short recording does not bear the cost of what a long one needs.
 fn in_room(words: &[u32], measure: Measure, reading: &mut [u8]) -> Outcome
     requires { ⌜ measured (now words) ≡ answered measure ⌝ }
-    ensures { λ r. ⌜ (outcomeBy r ≡ outcome (judged (now (words .entry)) (length (now (reading .entry)))))
-        × (now (reading .exit) ≡ readingAfter (judged (now (words .entry)) (length (now (reading .entry)))) (now (reading .entry))) ⌝ }
+    ensures { λ r. ⌜ (outcomeBy r ≡ outcome (verdictGiven (now (words .entry)) (length (now (reading .entry)))))
+        × (now (reading .exit) ≡ readingAfter (verdictGiven (now (words .entry)) (length (now (reading .entry)))) (now (reading .entry))) ⌝ }
 {
     let count = measure.count;
     if count <= FEW {
@@ -755,8 +755,8 @@ pub fn judge(words: &[u32]) -> Judgement
 
 // The verdict: refusals 1 and 2, then 4; a pass writes the first lawful reading.
 pub fn verdict(words: &[u32], reading: &mut [u8]) -> Outcome
-    ensures { λ r. ⌜ (outcomeBy r ≡ outcome (judged (now (words .entry)) (length (now (reading .entry)))))
-        × (now (reading .exit) ≡ readingAfter (judged (now (words .entry)) (length (now (reading .entry)))) (now (reading .entry))) ⌝ }
+    ensures { λ r. ⌜ (outcomeBy r ≡ outcome (verdictGiven (now (words .entry)) (length (now (reading .entry)))))
+        × (now (reading .exit) ≡ readingAfter (verdictGiven (now (words .entry)) (length (now (reading .entry)))) (now (reading .entry))) ⌝ }
 {
     let weighing = recording::weigh(words);
     let Weighing::Weighed(measure) = weighing else {

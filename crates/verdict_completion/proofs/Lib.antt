@@ -1,5 +1,5 @@
 pub mod Heads
-pub mod Payments
+pub mod Compensations
 pub mod Carriers
 pub mod Matching
 pub mod Monotone

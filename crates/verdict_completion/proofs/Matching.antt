@@ -1,9 +1,9 @@
--- Debts compared whatever rests owe them: what can be compensated for can also be where each debt lies within another one.
+-- Reductions compared whatever rests they are of: what can be compensated for can also be where each reduction lies within another one.
 -- Assumes nothing.
 use mathlib.Core.Path.{_≡_, refl, sym, ap, subst, _∙_}
 use mathlib.Core.Logic.{_⊎_, inl, inr}
 use mathlib.Core.Bool.{Bool, true, false}
-use mathlib.Core.List.{List, [], _∷_}
+use mathlib.Core.List.{List}
 use Prim.Native.Nat.{ℕ, zero, suc, _+_, _≤_, _<_, zero-le}
 use native.Mathlib.Nat.{le-refl, eq-zero-or-pos}
 use native.Mathlib.Omega.{arith}
@@ -15,7 +15,7 @@ use Rattle.recording.specs.Tests.{pick}
 use Rattle.recording.proofs.TestLaws.{less-or-not}
 use Rattle.rules.specs.ReadingRules.{leastNet}
 use Rattle.rules.specs.declared.Kind.the-variants.{Daily}
-use Rattle.verdict_completion.specs.Completable.{at, amountOf, dueOf, Overdue, Pays}
+use Rattle.verdict_completion.specs.Completable.{at, amountOf, Overdue, Compensates}
 use Rattle.verdict_completion.specs.Better.{Within, Matched}
 
 pub same-or-not : (a b : ℕ) → (a ≡ b) ⊎ (a ≡ b → ⊥)
@@ -26,16 +26,16 @@ same-or-not a b = go (eqb a b) refl
     go false e = inr (eqb-false a b e)
 
 pub within-self : {a : ℕ} → 0 < a → Within a a
-within-self h = record { owes = h; less = le-refl _; later = le-refl _ }
+within-self h = record { isOutstanding = h; less = le-refl _; later = le-refl _ }
 
 -- ---- what stands where after a store
--- of a slot that owes after a store: it is the one stored to, or it owed before
+-- a slot with a reduction after a store is the one stored to, or had one before
 data Owing (o : List ℕ) (i a x : ℕ) : Type 0 where
   now : x ≡ i → at (set o i a) x ≡ a → Owing o i a x
   before : (x ≡ i → ⊥) → 0 < at o x → at (set o i a) x ≡ at o x → Owing o i a x
 
-owing : (o : List ℕ) (i a x : ℕ) → 0 < at (set o i a) x → Owing o i a x
-owing o i a x h = go (same-or-not x i)
+outstandingCount : (o : List ℕ) (i a x : ℕ) → 0 < at (set o i a) x → Owing o i a x
+outstandingCount o i a x h = go (same-or-not x i)
   where
     here : x ≡ i → (i < length o) ⊎ (length o ≤ i) → Owing o i a x
     here e (inl l) = now e (ap (at (set o i a)) e ∙ getD-set-same o i a 0 l)
@@ -45,9 +45,9 @@ owing o i a x h = go (same-or-not x i)
     go (inl e) = here e (less-or-not i (length o))
     go (inr n) = let q = getD-set-other o i x a 0 n in before n (omega (arith, h, q)) q
 
--- what is still owed after the debt at i is compensated for
+-- what is still outstanding after the reduction at i is compensated for
 cleared : (o : List ℕ) (i x : ℕ) → 0 < at (set o i 0) x → (x ≡ i → ⊥) × (0 < at o x)
-cleared o i x h = go (owing o i 0 x h)
+cleared o i x h = go (outstandingCount o i 0 x h)
   where
     go : Owing o i 0 x → (x ≡ i → ⊥) × (0 < at o x)
     go (now e z) = absurd (omega (arith, h, z))
@@ -55,41 +55,42 @@ cleared o i x h = go (owing o i 0 x h)
 
 -- ---- compensating
 module _ (F : ℕ → List ℕ → Type 0) (minutes : ℕ) where
-  -- every debt is left
-  pub all-left : (m i a : ℕ) (o : List ℕ) → F a o → Pays F minutes m i a o
-  unfolding Pays
+  -- every reduction is left
+  pub all-left : (m i a : ℕ) (o : List ℕ) → F a o → Compensates F minutes m i a o
+  unfolding Compensates
   all-left zero i a o h = h
   all-left (suc m) i a o h = inr (all-left m (i + 1) a o h)
 
-  -- a debt that is compensated for first can be in its turn
+  -- a reduction that is compensated for first can be in its turn
   pub in-turn : (m i a x : ℕ) (o : List ℕ) → i ≤ x → x < i + m → 0 < at o x → leastNet Daily + (a + amountOf (at o x)) ≤ minutes
-      → Pays F minutes m i (a + amountOf (at o x)) (set o x 0) → Pays F minutes m i a o
-  unfolding Pays
-  in-turn zero i a x o low high owes fits h = absurd (omega arith)
-  in-turn (suc m) i a x o low high owes fits h =
+      → Compensates F minutes m i (a + amountOf (at o x)) (set o x 0) → Compensates F minutes m i a o
+  unfolding Compensates
+  in-turn zero i a x o low high isOutstanding fits h = absurd (omega arith)
+  in-turn (suc m) i a x o low high isOutstanding fits h =
       go (same-or-not i x) h
-      (λ n q. in-turn m (i + 1) a x o (omega arith) (omega arith) owes fits q)
+      (λ n q. in-turn m (i + 1) a x o (omega arith) (omega arith) isOutstanding fits q)
       (λ n v w. in-turn m (i + 1) (a + amountOf (at o i)) x (set o i 0) (omega arith) (omega arith) v w)
     where
       goal : Type 0
-      goal = ((0 < at o i) × (leastNet Daily + (a + amountOf (at o i)) ≤ minutes) × Pays F minutes m (i + 1) (a + amountOf (at o i)) (set o i 0)) ⊎ Pays F minutes m (i + 1) a o
+      goal = ((0 < at o i) × (leastNet Daily + (a + amountOf (at o i)) ≤ minutes) × Compensates F minutes m (i + 1) (a + amountOf (at o i)) (set o i 0)) ⊎ Compensates F minutes m (i + 1) a o
 
       given : Type 0
       given =
           ((0 < at (set o x 0) i) × (leastNet Daily + (a + amountOf (at o x) + amountOf (at (set o x 0) i)) ≤ minutes) ×
-          Pays F minutes m (i + 1) (a + amountOf (at o x) + amountOf (at (set o x 0) i)) (set (set o x 0) i 0))
-          ⊎ Pays F minutes m (i + 1) (a + amountOf (at o x)) (set o x 0)
+          Compensates F minutes m (i + 1) (a + amountOf (at o x) + amountOf (at (set o x 0) i)) (set (set o x 0) i 0))
+          ⊎ Compensates F minutes m (i + 1) (a + amountOf (at o x)) (set o x 0)
 
       go : (i ≡ x) ⊎ (i ≡ x → ⊥) → given
-          → ((i ≡ x → ⊥) → Pays F minutes m (i + 1) (a + amountOf (at o x)) (set o x 0) → Pays F minutes m (i + 1) a o)
+          → ((i ≡ x → ⊥) → Compensates F minutes m (i + 1) (a + amountOf (at o x)) (set o x 0) → Compensates F minutes m (i + 1) a o)
           → ((i ≡ x → ⊥) → 0 < at (set o i 0) x → leastNet Daily + (a + amountOf (at o i) + amountOf (at (set o i 0) x)) ≤ minutes
-          → Pays F minutes m (i + 1) (a + amountOf (at o i) + amountOf (at (set o i 0) x)) (set (set o i 0) x 0)
-          → Pays F minutes m (i + 1) (a + amountOf (at o i)) (set o i 0))
+          → Compensates F minutes m (i + 1) (a + amountOf (at o i) + amountOf (at (set o i 0) x)) (set (set o i 0) x 0)
+          → Compensates F minutes m (i + 1) (a + amountOf (at o i)) (set o i 0))
           → goal
       go (inl e) (inl q) f g = absurd (cleared o x i (q .0) .0 e)
       go (inl e) (inr q) f g =
-          subst (λ (z : ℕ). ((0 < at o z) × (leastNet Daily + (a + amountOf (at o z)) ≤ minutes) × Pays F minutes m (i + 1) (a + amountOf (at o z)) (set o z 0)) ⊎ Pays F minutes m (i + 1) a o)
-          (sym e) (inl (owes, fits, q))
+          subst (λ (z : ℕ). ((0 < at o z) × (leastNet Daily + (a + amountOf (at o z)) ≤ minutes) × Compensates F minutes m (i + 1) (a + amountOf (at o z))
+          (set o z 0)) ⊎ Compensates F minutes m (i + 1) a o)
+          (sym e) (inl (isOutstanding, fits, q))
       go (inr n) (inr q) f g = inr (f n q)
       go (inr n) (inl q) f g =
           let u = getD-set-other o x i 0 0 n in
@@ -99,9 +100,9 @@ module _ (F : ℕ → List ℕ → Type 0) (minutes : ℕ) where
           inl (
             cleared o x i (q .0) .1,
             less a (amountOf (at o x)) (amountOf (at o i)) (subst (λ (z : ℕ). leastNet Daily + (a + amountOf (at o x) + amountOf z) ≤ minutes) u (q .1)),
-            g n (subst (λ (z : ℕ). 0 < z) (sym v) owes) (subst (λ (z : ℕ). leastNet Daily + z ≤ minutes) w (q .1))
-                (subst (λ (z : ℕ). Pays F minutes m (i + 1) z (set (set o i 0) x 0)) w
-                (subst (Pays F minutes m (i + 1) (a + amountOf (at o x) + amountOf (at (set o x 0) i))) (set-comm o x i 0 0 (λ e. n (sym e))) (q .2))),
+            g n (subst (λ (z : ℕ). 0 < z) (sym v) isOutstanding) (subst (λ (z : ℕ). leastNet Daily + z ≤ minutes) w (q .1))
+                (subst (λ (z : ℕ). Compensates F minutes m (i + 1) z (set (set o i 0) x 0)) w
+                (subst (Compensates F minutes m (i + 1) (a + amountOf (at o x) + amountOf (at (set o x 0) i))) (set-comm o x i 0 0 (λ e. n (sym e))) (q .2))),
           )
         where
           swap : (a b c : ℕ) → a + b + c ≡ a + c + b
@@ -110,11 +111,11 @@ module _ (F : ℕ → List ℕ → Type 0) (minutes : ℕ) where
           less : (a b c : ℕ) → leastNet Daily + (a + b + c) ≤ minutes → leastNet Daily + (a + c) ≤ minutes
           less a b c h = omega arith
 
--- ---- matched debts
+-- ---- matched reductions
 module _ {k j : ℕ} {o p : List ℕ} (d : Matched k j o p) where
   pub matched-overdue : (t : ℕ) → Overdue o t → Overdue p t
   unfolding Overdue
-  matched-overdue t h = let w = d .within (h .0) (h .1) in (d .to (h .0), w .owes, omega (arith, w .later, h .2))
+  matched-overdue t h = let w = d .within (h .0) (h .1) in (d .to (h .0), w .isOutstanding, omega (arith, w .later, h .2))
 
   pub matched-on : Matched k (suc j) o p
   matched-on = record {
@@ -126,7 +127,7 @@ module _ {k j : ℕ} {o p : List ℕ} (d : Matched k j o p) where
     apart = d .apart;
   }
 
-  -- a debt of p is compensated for, within which none of o lies
+  -- a reduction of p is compensated for, within which none of o lies
   one-gone : (i : ℕ) → ((x : ℕ) → 0 < at o x → d .to x ≡ i → ⊥) → Matched k j o (set p i 0)
   one-gone i none = record {
     long = length-set p i 0 ∙ d .long;
@@ -137,20 +138,20 @@ module _ {k j : ℕ} {o p : List ℕ} (d : Matched k j o p) where
     apart = d .apart;
   }
 
-  -- a debt of each, one within the other
+  -- a reduction of each, one within the other
   both-gone : (x : ℕ) → 0 < at o x → Matched k j (set o x 0) (set p (d .to x) 0)
-  both-gone x owes = record {
+  both-gone x isOutstanding = record {
     long = length-set p (d .to x) 0 ∙ d .long;
     to = d .to;
     below = λ y h. d .below y (cleared o x y h .1);
     to-below = λ y h. d .to-below y (cleared o x y h .1);
     within = λ y h. let q = cleared o x y h in
         subst (λ (z : ℕ). Within z (at (set p (d .to x) 0) (d .to y))) (sym (getD-set-other o x y 0 0 (q .0)))
-        (subst (Within (at o y)) (sym (getD-set-other p (d .to x) (d .to y) 0 0 (λ e. q .0 (d .apart y x (q .1) owes e)))) (d .within y (q .1)));
+        (subst (Within (at o y)) (sym (getD-set-other p (d .to x) (d .to y) 0 0 (λ e. q .0 (d .apart y x (q .1) isOutstanding e)))) (d .within y (q .1)));
     apart = λ y z h l e. d .apart y z (cleared o x y h .1) (cleared o x z l .1) e;
   }
 
-  -- the debt of o, if there is one, that lies within that of p at i
+  -- the reduction of o, if there is one, that lies within that of p at i
   data Inside (i : ℕ) : Type 0 where
     one : (x : ℕ) → 0 < at o x → d .to x ≡ i → Inside i
     none : ((x : ℕ) → 0 < at o x → d .to x ≡ i → ⊥) → Inside i
@@ -172,18 +173,18 @@ module _ {k j : ℕ} {o p : List ℕ} (d : Matched k j o p) where
   inside : (i : ℕ) → Inside i
   inside i = inside-below j i (λ x m l e. omega (arith, d .below x l))
 
--- a debt is put at r beside the one at q within which it lies, where no other debt lies within that
+-- a reduction is put at r beside the one at q within which it lies, where no other reduction lies within that
 module _ {k j : ℕ} {o p : List ℕ} (d : Matched k j o p) (n r q a b : ℕ) (away : (x : ℕ) → 0 < at o x → d .to x ≡ q → ⊥) where
   abbrev put-to : ℕ → ℕ
   put-to x = pick (eqb x r) q (d .to x)
 
-  -- the new debt, or one that was there
+  -- the new reduction, or one that was there
   data Place (x : ℕ) : Type 0 where
     new : x ≡ r → put-to x ≡ q → at (set o r a) x ≡ a → Place x
     old : 0 < at o x → put-to x ≡ d .to x → at (set o r a) x ≡ at o x → Place x
 
   place : (x : ℕ) → 0 < at (set o r a) x → Place x
-  place x h = go (owing o r a x h)
+  place x h = go (outstandingCount o r a x h)
     where
       go : Owing o r a x → Place x
       go (now e z) = new e (ap (λ (t : Bool). pick t q (d .to x)) (eq-eqb x r e)) z
@@ -223,21 +224,21 @@ module _ {k j : ℕ} {o p : List ℕ} (d : Matched k j o p) (n r q a b : ℕ) (a
   }
 
 module _ {k j : ℕ} (F G : ℕ → List ℕ → Type 0) (minutes : ℕ) (mono : (a b : ℕ) (o p : List ℕ) → a ≤ b → Matched k j o p → G b p → F a o) where
-  -- what can be compensated for among the debts p can be among debts that lie within them
-  pub matched-pays : (m i a b : ℕ) {o p : List ℕ} → a ≤ b → Matched k j o p → Pays G minutes m i b p → Pays F minutes j 0 a o
-  unfolding Pays
-  matched-pays zero i a b {o} {p} le d h = all-left F minutes j 0 a o (mono a b o p le d h)
-  matched-pays (suc m) i a b {o} {p} le d (inr h) = matched-pays m (i + 1) a b le d h
-  matched-pays (suc m) i a b {o} {p} le d (inl h) =
-      go (inside d i) (λ l e. matched-pays m (i + 1) a (b + amountOf (at p i)) l e (h .2))
-      (λ x l e. matched-pays m (i + 1) (a + amountOf (at o x)) (b + amountOf (at p i)) l e (h .2))
+  -- what can be compensated for among the reductions p can be among reductions that lie within them
+  pub matched-compensates : (m i a b : ℕ) {o p : List ℕ} → a ≤ b → Matched k j o p → Compensates G minutes m i b p → Compensates F minutes j 0 a o
+  unfolding Compensates
+  matched-compensates zero i a b {o} {p} le d h = all-left F minutes j 0 a o (mono a b o p le d h)
+  matched-compensates (suc m) i a b {o} {p} le d (inr h) = matched-compensates m (i + 1) a b le d h
+  matched-compensates (suc m) i a b {o} {p} le d (inl h) =
+      go (inside d i) (λ l e. matched-compensates m (i + 1) a (b + amountOf (at p i)) l e (h .2))
+      (λ x l e. matched-compensates m (i + 1) (a + amountOf (at o x)) (b + amountOf (at p i)) l e (h .2))
     where
-      go : Inside d i → (a ≤ b + amountOf (at p i) → Matched k j o (set p i 0) → Pays F minutes j 0 a o)
-          → ((x : ℕ) → a + amountOf (at o x) ≤ b + amountOf (at p i) → Matched k j (set o x 0) (set p i 0) → Pays F minutes j 0 (a + amountOf (at o x)) (set o x 0))
-          → Pays F minutes j 0 a o
+      go : Inside d i → (a ≤ b + amountOf (at p i) → Matched k j o (set p i 0) → Compensates F minutes j 0 a o)
+          → ((x : ℕ) → a + amountOf (at o x) ≤ b + amountOf (at p i) → Matched k j (set o x 0) (set p i 0) → Compensates F minutes j 0 (a + amountOf (at o x)) (set o x 0))
+          → Compensates F minutes j 0 a o
       go (none n) f g = f (omega arith) (one-gone d i n)
-      go (one x owes e) f g =
-          let w = subst (λ (z : ℕ). Within (at o x) (at p z)) e (d .within x owes) in
+      go (one x isOutstanding e) f g =
+          let w = subst (λ (z : ℕ). Within (at o x) (at p z)) e (d .within x isOutstanding) in
           let l : a + amountOf (at o x) ≤ b + amountOf (at p i) = omega (arith, w .less) in
-          in-turn F minutes j 0 a x o zero-le (omega (arith, d .below x owes)) owes (omega (arith, h .1))
-          (g x l (subst (λ (z : ℕ). Matched k j (set o x 0) (set p z 0)) e (both-gone d x owes)))
+          in-turn F minutes j 0 a x o zero-le (omega (arith, d .below x isOutstanding)) isOutstanding (omega (arith, h .1))
+          (g x l (subst (λ (z : ℕ). Matched k j (set o x 0) (set p z 0)) e (both-gone d x isOutstanding)))

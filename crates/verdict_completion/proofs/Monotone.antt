@@ -1,5 +1,5 @@
 -- A state that is at least as good can complete what another can; and what follows from that: a rest that can be a regular weekly one need not
--- be daily, and a debt that is due after S needs nothing.
+-- be daily, and a reduction that is due after S needs nothing.
 -- Assumes nothing.
 use mathlib.Core.Path.{_≡_, refl, sym, ap, subst, _∙_}
 use mathlib.Core.Logic.{_⊎_, inl, inr}
@@ -12,7 +12,7 @@ use lib.Dec.{leb, eqb}
 use lib.ListN.{length, set, length-set}
 use lib.Seq.{getD-set-same, getD-set-other, set-out, set-getD}
 use borrow.Author.Tests.{leb-true, leb-false, le-leb, ltb-true, lt-ltb, eqb-true, eq-eqb}
-use Rattle.recording.specs.Tests.{_and_, _or_, pick, one}
+use Rattle.recording.specs.Tests.{_and_, pick, one}
 use Rattle.recording.specs.Weeks.{weekStart, weekOf}
 use Rattle.recording.proofs.TestLaws.{and-left, and-right, and-both, or-cases, or-left, or-right, one-most, less-or-not}
 use Rattle.rules.specs.Reading.{regularMinutes}
@@ -23,12 +23,13 @@ use Rattle.verdict_completion.specs.declared.State.{State}
 use Rattle.verdict_completion.specs.declared.Brought.{Brought}
 use Rattle.verdict_completion.specs.declared.Brought.the-variants.{Broken}
 use Rattle.verdict_completion.specs.States.{pairKept, nextWeek, advance, After, afterDaily, afterWeekly}
-use Rattle.verdict_completion.specs.Completable.{Course, at, count, restWeek, lengthAt, debtUnit, amountOf, dueOf, debtOf, Overdue, Pays, shortens, ReadDaily, ReadWeekly, Reads, Tries}
+use Rattle.verdict_completion.specs.Completable.{Course, at, count, restWeek, lengthAt, reductionUnit, amountOf, deadlineOf}
+use Rattle.verdict_completion.specs.Completable.{outstandingOf, Overdue, Compensates, shortens, ReadDaily, ReadWeekly, Reads, Tries}
 use Rattle.verdict_completion.specs.Completable.{Completable, Lies, Stands}
-use Rattle.verdict_completion.specs.Better.{Milder, none, free, some, Debts, Within, Matched, Better, Small, AtRest}
-use Rattle.verdict_completion.proofs.Matching.{same-or-not, matched-on, matched-overdue, put-at, matched-pays}
+use Rattle.verdict_completion.specs.Better.{Milder, none, free, some, Reductions, Within, Matched, Better, Small, AtRest}
+use Rattle.verdict_completion.proofs.Matching.{same-or-not, matched-on, matched-overdue, put-at, matched-compensates}
 
--- ---- debts
+-- ---- reductions
 module _ (s : ℕ) where
   pub milder-self : (a : ℕ) → Milder s a a
   milder-self a = go (eq-zero-or-pos a)
@@ -37,14 +38,14 @@ module _ (s : ℕ) where
       go (inl z) = none z
       go (inr h) = some h (le-refl _) (le-refl _)
 
-  pub debts-self : (o : List ℕ) → Debts s o o
-  debts-self o = record { long = refl; each = λ i. milder-self (at o i) }
+  pub reductions-self : (o : List ℕ) → Reductions s o o
+  reductions-self o = record { long = refl; each = λ i. milder-self (at o i) }
 
   milder-same : {a b a′ b′ : ℕ} → a′ ≡ a → b′ ≡ b → Milder s a b → Milder s a′ b′
   milder-same {a} {b} {a′} {b′} e f m = subst (λ (x : ℕ). Milder s x b′) (sym e) (subst (λ (y : ℕ). Milder s a y) (sym f) m)
 
   -- a store on both sides
-  pub set-both : {o p : List ℕ} (i : ℕ) {a b : ℕ} → Debts s o p → Milder s a b → Debts s (set o i a) (set p i b)
+  pub set-both : {o p : List ℕ} (i : ℕ) {a b : ℕ} → Reductions s o p → Milder s a b → Reductions s (set o i a) (set p i b)
   set-both {o} {p} i {a} {b} d m = record {
     long = length-set o i a ∙ d .long ∙ sym (length-set p i b);
     each = λ x. go x (same-or-not x i);
@@ -59,15 +60,15 @@ module _ (s : ℕ) where
       go x (inr n) = milder-same (getD-set-other o i x a 0 n) (getD-set-other p i x b 0 n) (d .each x)
 
   -- one side stays as it is
-  set-right : {o p : List ℕ} (i b : ℕ) → Debts s o p → Milder s (at o i) b → Debts s o (set p i b)
-  set-right {o} {p} i b d m = subst (λ (l : List ℕ). Debts s l (set p i b)) (set-getD o i 0) (set-both i d m)
+  set-right : {o p : List ℕ} (i b : ℕ) → Reductions s o p → Milder s (at o i) b → Reductions s o (set p i b)
+  set-right {o} {p} i b d m = subst (λ (l : List ℕ). Reductions s l (set p i b)) (set-getD o i 0) (set-both i d m)
 
-  pub set-left : {o p : List ℕ} (i a : ℕ) → Debts s o p → Milder s a (at p i) → Debts s (set o i a) p
-  set-left {o} {p} i a d m = subst (λ (l : List ℕ). Debts s (set o i a) l) (set-getD p i 0) (set-both i d m)
+  pub set-left : {o p : List ℕ} (i a : ℕ) → Reductions s o p → Milder s a (at p i) → Reductions s (set o i a) p
+  set-left {o} {p} i a d m = subst (λ (l : List ℕ). Reductions s (set o i a) l) (set-getD p i 0) (set-both i d m)
 
-  -- nothing owed is no worse than anything
+  -- nothing outstanding is no worse than anything
 
-  -- a debt that is no worse than one that is compensated for is left, or is no more
+  -- a reduction that is no worse than one that is compensated for is left, or is no more
   data Settled (a b : ℕ) : Type 0 where
     leave : Milder s a 0 → Settled a b
     settle : 0 < a → amountOf a ≤ amountOf b → Settled a b
@@ -81,29 +82,29 @@ module _ (s : ℕ) where
       go (inl z) = leave (none z)
       go (inr h) = settle h q
 
-  overdue-one : {a b : ℕ} (t : ℕ) → t ≤ s + 1 → Milder s a b → 0 < a → dueOf a < t → (0 < b) × (dueOf b < t)
+  overdue-one : {a b : ℕ} (t : ℕ) → t ≤ s + 1 → Milder s a b → 0 < a → deadlineOf a < t → (0 < b) × (deadlineOf b < t)
   overdue-one t le (none z) h k = absurd (omega arith)
   overdue-one t le (free f) h k = absurd (omega arith)
   overdue-one t le (some p q r) h k = (p, omega arith)
 
-  pub overdue-mono : {o p : List ℕ} (t : ℕ) → t ≤ s + 1 → Debts s o p → Overdue o t → Overdue p t
+  pub overdue-mono : {o p : List ℕ} (t : ℕ) → t ≤ s + 1 → Reductions s o p → Overdue o t → Overdue p t
   unfolding Overdue
   overdue-mono t le d h = let q = overdue-one t le (d .each (h .0)) (h .1) (h .2) in (h .0, q .0, q .1)
 
-  module _ (F G : ℕ → List ℕ → Type 0) (minutes : ℕ) (mono : (a b : ℕ) (o p : List ℕ) → a ≤ b → Debts s o p → G b p → F a o) where
-    pub pays-mono : (m i a b : ℕ) {o p : List ℕ} → a ≤ b → Debts s o p → Pays G minutes m i b p → Pays F minutes m i a o
-    unfolding Pays
-    pays-mono zero i a b {o} {p} le d h = mono a b o p le d h
-    pays-mono (suc m) i a b {o} {p} le d (inr h) = inr (pays-mono m (i + 1) a b le d h)
-    pays-mono (suc m) i a b {o} {p} le d (inl h) =
+  module _ (F G : ℕ → List ℕ → Type 0) (minutes : ℕ) (mono : (a b : ℕ) (o p : List ℕ) → a ≤ b → Reductions s o p → G b p → F a o) where
+    pub compensates-mono : (m i a b : ℕ) {o p : List ℕ} → a ≤ b → Reductions s o p → Compensates G minutes m i b p → Compensates F minutes m i a o
+    unfolding Compensates
+    compensates-mono zero i a b {o} {p} le d h = mono a b o p le d h
+    compensates-mono (suc m) i a b {o} {p} le d (inr h) = inr (compensates-mono m (i + 1) a b le d h)
+    compensates-mono (suc m) i a b {o} {p} le d (inl h) =
         go (settled (d .each i))
-        (λ l e. pays-mono m (i + 1) a (b + amountOf (at p i)) l e (h .2))
-        (λ l e. pays-mono m (i + 1) (a + amountOf (at o i)) (b + amountOf (at p i)) l e (h .2))
+        (λ l e. compensates-mono m (i + 1) a (b + amountOf (at p i)) l e (h .2))
+        (λ l e. compensates-mono m (i + 1) (a + amountOf (at o i)) (b + amountOf (at p i)) l e (h .2))
       where
         go : Settled (at o i) (at p i)
-            → (a ≤ b + amountOf (at p i) → Debts s o (set p i 0) → Pays F minutes m (i + 1) a o)
-            → (a + amountOf (at o i) ≤ b + amountOf (at p i) → Debts s (set o i 0) (set p i 0) → Pays F minutes m (i + 1) (a + amountOf (at o i)) (set o i 0))
-            → Pays F minutes (suc m) i a o
+            → (a ≤ b + amountOf (at p i) → Reductions s o (set p i 0) → Compensates F minutes m (i + 1) a o)
+            → (a + amountOf (at o i) ≤ b + amountOf (at p i) → Reductions s (set o i 0) (set p i 0) → Compensates F minutes m (i + 1) (a + amountOf (at o i)) (set o i 0))
+            → Compensates F minutes (suc m) i a o
         go (leave z) f g = inr (f (omega arith) (set-right i 0 d z))
         go (settle q e) f g = inl (q, omega (arith, h .1), g (omega arith) (set-both i d (none refl)))
 
@@ -237,40 +238,40 @@ weekly-better false s t end le b = record {
   regular = least regularAtLeast _ _ (omega (arith, b .regular));
 }
 
--- less given as compensation leaves no debt, or one within the other
-debt-mono : (minutes w a b : ℕ) → a ≤ b → leastNet (Weekly Regular) + b ≤ minutes → (debtOf minutes a w ≡ 0) ⊎ Within (debtOf minutes a w) (debtOf minutes b w)
-unfolding debtOf
-debt-mono minutes w a b le net = go (leb (regularMinutes + a) minutes) (leb (regularMinutes + b) minutes) refl refl
+-- less given as compensation leaves no reduction, or one within the other
+reduction-mono : (minutes w a b : ℕ) → a ≤ b → leastNet (Weekly Regular) + b ≤ minutes → (outstandingOf minutes a w ≡ 0) ⊎ Within (outstandingOf minutes a w) (outstandingOf minutes b w)
+unfolding outstandingOf
+reduction-mono minutes w a b le net = go (leb (regularMinutes + a) minutes) (leb (regularMinutes + b) minutes) refl refl
   where
     go : (t u : Bool) → leb (regularMinutes + a) minutes ≡ t → leb (regularMinutes + b) minutes ≡ u
-        → (pick t 0 ((w + weeksToCompensate) * debtUnit + (regularMinutes + a - minutes)) ≡ 0)
-        ⊎ Within (pick t 0 ((w + weeksToCompensate) * debtUnit + (regularMinutes + a - minutes)))
-        (pick u 0 ((w + weeksToCompensate) * debtUnit + (regularMinutes + b - minutes)))
+        → (pick t 0 ((w + weeksToCompensate) * reductionUnit + (regularMinutes + a - minutes)) ≡ 0)
+        ⊎ Within (pick t 0 ((w + weeksToCompensate) * reductionUnit + (regularMinutes + a - minutes)))
+        (pick u 0 ((w + weeksToCompensate) * reductionUnit + (regularMinutes + b - minutes)))
     go true u e f = inl refl
     go false true e f = absurd (omega (arith, leb-false (regularMinutes + a) minutes e, leb-true (regularMinutes + b) minutes f))
-    go false false e f = inr (record { owes = omega arith; less = omega arith; later = omega arith })
+    go false false e f = inr (record { isOutstanding = omega arith; less = omega arith; later = omega arith })
 
--- ---- a comparison of debts that lasts
--- R compares what is owed before the rest of an index. It lasts: when that rest owes nothing new or owes on both sides; where a debt is overdue, one is on
+-- ---- a comparison of reductions that lasts
+-- R compares what is outstanding before the rest of an index. It lasts: when that rest leaves nothing new outstanding, or something on both sides; where a reduction is overdue, one is on
 -- the other side too; and what can be compensated for on the other side can be.
 pub record Lasting (c : Course) (R : ℕ → List ℕ → List ℕ → Type 0) : Type 1 where
   pub on : (j : ℕ) {o p : List ℕ} → R j o p → R (suc j) o p
   pub put : (j a b : ℕ) {o p : List ℕ} → j < count c → R j o p → (a ≡ 0) ⊎ Within a b → R (suc j) (set o j a) (set p j b)
   pub overdue : (j t : ℕ) {o p : List ℕ} → t ≤ c .judged + 1 → R j o p → Overdue o t → Overdue p t
-  pub pays : (j : ℕ) (F G : ℕ → List ℕ → Type 0) (minutes : ℕ) → ((a b : ℕ) (o p : List ℕ) → a ≤ b → R j o p → G b p → F a o) → (a b : ℕ) {o p : List ℕ} → a ≤ b → R j o p
-      → Pays G minutes j 0 b p → Pays F minutes j 0 a o
+  pub compensates : (j : ℕ) (F G : ℕ → List ℕ → Type 0) (minutes : ℕ) → ((a b : ℕ) (o p : List ℕ) → a ≤ b → R j o p → G b p → F a o) → (a b : ℕ) {o p : List ℕ} → a ≤ b → R j o p
+      → Compensates G minutes j 0 b p → Compensates F minutes j 0 a o
 
 milder-of : (s : ℕ) {a b : ℕ} → (a ≡ 0) ⊎ Within a b → Milder s a b
 milder-of s (inl z) = none z
-milder-of s (inr w) = some (w .owes) (w .less) (w .later)
+milder-of s (inr w) = some (w .isOutstanding) (w .less) (w .later)
 
--- debts compared by the rest that owes, and whatever rests owe them
-debts-last : (c : Course) → Lasting c (λ _. Debts (c .judged))
-debts-last c = record {
+-- reductions compared by the rest that was reduced, and whatever rests they are of
+reductions-last : (c : Course) → Lasting c (λ _. Reductions (c .judged))
+reductions-last c = record {
   on = λ j d. d;
   put = λ j a b _ d m. set-both (c .judged) j d (milder-of (c .judged) m);
   overdue = λ j t le d. overdue-mono (c .judged) t le d;
-  pays = λ j F G minutes mono a b le d h. pays-mono (c .judged) F G minutes mono j 0 a b le d h;
+  compensates = λ j F G minutes mono a b le d h. compensates-mono (c .judged) F G minutes mono j 0 a b le d h;
 }
 
 pub matched-last : (c : Course) → Lasting c (Matched (count c))
@@ -278,7 +279,7 @@ matched-last c = record {
   on = λ j d. matched-on d;
   put = λ j a b l d m. put-at d (suc j) j j a b (λ x h e. omega (arith, d .to-below x h)) (omega arith) (omega arith) (omega arith) l m;
   overdue = λ j t le d. matched-overdue d t;
-  pays = λ j F G minutes mono a b le d h. matched-pays F G minutes mono j 0 a b le d h;
+  compensates = λ j F G minutes mono a b le d h. matched-compensates F G minutes mono j 0 a b le d h;
 }
 
 module _ (c : Course) {R : ℕ → List ℕ → List ℕ → Type 0} (lasting : Lasting c R) where
@@ -304,12 +305,12 @@ module _ (c : Course) {R : ℕ → List ℕ → List ℕ → Type 0} (lasting : 
       upto = h .upto;
       then =
           advance-mono (restWeek c)
-          (λ there. K (afterWeekly (restWeek c (h .week)) (leb (regularMinutes + a) (lengthAt c j)) (at (c .ends) j) there) (set o j (debtOf (lengthAt c j) a (h .week))))
-          (λ there. K (afterWeekly (restWeek c (h .week)) (leb (regularMinutes + b) (lengthAt c j)) (at (c .ends) j) there) (set p j (debtOf (lengthAt c j) b (h .week))))
+          (λ there. K (afterWeekly (restWeek c (h .week)) (leb (regularMinutes + a) (lengthAt c j)) (at (c .ends) j) there) (set o j (outstandingOf (lengthAt c j) a (h .week))))
+          (λ there. K (afterWeekly (restWeek c (h .week)) (leb (regularMinutes + b) (lengthAt c j)) (at (c .ends) j) there) (set p j (outstandingOf (lengthAt c j) b (h .week))))
           (h .week - x .week) better
-          (λ x′ y′ b′. mono _ _ _ _ (weekly-better (restWeek c (h .week)) _ _ (at (c .ends) j) regular b′) (lasting .put j _ _ inside d (debt-mono (lengthAt c j) (h .week) a b le (h .net))))
+          (λ x′ y′ b′. mono _ _ _ _ (weekly-better (restWeek c (h .week)) _ _ (at (c .ends) j) regular b′) (lasting .put j _ _ inside d (reduction-mono (lengthAt c j) (h .week) a b le (h .net))))
           (subst (λ (n : ℕ). After (advance (restWeek c) (h .week - n) y) (λ there. K (afterWeekly (restWeek c (h .week)) (leb (regularMinutes + b) (lengthAt c j)) (at (c .ends) j) there)
-          (set p j (debtOf (lengthAt c j) b (h .week))))) (sym (better .week)) (h .then));
+          (set p j (outstandingOf (lengthAt c j) b (h .week))))) (sym (better .week)) (h .then));
     }
       where
         regular : one (leb (regularMinutes + b) (lengthAt c j)) ≤ one (leb (regularMinutes + a) (lengthAt c j))
@@ -323,7 +324,7 @@ module _ (c : Course) {R : ℕ → List ℕ → List ℕ → Type 0} (lasting : 
 
     pub tries-by : (o p : List ℕ) → R j o p → Tries c K j y p → Tries c K j x o
     tries-by o p d h =
-        lasting .pays j (Reads c K j x) (Reads c K j y) (lengthAt c j) reads-by (at (c .loads) j) (at (c .loads) j) (le-refl _) d h
+        lasting .compensates j (Reads c K j x) (Reads c K j y) (lengthAt c j) reads-by (at (c .compensations) j) (at (c .compensations) j) (le-refl _) d h
 
   pub completable-by : Lies c → (n j : ℕ) (x y : State) (o p : List ℕ) → n + j ≡ count c → Better x y → R j o p → Completable c n j y p → Completable c n j x o
   unfolding Completable
@@ -345,9 +346,9 @@ module _ (c : Course) {R : ℕ → List ℕ → List ℕ → Type 0} (lasting : 
   )
 
 -- ---- the laws
--- the same, of debts compared by the rest that owes
+-- the same, of reductions compared by the rest that was reduced
 abbrev pub Mono : (c : Course) → (State → List ℕ → Type 0) → Type 0
-Mono c K = (x y : State) (o p : List ℕ) → Better x y → Debts (c .judged) o p → K y p → K x o
+Mono c K = (x y : State) (o p : List ℕ) → Better x y → Reductions (c .judged) o p → K y p → K x o
 
 regular-better : (st : State) (restWeek short : Bool) (end : ℕ) → Small st → st .ended ≤ end → Better (afterWeekly restWeek true end st) (afterDaily short st)
 regular-better st true short end h le = record {
@@ -370,39 +371,41 @@ regular-better st false short end h le = record {
 }
 
 module _ (c : Course) (lies : Lies c) where
-  pub completable-mono : (n j : ℕ) (x y : State) (o p : List ℕ) → n + j ≡ count c → Better x y → Debts (c .judged) o p
+  pub completable-mono : (n j : ℕ) (x y : State) (o p : List ℕ) → n + j ≡ count c → Better x y → Reductions (c .judged) o p
       → Completable c n j y p → Completable c n j x o
-  completable-mono = completable-by c (debts-last c) lies
+  completable-mono = completable-by c (reductions-last c) lies
 
   -- a rest that can be a regular weekly rest, in the week in which it starts, need not be daily
-  pub regular-by : (K : State → List ℕ → Type 0) → Mono c K → (j : ℕ) (here : State) (load : ℕ) (owed : List ℕ) → AtRest c j here
-      → regularMinutes + load ≤ lengthAt c j → ReadDaily c K j here load owed → ReadWeekly c K j here load owed
-  unfolding advance debtOf
-  regular-by K mono j here load owed r fits h =
+  pub regular-by : (K : State → List ℕ → Type 0) → Mono c K → (j : ℕ) (here : State) (compensation : ℕ) (outstanding : List ℕ) → AtRest c j here
+      → regularMinutes + compensation ≤ lengthAt c j → ReadDaily c K j here compensation outstanding → ReadWeekly c K j here compensation outstanding
+  unfolding advance outstandingOf
+  regular-by K mono j here compensation outstanding r fits h =
       let proper = lies .proper j (r .within) in
       let w = weekOf (at (c .starts) j) in
       let still : 0 ≡ w - here .week = omega (arith, r .week) in
-      let yes : true ≡ leb (regularMinutes + load) (lengthAt c j) = sym (le-leb (regularMinutes + load) (lengthAt c j) fits) in
+      let yes : true ≡ leb (regularMinutes + compensation) (lengthAt c j) = sym (le-leb (regularMinutes + compensation) (lengthAt c j) fits) in
       record {
         net = omega (arith, fits);
         week = w;
         from = omega arith;
         upto = omega (arith, proper);
         then =
-            subst (λ (m : ℕ). After (advance (restWeek c) m here) (λ there. K (afterWeekly (restWeek c w) (leb (regularMinutes + load) (lengthAt c j)) (at (c .ends) j) there) (set owed j
-            (debtOf (lengthAt c j) load w)))) still
-            (subst (λ (t : Bool). K (afterWeekly (restWeek c w) t (at (c .ends) j) here) (set owed j (pick t 0 ((w + weeksToCompensate) * debtUnit + (regularMinutes + load - lengthAt c j))))) yes
-            (mono _ _ _ owed (regular-better here (restWeek c w) (shortens c j load) (at (c .ends) j) (r .small) (omega (arith, proper, r .ended)))
-            (set-left (c .judged) j 0 (debts-self (c .judged) owed) (none refl)) (h .then)));
+            subst (λ (m : ℕ). After (advance (restWeek c) m here) (λ there. K (afterWeekly (restWeek c w) (leb (regularMinutes + compensation) (lengthAt c j)) (at (c .ends) j) there)
+            (set outstanding j
+            (outstandingOf (lengthAt c j) compensation w)))) still
+            (subst (λ (t : Bool). K (afterWeekly (restWeek c w) t (at (c .ends) j) here) (set outstanding j
+            (pick t 0 ((w + weeksToCompensate) * reductionUnit + (regularMinutes + compensation - lengthAt c j))))) yes
+            (mono _ _ _ outstanding (regular-better here (restWeek c w) (shortens c j compensation) (at (c .ends) j) (r .small) (omega (arith, proper, r .ended)))
+            (set-left (c .judged) j 0 (reductions-self (c .judged) outstanding) (none refl)) (h .then)));
       }
 
-  -- a debt that is due after S needs nothing
-  module _ (n j : ℕ) (st : State) (owed : List ℕ) (i d : ℕ) (e : n + j ≡ count c) (after : c .judged < dueOf d) where
-    pub forget : Completable c n j st (set owed i d) → Completable c n j st (set owed i 0)
-    forget h = completable-mono n j st st _ _ e (better-self st) (set-both (c .judged) i (debts-self (c .judged) owed) (none refl)) h
+  -- a reduction that is due after S needs nothing
+  module _ (n j : ℕ) (st : State) (outstanding : List ℕ) (i d : ℕ) (e : n + j ≡ count c) (after : c .judged < deadlineOf d) where
+    pub forget : Completable c n j st (set outstanding i d) → Completable c n j st (set outstanding i 0)
+    forget h = completable-mono n j st st _ _ e (better-self st) (set-both (c .judged) i (reductions-self (c .judged) outstanding) (none refl)) h
 
-    pub recall : Completable c n j st (set owed i 0) → Completable c n j st (set owed i d)
-    recall h = completable-mono n j st st _ _ e (better-self st) (set-both (c .judged) i (debts-self (c .judged) owed) (free after)) h
+    pub recall : Completable c n j st (set outstanding i 0) → Completable c n j st (set outstanding i d)
+    recall h = completable-mono n j st st _ _ e (better-self st) (set-both (c .judged) i (reductions-self (c .judged) outstanding) (free after)) h
 
 -- ---- the states that are reached
 pub daily-small : (t : Bool) {here : State} → Small here → here .short + one t ≤ shortenedAtMost → Small (afterDaily t here)

@@ -1,5 +1,5 @@
--- When a state, with what is owed, is at least as good as another; how large a state's numbers get; and the best state there is before a rest.
--- Nobody has to believe it: proofs/ shows that the better one can complete what the other can.
+-- Inner: when a state, with what is outstanding, is at least as good as another; how large a state's numbers get; and the best state there is before a
+-- rest. Nobody has to believe it: proofs/ shows that the better one can complete what the other can.
 -- Assumes nothing.
 use mathlib.Core.Path.{_≡_}
 use mathlib.Core.List.{List}
@@ -9,26 +9,26 @@ use Rattle.recording.specs.Weeks.{weekOf}
 use Rattle.rules.specs.ReadingRules.{shortenedAtMost, weeklyAtLeast, regularAtLeast}
 use Rattle.verdict_completion.specs.declared.Counts.{Counts}
 use Rattle.verdict_completion.specs.declared.State.{State}
-use Rattle.verdict_completion.specs.Completable.{Course, at, count, amountOf, dueOf}
+use Rattle.verdict_completion.specs.Completable.{Course, at, count, amountOf, deadlineOf}
 
--- where S is s, a debt a is no worse than a debt b: there is none, or it is due after S and needs nothing, or it is no more and due no sooner
+-- where S is s, a reduction a is no worse than a reduction b: there is none, or it is due after S and needs nothing, or it is no more and due no sooner
 pub data Milder (s a b : ℕ) : Type 0 where
   none : a ≡ 0 → Milder s a b
-  free : s < dueOf a → Milder s a b
-  some : 0 < b → amountOf a ≤ amountOf b → dueOf b ≤ dueOf a → Milder s a b
+  free : s < deadlineOf a → Milder s a b
+  some : 0 < b → amountOf a ≤ amountOf b → deadlineOf b ≤ deadlineOf a → Milder s a b
 
--- the debts o are no worse than the debts p, each than that of the same rest
-pub record Debts (s : ℕ) (o p : List ℕ) : Type 0 where
+-- the reductions o are no worse than the reductions p, each than that of the same rest
+pub record Reductions (s : ℕ) (o p : List ℕ) : Type 0 where
   pub long : length o ≡ length p
   pub each : (i : ℕ) → Milder s (at o i) (at p i)
 
--- there is a debt b that is no less than a debt a, and due no later
+-- there is a reduction b that is no less than a reduction a, and due no later
 pub record Within (a b : ℕ) : Type 0 where
-  pub owes : 0 < b
+  pub isOutstanding : 0 < b
   pub less : amountOf a ≤ amountOf b
-  pub later : dueOf b ≤ dueOf a
+  pub later : deadlineOf b ≤ deadlineOf a
 
--- each of the debts o lies within one of the debts p, whatever rests owe them, no two within the same; all of them, and those they lie within,
+-- each of the reductions o lies within one of the reductions p, whatever rests they are of, no two within the same; all of them, and those they lie within,
 -- stand in slots below j; p has k slots
 pub record Matched (k j : ℕ) (o p : List ℕ) : Type 0 where
   pub long : length p ≡ k

@@ -1,4 +1,4 @@
--- Whether the long rests from one on can be read so that rules 6 to 11 hold, with the carrier of a reduced rest left open until a later
+-- Inner: whether the long rests from one on can be read so that rules 6 to 11 hold, with the carrier of a reduced rest left open until a later
 -- rest compensates for it. Nobody has to believe it: proofs/ shows that it says whether a lawful reading exists.
 -- Assumes nothing.
 use mathlib.Core.Path.{_≡_}
@@ -21,13 +21,13 @@ use Rattle.verdict_completion.specs.declared.State.{State}
 use Rattle.verdict_completion.specs.States.{advance, After, afterDaily, afterWeekly}
 use Rattle.verdict_completion.specs.Runs.{Ends}
 
--- What stays the same: the long rests' starts and ends, the least net length at which each is no shortened daily rest, the load of each from
+-- What stays the same: the long rests' starts and ends, the least net length at which each is no shortened daily rest, the compensation of each from
 -- carriers decided before, and S.
 pub record Course : Type 0 where
   pub starts : List ℕ
   pub ends : List ℕ
   pub nets : List ℕ
-  pub loads : List ℕ
+  pub compensations : List ℕ
   pub judged : ℕ
 
 abbrev pub at : List ℕ → ℕ → ℕ
@@ -46,75 +46,75 @@ module _ (c : Course) where
   abbrev pub lengthAt : ℕ → ℕ
   lengthAt j = at (c .ends) j - at (c .starts) j
 
--- A debt is a word: so many units of the week at whose start it is due, and the minutes. 0 is none.
-abbrev pub debtUnit : ℕ
-debtUnit = 2048
+-- An outstanding reduction is a word: so many units of the week at whose start it is due, and the minutes. 0 is none.
+abbrev pub reductionUnit : ℕ
+reductionUnit = 2048
 
 abbrev pub amountOf : ℕ → ℕ
-amountOf debt = debt % debtUnit
+amountOf reduction = reduction % reductionUnit
 
-abbrev pub dueOf : ℕ → ℕ
-dueOf debt = weekStart (debt / debtUnit)
+abbrev pub deadlineOf : ℕ → ℕ
+deadlineOf reduction = weekStart (reduction / reductionUnit)
 
--- the debt of a weekly rest of so many minutes, with a load, counted in week w
-unfoldable pub debtOf : ℕ → ℕ → ℕ → ℕ
-debtOf minutes load w =
-    pick (leb (regularMinutes + load) minutes) 0 ((w + weeksToCompensate) * debtUnit + (regularMinutes + load - minutes))
+-- the reduction of a weekly rest of so many minutes, with a compensation, counted in week w
+unfoldable pub outstandingOf : ℕ → ℕ → ℕ → ℕ
+outstandingOf minutes compensation w =
+    pick (leb (regularMinutes + compensation) minutes) 0 ((w + weeksToCompensate) * reductionUnit + (regularMinutes + compensation - minutes))
 
--- a debt is outstanding that was due before t
+-- a reduction is outstanding that was due before t
 unfoldable pub Overdue : List ℕ → ℕ → Type 0
-Overdue owed t = (i : ℕ) × (0 < at owed i) × (dueOf (at owed i) < t)
+Overdue outstanding t = (i : ℕ) × (0 < at outstanding i) × (deadlineOf (at outstanding i) < t)
 
--- of m debts from index i on each is paid out of a rest of so many minutes, or left; F is asked of the load and of what is still owed
-unfoldable pub Pays : (ℕ → List ℕ → Type 0) → ℕ → ℕ → ℕ → ℕ → List ℕ → Type 0
-Pays F minutes zero i load owed = F load owed
-Pays F minutes (suc m) i load owed =
-    ((0 < at owed i) × (leastNet Daily + (load + amountOf (at owed i)) ≤ minutes) ×
-    Pays F minutes m (i + 1) (load + amountOf (at owed i)) (set owed i 0))
-    ⊎ Pays F minutes m (i + 1) load owed
+-- of m reductions from index i on each is compensated for by a rest of so many minutes, or left; F is asked of the compensation and of what is still outstanding
+unfoldable pub Compensates : (ℕ → List ℕ → Type 0) → ℕ → ℕ → ℕ → ℕ → List ℕ → Type 0
+Compensates F minutes zero i compensation outstanding = F compensation outstanding
+Compensates F minutes (suc m) i compensation outstanding =
+    ((0 < at outstanding i) × (leastNet Daily + (compensation + amountOf (at outstanding i)) ≤ minutes) ×
+    Compensates F minutes m (i + 1) (compensation + amountOf (at outstanding i)) (set outstanding i 0))
+    ⊎ Compensates F minutes m (i + 1) compensation outstanding
 
 module _ (c : Course) where
-  -- whether the rest of index j, daily and with a load, is shortened
+  -- whether the rest of index j, daily and with a compensation, is shortened
   abbrev pub shortens : ℕ → ℕ → Bool
-  shortens j load = ltb (lengthAt c j) (at (c .nets) j + load)
+  shortens j compensation = ltb (lengthAt c j) (at (c .nets) j + compensation)
 
   -- all rests are read
   abbrev pub Closes : State → List ℕ → Type 0
-  Closes st owed = Ends (restWeek c) (c .judged) st × (Overdue owed (c .judged + 1) → ⊥)
+  Closes st outstanding = Ends (restWeek c) (c .judged) st × (Overdue outstanding (c .judged + 1) → ⊥)
 
-  -- the rest of index j is read as daily or as weekly in week w, with a load, from the state in the week in which it starts; K is asked of
+  -- the rest of index j is read as daily or as weekly in week w, with a compensation, from the state in the week in which it starts; K is asked of
   -- what follows
   module _ (K : State → List ℕ → Type 0) (j : ℕ) (here : State) where
-    pub record ReadDaily (load : ℕ) (owed : List ℕ) : Type 0 where
-      pub net : leastNet Daily + load ≤ lengthAt c j
-      pub few : here .short + one (shortens j load) ≤ shortenedAtMost
-      pub then : K (afterDaily (shortens j load) here) owed
+    pub record ReadDaily (compensation : ℕ) (outstanding : List ℕ) : Type 0 where
+      pub net : leastNet Daily + compensation ≤ lengthAt c j
+      pub few : here .short + one (shortens j compensation) ≤ shortenedAtMost
+      pub then : K (afterDaily (shortens j compensation) here) outstanding
 
     abbrev pub Counted : ℕ → ℕ → List ℕ → Type 0
-    Counted w load owed =
+    Counted w compensation outstanding =
         After (advance (restWeek c) (w - here .week) here)
-        (λ there. K (afterWeekly (restWeek c w) (leb (regularMinutes + load) (lengthAt c j)) (at (c .ends) j) there) (set owed j (debtOf (lengthAt c j) load w)))
+        (λ there. K (afterWeekly (restWeek c w) (leb (regularMinutes + compensation) (lengthAt c j)) (at (c .ends) j) there) (set outstanding j (outstandingOf (lengthAt c j) compensation w)))
 
-    pub record ReadWeekly (load : ℕ) (owed : List ℕ) : Type 0 where
-      pub net : leastNet (Weekly Regular) + load ≤ lengthAt c j
+    pub record ReadWeekly (compensation : ℕ) (outstanding : List ℕ) : Type 0 where
+      pub net : leastNet (Weekly Regular) + compensation ≤ lengthAt c j
       pub week : ℕ
       pub from : at (c .starts) j < weekStart (week + 1)
       pub upto : weekStart week < at (c .ends) j
-      pub then : Counted week load owed
+      pub then : Counted week compensation outstanding
 
     abbrev pub Reads : ℕ → List ℕ → Type 0
-    Reads load owed = ReadDaily load owed ⊎ ReadWeekly load owed
+    Reads compensation outstanding = ReadDaily compensation outstanding ⊎ ReadWeekly compensation outstanding
 
     abbrev pub Tries : List ℕ → Type 0
-    Tries owed = Pays Reads (lengthAt c j) j 0 (at (c .loads) j) owed
+    Tries outstanding = Compensates Reads (lengthAt c j) j 0 (at (c .compensations) j) outstanding
 
   -- n rests are left, from index j on
   unfoldable pub Completable : ℕ → ℕ → State → List ℕ → Type 0
-  Completable zero j st owed = Closes st owed
-  Completable (suc n) j st owed =
+  Completable zero j st outstanding = Closes st outstanding
+  Completable (suc n) j st outstanding =
       (at (c .starts) j ≤ st .ended + weeklyGap)
-      × (Overdue owed (at (c .ends) j) → ⊥)
-      × After (advance (restWeek c) (weekOf (at (c .starts) j) - st .week) st) (λ here. Tries (Completable n (suc j)) j here owed)
+      × (Overdue outstanding (at (c .ends) j) → ⊥)
+      × After (advance (restWeek c) (weekOf (at (c .starts) j) - st .week) st) (λ here. Tries (Completable n (suc j)) j here outstanding)
 
 -- the long rests lie in order, within the judged stretch, and have their numbers
 pub record Lies (c : Course) : Type 0 where

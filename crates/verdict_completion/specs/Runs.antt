@@ -1,4 +1,4 @@
--- Rules 9 to 11 as a walk over the entries of a reading, from a state on.
+-- Inner: rules 9 to 11 as a walk over the entries of a reading, from a state on.
 -- Nobody has to believe it: proofs/ shows that the walk goes through exactly where the rules hold.
 -- Assumes nothing.
 use mathlib.Core.Path.{_≡_}

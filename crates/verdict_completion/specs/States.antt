@@ -1,4 +1,4 @@
--- What the long rests before a point leave to the later ones, and how it changes from rest to rest and from week to week.
+-- Inner: what the long rests before a point leave to the later ones, and how it changes from rest to rest and from week to week.
 -- Nobody has to believe it: proofs/ shows that rules 6 to 11 come to this.
 -- Assumes nothing.
 use mathlib.Core.Bool.{Bool, true, false}

@@ -19,7 +19,7 @@ use Rattle.rules.specs.ReadingRules.{leastNet, deadline, endOf, shortened, shor
 use Rattle.rules.specs.Order.{byteValues, Bytes, NotAfter}
 use Rattle.rules.specs.declared.Kind.the-variants.{Daily, Weekly}
 use Rattle.rules.specs.declared.Standing.the-variants.{Regular}
-use Rattle.rules_reading.specs.Items.{endBefore, spanAt, spansFrom, paid, Zeros}
+use Rattle.rules_reading.specs.Items.{endBefore, spanAt, spansFrom, addedTo, Zeros}
 use Rattle.verdict_completion.specs.declared.State.{State}
 use Rattle.verdict_completion.specs.declared.Brought.{Brought}
 use Rattle.verdict_completion.specs.declared.Brought.the-variants.{Broken, To}
@@ -27,10 +27,11 @@ use Rattle.verdict_completion.specs.States.{advance, After, afterDaily, afterWe
 use Rattle.verdict_completion.specs.Runs.{Kept}
 use Rattle.verdict_completion.specs.Completable.{Course, at, count, spansOf, restWeek, lengthAt, shortens, Tries, Completable, Lies}
 use Rattle.verdict_completion.proofs.Heads.{arrives, after, reduction-weekly, regular-weekly, Carried, DailyStep, WeeklyStep, kept-daily, kept-weekly, kept-head}
-use Rattle.verdict_completion.proofs.Payments.{set-other}
+use Rattle.verdict_completion.proofs.Compensations.{set-other}
 use Rattle.verdict_completion.proofs.Carriers.{end-at, rests, shortened-at, extend, extended}
-use Rattle.verdict_search.specs.Search.{Later, withLoads}
-use Rattle.verdict_first_reading.specs.Choices.{loadAt, reductionAt, carrying, CanBeRead, GoesDaily, CarriedBy, afterCounted, GoesWeekly, NotPast, FirstWeekly, KeepsFrom, LeastFrom, Ahead}
+use Rattle.verdict_search.specs.Search.{Later, withCompensations}
+use Rattle.verdict_first_reading.specs.Choices.{compensationAt, reductionAt, carrying, CanBeRead, CanBeDaily, CarriedBy}
+use Rattle.verdict_first_reading.specs.Choices.{afterCounted, CanBeWeekly, NotPast, FirstWeekly, KeepsFrom, LeastFrom, Ahead}
 
 -- ---- bytes by threes
 three : (n : ℕ) → entryBytes * suc n ≡ suc (suc (suc (entryBytes * n)))
@@ -78,42 +79,42 @@ after-entry a b d r t (inr (e, inl l)) = absurd (omega arith)
 after-entry a b d r t (inr (e, inr (f, inl l))) = absurd (omega arith)
 after-entry a b d r t (inr (e, inr (f, inr (g, h)))) = h
 
--- ---- other loads
-pub lies-with : (c : Course) (p : List ℕ) → Lies c → Lies (withLoads c p)
+-- ---- other compensations
+pub lies-with : (c : Course) (p : List ℕ) → Lies c → Lies (withCompensations c p)
 lies-with c p l = record { ends-too = l .ends-too; nets-too = l .nets-too; net = l .net; proper = l .proper; ordered = l .ordered; judged = l .judged }
 
 -- ---- what is asked of the later rests, by how many are left
-later-out : (c : Course) (n j : ℕ) (st : State) (owed : List ℕ) → suc n + j ≡ count c → Later c j st owed → Completable c n (suc j) st owed
-later-out c n j st owed k h =
+later-out : (c : Course) (n j : ℕ) (st : State) (outstanding : List ℕ) → suc n + j ≡ count c → Later c j st outstanding → Completable c n (suc j) st outstanding
+later-out c n j st outstanding k h =
     let a : count c - (j + 1) ≡ n = omega arith in
     let b : j + 1 ≡ suc j = omega arith in
-    subst (λ (m : ℕ). Completable c m (suc j) st owed) a (subst (λ (i : ℕ). Completable c (count c - (j + 1)) i st owed) b h)
+    subst (λ (m : ℕ). Completable c m (suc j) st outstanding) a (subst (λ (i : ℕ). Completable c (count c - (j + 1)) i st outstanding) b h)
 
-later-in : (c : Course) (n j : ℕ) (st : State) (owed : List ℕ) → suc n + j ≡ count c → Completable c n (suc j) st owed → Later c j st owed
-later-in c n j st owed k h =
+later-in : (c : Course) (n j : ℕ) (st : State) (outstanding : List ℕ) → suc n + j ≡ count c → Completable c n (suc j) st outstanding → Later c j st outstanding
+later-in c n j st outstanding k h =
     let a : n ≡ count c - (j + 1) = omega arith in
     let b : suc j ≡ j + 1 = omega arith in
-    subst (λ (i : ℕ). Completable c (count c - (j + 1)) i st owed) b (subst (λ (m : ℕ). Completable c m (suc j) st owed) a h)
+    subst (λ (i : ℕ). Completable c (count c - (j + 1)) i st outstanding) b (subst (λ (m : ℕ). Completable c m (suc j) st outstanding) a h)
 
--- ---- the loads besides
+-- ---- the compensations besides
 pub carrier-low : (c : Course) (j w x : ℕ) → CarriedBy c j w x → x ≤ count c
 carrier-low c j w x (CarriedBy.alone z h) = omega arith
 carrier-low c j w x (CarriedBy.later i z l m u d) = omega arith
 
-loads-on : (c : Course) (j i x : ℕ) → length (c .loads) ≡ count c → x ≤ count c
-    → at (paid (c .loads) x (reductionAt c j)) i ≡ pick (eqb x (suc i)) (reductionAt c j) 0 + at (c .loads) i
-loads-on c j i zero long h = rw (ne-eqb 0 (suc i) (λ q. omega arith)) (omega arith)
-loads-on c j i (suc y) long h = by _ refl
+compensations-on : (c : Course) (j i x : ℕ) → length (c .compensations) ≡ count c → x ≤ count c
+    → at (addedTo (c .compensations) x (reductionAt c j)) i ≡ pick (eqb x (suc i)) (reductionAt c j) 0 + at (c .compensations) i
+compensations-on c j i zero long h = rw (ne-eqb 0 (suc i) (λ q. omega arith)) (omega arith)
+compensations-on c j i (suc y) long h = by _ refl
   where
     by : (b : Bool) → eqb (suc y) (suc i) ≡ b
-        → at (set (c .loads) y (at (c .loads) y + reductionAt c j)) i ≡ pick b (reductionAt c j) 0 + at (c .loads) i
+        → at (set (c .compensations) y (at (c .compensations) y + reductionAt c j)) i ≡ pick b (reductionAt c j) 0 + at (c .compensations) i
     by true t =
         let e : y ≡ i = omega (arith, eqb-true (suc y) (suc i) t) in
-        let a : at (set (c .loads) y (at (c .loads) y + reductionAt c j)) y ≡ at (c .loads) y + reductionAt c j =
-        getD-set-same (c .loads) y (at (c .loads) y + reductionAt c j) 0 (omega (arith, long)) in
-        subst (λ (m : ℕ). at (set (c .loads) y (at (c .loads) y + reductionAt c j)) m ≡ reductionAt c j + at (c .loads) m) e (a ∙ omega arith)
+        let a : at (set (c .compensations) y (at (c .compensations) y + reductionAt c j)) y ≡ at (c .compensations) y + reductionAt c j =
+        getD-set-same (c .compensations) y (at (c .compensations) y + reductionAt c j) 0 (omega (arith, long)) in
+        subst (λ (m : ℕ). at (set (c .compensations) y (at (c .compensations) y + reductionAt c j)) m ≡ reductionAt c j + at (c .compensations) m) e (a ∙ omega arith)
     by false t =
-        set-other (c .loads) y i (at (c .loads) y + reductionAt c j) (λ q. eqb-false (suc y) (suc i) t (omega arith)) ∙ omega arith
+        set-other (c .compensations) y i (at (c .compensations) y + reductionAt c j) (λ q. eqb-false (suc y) (suc i) t (omega arith)) ∙ omega arith
 
 -- ---- the entry of index j after the entries of the past
 module _ (c : Course) (j : ℕ) (past : List Entry) where
@@ -127,7 +128,7 @@ module _ (c : Course) (j : ℕ) (past : List Entry) where
   weekly w x = entry weeklyKind w x
 
   abbrev shortly : Bool
-  shortly = shortens c j (loadAt c j)
+  shortly = shortens c j (compensationAt c j)
 
 module _ (c : Course) (n j : ℕ) (st : State) (past : List Entry) where
   abbrev after-it : Entry → List ℕ → List Entry
@@ -146,13 +147,13 @@ module _ (c : Course) (n j : ℕ) (st : State) (past : List Entry) where
   -- the rest is daily, or weekly in week w with carrier x, from the state in the week in which it starts
   record DailyFirst (here : State) (rest : List ℕ) : Type 0 where
     gap : at (c .starts) j ≤ st .ended + weeklyGap
-    net : leastNet Daily + loadAt c j ≤ lengthAt c j
+    net : leastNet Daily + compensationAt c j ≤ lengthAt c j
     few : here .short + one (shortly c j past) ≤ shortenedAtMost
     then : KeepsFrom c n (suc j) (afterDaily (shortly c j past) here) (daily c j past ∷ past) rest
 
   record WeeklyFirst (here : State) (w x : ℕ) (rest : List ℕ) : Type 0 where
     gap : at (c .starts) j ≤ st .ended + weeklyGap
-    net : leastNet (Weekly Regular) + loadAt c j ≤ lengthAt c j
+    net : leastNet (Weekly Regular) + compensationAt c j ≤ lengthAt c j
     from : at (c .starts) j < weekStart (w + 1)
     upto : weekStart w < at (c .ends) j
     carried : CarriedBy c j w x
@@ -165,26 +166,26 @@ module _ (c : Course) (n j : ℕ) (st : State) (past : List Entry) where
     daily-first : (rest : List ℕ) → DailyFirst here rest → Begins here (dailyKind ∷ 0 ∷ 0 ∷ rest)
     weekly-first : (w x : ℕ) (rest : List ℕ) → WeeklyFirst here w x rest → Begins here (weeklyKind ∷ w ∷ x ∷ rest)
 
-  module _ (loads : (i : ℕ) → j ≤ i → at (c .loads) i ≡ compensationOf (suc i) past) where
-    own-load : compensationOf (suc j) past ≡ loadAt c j
-    own-load = sym (loads j (le-refl _))
+  module _ (compensations : (i : ℕ) → j ≤ i → at (c .compensations) i ≡ compensationOf (suc i) past) where
+    own-compensation : compensationOf (suc j) past ≡ compensationAt c j
+    own-compensation = sym (compensations j (le-refl _))
 
     daily-short : Lies c → j < count c → shortened (daily c j past) ≡ shortly c j past
-    daily-short lies inside = shortened-at c lies j inside past (dailyKind ∷ 0 ∷ 0 ∷ []) refl ∙ ap (shortens c j) own-load
+    daily-short lies inside = shortened-at c lies j inside past (dailyKind ∷ 0 ∷ 0 ∷ []) refl ∙ ap (shortens c j) own-compensation
 
-    daily-loads : (i : ℕ) → suc j ≤ i → at (c .loads) i ≡ compensationOf (suc i) (daily c j past ∷ past)
+    daily-compensations : (i : ℕ) → suc j ≤ i → at (c .compensations) i ≡ compensationOf (suc i) (daily c j past ∷ past)
     unfolding compensationOf
-    daily-loads i l = loads i (omega arith) ∙ rw (ne-eqb 0 (suc i) (λ q. omega arith)) (omega arith)
+    daily-compensations i l = compensations i (omega arith) ∙ rw (ne-eqb 0 (suc i) (λ q. omega arith)) (omega arith)
 
     module _ (w x : ℕ) where
       weekly-reduction : reductionOf (asRead (weekly c j past w x)) ≡ reductionAt c j
-      weekly-reduction = reduction-weekly (weekly c j past w x) refl ∙ ap (λ (load : ℕ). regularMinutes + load - lengthAt c j) own-load
+      weekly-reduction = reduction-weekly (weekly c j past w x) refl ∙ ap (λ (compensation : ℕ). regularMinutes + compensation - lengthAt c j) own-compensation
 
-      weekly-regular : isRegular (asRead (weekly c j past w x)) ≡ leb (regularMinutes + loadAt c j) (lengthAt c j)
-      weekly-regular = regular-weekly (weekly c j past w x) refl ∙ ap (λ (load : ℕ). leb (regularMinutes + load) (lengthAt c j)) own-load
+      weekly-regular : isRegular (asRead (weekly c j past w x)) ≡ leb (regularMinutes + compensationAt c j) (lengthAt c j)
+      weekly-regular = regular-weekly (weekly c j past w x) refl ∙ ap (λ (compensation : ℕ). leb (regularMinutes + compensation) (lengthAt c j)) own-compensation
 
       carried-out : Carried (c .judged) (spansOf c) (weekly c j past w x) → CarriedBy c j w x
-      carried-out (Carried.nowhere z (inl h)) = CarriedBy.alone z (inl (omega (arith, own-load, h)))
+      carried-out (Carried.nowhere z (inl h)) = CarriedBy.alone z (inl (omega (arith, own-compensation, h)))
       carried-out (Carried.nowhere z (inr h)) = CarriedBy.alone z (inr h)
       carried-out (Carried.there h l u d) = by x refl
         where
@@ -193,22 +194,22 @@ module _ (c : Course) (n j : ℕ) (st : State) (past : List Entry) where
           by (suc i) z =
               let m : i < count c = omega (arith, rests c) in
               let e : endOf (spansOf c) x ≡ at (c .ends) i = ap (endOf (spansOf c)) z ∙ end-at c i m in
-              CarriedBy.later i z (omega arith) m (omega (arith, own-load, u)) (subst (λ (t : ℕ). t ≤ deadline (weekly c j past w x)) e d)
+              CarriedBy.later i z (omega arith) m (omega (arith, own-compensation, u)) (subst (λ (t : ℕ). t ≤ deadline (weekly c j past w x)) e d)
 
       carried-in : CarriedBy c j w x → Carried (c .judged) (spansOf c) (weekly c j past w x)
-      carried-in (CarriedBy.alone z (inl h)) = Carried.nowhere z (inl (omega (arith, own-load, h)))
+      carried-in (CarriedBy.alone z (inl h)) = Carried.nowhere z (inl (omega (arith, own-compensation, h)))
       carried-in (CarriedBy.alone z (inr h)) = Carried.nowhere z (inr h)
       carried-in (CarriedBy.later i z l m u d) =
           let e : endOf (spansOf c) x ≡ at (c .ends) i = ap (endOf (spansOf c)) z ∙ end-at c i m in
-          Carried.there (omega arith) (omega (arith, rests c)) (omega (arith, own-load, u)) (subst (λ (t : ℕ). t ≤ deadline (weekly c j past w x)) (sym e) d)
+          Carried.there (omega arith) (omega (arith, rests c)) (omega (arith, own-compensation, u)) (subst (λ (t : ℕ). t ≤ deadline (weekly c j past w x)) (sym e) d)
 
-      -- the loads besides are what the entry brings
-      weekly-loads : length (c .loads) ≡ count c → CarriedBy c j w x
-          → (i : ℕ) → suc j ≤ i → at (carrying c j x .loads) i ≡ compensationOf (suc i) (weekly c j past w x ∷ past)
+      -- the compensations besides are what the entry brings
+      weekly-compensations : length (c .compensations) ≡ count c → CarriedBy c j w x
+          → (i : ℕ) → suc j ≤ i → at (carrying c j x .compensations) i ≡ compensationOf (suc i) (weekly c j past w x ∷ past)
       unfolding compensationOf
-      weekly-loads long h i l =
-          loads-on c j i x long (carrier-low c j w x h)
-          ∙ ap (λ (m : ℕ). pick (eqb x (suc i)) (reductionAt c j) 0 + m) (loads i (omega arith))
+      weekly-compensations long h i l =
+          compensations-on c j i x long (carrier-low c j w x h)
+          ∙ ap (λ (m : ℕ). pick (eqb x (suc i)) (reductionAt c j) 0 + m) (compensations i (omega arith))
           ∙ ap (λ (m : ℕ). pick (eqb x (suc i)) m 0 + compensationOf (suc i) past) (sym weekly-reduction)
 
     module _ (lies : Lies c) (inside : j < count c) (here : State) (reached : advance (restWeek c) (weekOf (at (c .starts) j) - st .week) st ≡ To here) where
@@ -222,7 +223,7 @@ module _ (c : Course) (n j : ℕ) (st : State) (past : List Entry) where
               kind = refl;
               week = refl;
               compensatedBy = refl;
-              net = omega (arith, own-load, h .net);
+              net = omega (arith, own-compensation, h .net);
               few = subst (λ (b : Bool). here .short + one b ≤ shortenedAtMost) (sym (daily-short lies inside)) (h .few);
             };
             gap = h .gap;
@@ -237,7 +238,7 @@ module _ (c : Course) (n j : ℕ) (st : State) (past : List Entry) where
           (record {
             here = here;
             there = h .there;
-            head = record { kind = refl; net = omega (arith, own-load, h .net); from = h .from; upto = h .upto; carried = carried-in w x (h .carried) };
+            head = record { kind = refl; net = omega (arith, own-compensation, h .net); from = h .from; upto = h .upto; carried = carried-in w x (h .carried) };
             gap = h .gap;
             reached = reached;
             counted = h .counted;
@@ -255,7 +256,7 @@ module _ (c : Course) (n j : ℕ) (st : State) (past : List Entry) where
           let e = same-here (d .reached) in
           record {
             gap = d .gap;
-            net = omega (arith, own-load, d .head .net);
+            net = omega (arith, own-compensation, d .head .net);
             few =
                 subst (λ (s : State). s .short + one (shortly c j past) ≤ shortenedAtMost) e
                 (subst (λ (b : Bool). d .here .short + one b ≤ shortenedAtMost) (daily-short lies inside) (d .head .few));
@@ -268,7 +269,7 @@ module _ (c : Course) (n j : ℕ) (st : State) (past : List Entry) where
           → WeeklyStep (restWeek c) (c .judged) (spansOf c) st (weekly c j past w x) (after-it (weekly c j past w x) rest) → WeeklyFirst here w x rest
       weekly-begins w x rest d = record {
         gap = d .gap;
-        net = omega (arith, own-load, d .head .net);
+        net = omega (arith, own-compensation, d .head .net);
         from = d .head .from;
         upto = d .head .upto;
         carried = carried-out w x (d .head .carried);
@@ -303,8 +304,8 @@ record Tail (n : ℕ) (P : List ℕ → Type 0) : Type 0 where
 pub record NextDaily (c : Course) (j : ℕ) (past : List Entry) (here : State) (r : List ℕ) : Type 0 where
   pub rest : List ℕ
   pub begins : r ≡ dailyKind ∷ 0 ∷ 0 ∷ rest
-  pub few : here .short + one (shortens c j (loadAt c j)) ≤ shortenedAtMost
-  pub ahead : Ahead c (suc j) (afterDaily (shortens c j (loadAt c j)) here) (daily c j past ∷ past) rest
+  pub few : here .short + one (shortens c j (compensationAt c j)) ≤ shortenedAtMost
+  pub ahead : Ahead c (suc j) (afterDaily (shortens c j (compensationAt c j)) here) (daily c j past ∷ past) rest
 
 pub record NextWeekly (c : Course) (j : ℕ) (past : List Entry) (here : State) (w x : ℕ) (r : List ℕ) : Type 0 where
   pub rest : List ℕ
@@ -314,20 +315,20 @@ pub record NextWeekly (c : Course) (j : ℕ) (past : List Entry) (here : State) 
   pub counted : advance (restWeek c) (w - here .week) here ≡ To there
   pub ahead : Ahead (carrying c j x) (suc j) (afterCounted c j w there) (weekly c j past w x ∷ past) rest
 
-module _ (c : Course) (lies : Lies c) (few : count c < byteValues) (bound : c .judged ≤ totalAtMost) (long : length (c .loads) ≡ count c)
-    (n j : ℕ) (k : suc n + j ≡ count c) (st : State) (past : List Entry) (loads : (i : ℕ) → j ≤ i → at (c .loads) i ≡ compensationOf (suc i) past)
+module _ (c : Course) (lies : Lies c) (few : count c < byteValues) (bound : c .judged ≤ totalAtMost) (long : length (c .compensations) ≡ count c)
+    (n j : ℕ) (k : suc n + j ≡ count c) (st : State) (past : List Entry) (compensations : (i : ℕ) → j ≤ i → at (c .compensations) i ≡ compensationOf (suc i) past)
     (here : State) (reached : advance (restWeek c) (weekOf (at (c .starts) j) - st .week) st ≡ To here) where
-  module _ (owed : List ℕ) (size : length owed ≡ count c) (zeros : Zeros owed) where
-    goes-daily : (rest : List ℕ) → DailyFirst c n j st past here rest → GoesDaily c j here owed
+  module _ (outstanding : List ℕ) (size : length outstanding ≡ count c) (zeros : Zeros outstanding) where
+    goes-daily : (rest : List ℕ) → DailyFirst c n j st past here rest → CanBeDaily c j here outstanding
     goes-daily rest h = record {
       net = h .net;
       few = h .few;
       then =
-          later-in c n j _ owed k
-          (extended c lies few bound n (suc j) _ owed (daily c j past ∷ past) (omega arith) size zeros (daily-loads c n j st past loads) rest (h .then));
+          later-in c n j _ outstanding k
+          (extended c lies few bound n (suc j) _ outstanding (daily c j past ∷ past) (omega arith) size zeros (daily-compensations c n j st past compensations) rest (h .then));
     }
 
-    goes-weekly : (w x : ℕ) (rest : List ℕ) → WeeklyFirst c n j st past here w x rest → GoesWeekly c j here owed w x
+    goes-weekly : (w x : ℕ) (rest : List ℕ) → WeeklyFirst c n j st past here w x rest → CanBeWeekly c j here outstanding w x
     goes-weekly w x rest h = record {
       net = h .net;
       from = h .from;
@@ -335,22 +336,22 @@ module _ (c : Course) (lies : Lies c) (few : count c < byteValues) (bound : c .j
       carried = h .carried;
       then =
           after _ (h .counted)
-          (later-in (carrying c j x) n j _ owed k
-          (extended (carrying c j x) (lies-with c (carrying c j x .loads) lies) few bound n (suc j) _ owed (weekly c j past w x ∷ past) (omega arith) size zeros
-          (weekly-loads c n j st past loads w x long (h .carried)) rest (h .then)));
+          (later-in (carrying c j x) n j _ outstanding k
+          (extended (carrying c j x) (lies-with c (carrying c j x .compensations) lies) few bound n (suc j) _ outstanding (weekly c j past w x ∷ past) (omega arith) size zeros
+          (weekly-compensations c n j st past compensations w x long (h .carried)) rest (h .then)));
     }
 
-    daily-goes : at (c .starts) j ≤ st .ended + weeklyGap → GoesDaily c j here owed → Tail n (DailyFirst c n j st past here)
-    daily-goes gap g =
-        let a = extend c lies few bound n (suc j) _ owed (daily c j past ∷ past) (omega arith) size zeros (daily-loads c n j st past loads)
-        (later-out c n j _ owed k (g .then)) in
+    can-be-daily : at (c .starts) j ≤ st .ended + weeklyGap → CanBeDaily c j here outstanding → Tail n (DailyFirst c n j st past here)
+    can-be-daily gap g =
+        let a = extend c lies few bound n (suc j) _ outstanding (daily c j past ∷ past) (omega arith) size zeros (daily-compensations c n j st past compensations)
+        (later-out c n j _ outstanding k (g .then)) in
         record { rest = a .0; bytes = a .1; holds = record { gap = gap; net = g .net; few = g .few; then = a .2 } }
 
-    weekly-goes : (w x : ℕ) → at (c .starts) j ≤ st .ended + weeklyGap → GoesWeekly c j here owed w x → Tail n (WeeklyFirst c n j st past here w x)
+    weekly-goes : (w x : ℕ) → at (c .starts) j ≤ st .ended + weeklyGap → CanBeWeekly c j here outstanding w x → Tail n (WeeklyFirst c n j st past here w x)
     weekly-goes w x gap g =
         let t = arrives _ _ (g .then) in
-        let a = extend (carrying c j x) (lies-with c (carrying c j x .loads) lies) few bound n (suc j) _ owed (weekly c j past w x ∷ past) (omega arith) size zeros
-        (weekly-loads c n j st past loads w x long (g .carried)) (later-out (carrying c j x) n j _ owed k (t .holds)) in
+        let a = extend (carrying c j x) (lies-with c (carrying c j x .compensations) lies) few bound n (suc j) _ outstanding (weekly c j past w x ∷ past) (omega arith) size zeros
+        (weekly-compensations c n j st past compensations w x long (g .carried)) (later-out (carrying c j x) n j _ outstanding k (t .holds)) in
         record {
           rest = a .0;
           bytes = a .1;
@@ -368,7 +369,7 @@ module _ (c : Course) (lies : Lies c) (few : count c < byteValues) (bound : c .j
 
   -- ---- what is left after the entry
   ahead-daily : (rest : List ℕ) → LeastFrom c (suc n) j st past (dailyKind ∷ 0 ∷ 0 ∷ rest) → DailyFirst c n j st past here rest
-      → Ahead c (suc j) (afterDaily (shortens c j (loadAt c j)) here) (daily c j past ∷ past) rest
+      → Ahead c (suc j) (afterDaily (shortens c j (compensationAt c j)) here) (daily c j past ∷ past) rest
   ahead-daily rest l h = record {
     left = n;
     counts = omega arith;
@@ -378,9 +379,9 @@ module _ (c : Course) (lies : Lies c) (few : count c < byteValues) (bound : c .j
       first = λ t b g.
           after-entry dailyKind 0 0 rest t
           (l .first (dailyKind ∷ 0 ∷ 0 ∷ t) (with-bytes n dailyKind 0 0 t (omega arith) (omega arith) (omega arith) b)
-          (daily-keeps c n j st past loads lies (omega arith) here reached t (record { gap = h .gap; net = h .net; few = h .few; then = g })));
+          (daily-keeps c n j st past compensations lies (omega arith) here reached t (record { gap = h .gap; net = h .net; few = h .few; then = g })));
     };
-    loads = daily-loads c n j st past loads;
+    compensations = daily-compensations c n j st past compensations;
   }
 
   week-byte : (w : ℕ) → weekStart w < at (c .ends) j → w < byteValues
@@ -400,7 +401,7 @@ module _ (c : Course) (lies : Lies c) (few : count c < byteValues) (bound : c .j
       first = λ t b g.
           after-entry weeklyKind w x rest t
           (l .first (weeklyKind ∷ w ∷ x ∷ t) (with-bytes n weeklyKind w x t (omega arith) (week-byte w (h .upto)) (carrier-byte w x (h .carried)) b)
-          (weekly-keeps c n j st past loads lies (omega arith) here reached w x t (record {
+          (weekly-keeps c n j st past compensations lies (omega arith) here reached w x t (record {
             gap = h .gap;
             net = h .net;
             from = h .from;
@@ -411,7 +412,7 @@ module _ (c : Course) (lies : Lies c) (few : count c < byteValues) (bound : c .j
             then = g;
           })));
     };
-    loads = weekly-loads c n j st past loads w x long (h .carried);
+    compensations = weekly-compensations c n j st past compensations w x long (h .carried);
   }
 
   next-daily : (rest : List ℕ) → LeastFrom c (suc n) j st past (dailyKind ∷ 0 ∷ 0 ∷ rest) → DailyFirst c n j st past here rest
@@ -422,36 +423,36 @@ module _ (c : Course) (lies : Lies c) (few : count c < byteValues) (bound : c .j
   how-begins r l =
       let e = entered n r (l .bytes) in
       let h : KeepsFrom c (suc n) j st past (e .kind ∷ e .week ∷ e .carrier ∷ e .rest) = subst (KeepsFrom c (suc n) j st past) (e .begins) (l .keeps) in
-      subst (Begins c n j st past here) (sym (e .begins)) (begins c n j st past loads lies (omega arith) here reached (e .kind) (e .week) (e .carrier) (e .rest) h)
+      subst (Begins c n j st past here) (sym (e .begins)) (begins c n j st past compensations lies (omega arith) here reached (e .kind) (e .week) (e .carrier) (e .rest) h)
 
   -- a rest too short for a weekly one
-  must-be-daily : (r : List ℕ) → LeastFrom c (suc n) j st past r → lengthAt c j < leastNet (Weekly Regular) + loadAt c j → Begins c n j st past here r
+  must-be-daily : (r : List ℕ) → LeastFrom c (suc n) j st past r → lengthAt c j < leastNet (Weekly Regular) + compensationAt c j → Begins c n j st past here r
       → NextDaily c j past here r
   must-be-daily r l s (daily-first rest h) = next-daily rest l h
   must-be-daily r l s (weekly-first w x rest h) = absurd (omega (arith, h .net))
 
-  module _ (owed : List ℕ) (size : length owed ≡ count c) (zeros : Zeros owed) where
-    is-daily : (r : List ℕ) → LeastFrom c (suc n) j st past r → GoesDaily c j here owed → Begins c n j st past here r → NextDaily c j past here r
+  module _ (outstanding : List ℕ) (size : length outstanding ≡ count c) (zeros : Zeros outstanding) where
+    is-daily : (r : List ℕ) → LeastFrom c (suc n) j st past r → CanBeDaily c j here outstanding → Begins c n j st past here r → NextDaily c j past here r
     is-daily r l g (daily-first rest h) = next-daily rest l h
     is-daily r l g (weekly-first w x rest h) =
-        let t = daily-goes owed size zeros (h .gap) g in
+        let t = can-be-daily outstanding size zeros (h .gap) g in
         let o = entry-order weeklyKind w x dailyKind 0 0 rest (t .rest)
         (l .first (dailyKind ∷ 0 ∷ 0 ∷ t .rest) (with-bytes n dailyKind 0 0 (t .rest) (omega arith) (omega arith) (omega arith) (t .bytes))
-        (daily-keeps c n j st past loads lies (omega arith) here reached (t .rest) (t .holds))) in
+        (daily-keeps c n j st past compensations lies (omega arith) here reached (t .rest) (t .holds))) in
         absurd (omega (arith, o .first))
 
-    is-weekly : (r : List ℕ) (w x : ℕ) → LeastFrom c (suc n) j st past r → (GoesDaily c j here owed → ⊥) → CanBeRead c j here owed
-        → FirstWeekly c j here owed w x → Begins c n j st past here r → NextWeekly c j past here w x r
-    is-weekly r w x l nay can f (daily-first rest h) = absurd (nay (goes-daily owed size zeros rest h))
+    is-weekly : (r : List ℕ) (w x : ℕ) → LeastFrom c (suc n) j st past r → (CanBeDaily c j here outstanding → ⊥) → CanBeRead c j here outstanding
+        → FirstWeekly c j here outstanding w x → Begins c n j st past here r → NextWeekly c j past here w x r
+    is-weekly r w x l nay can f (daily-first rest h) = absurd (nay (goes-daily outstanding size zeros rest h))
     is-weekly r w x l nay can f (weekly-first w′ x′ rest h) =
-        let mine = goes-weekly owed size zeros w′ x′ rest h in
+        let mine = goes-weekly outstanding size zeros w′ x′ rest h in
         let low : x ≤ count c = f .found w′ x′ mine in
         let g = f .goes low can in
-        let t = weekly-goes owed size zeros w x (h .gap) g in
+        let t = weekly-goes outstanding size zeros w x (h .gap) g in
         let o = entry-order weeklyKind w′ x′ weeklyKind w x rest (t .rest)
         (l .first (weeklyKind ∷ w ∷ x ∷ t .rest)
         (with-bytes n weeklyKind w x (t .rest) (omega arith) (week-byte w (g .upto)) (carrier-byte w x (g .carried)) (t .bytes))
-        (weekly-keeps c n j st past loads lies (omega arith) here reached w x (t .rest) (t .holds))) in
+        (weekly-keeps c n j st past compensations lies (omega arith) here reached w x (t .rest) (t .holds))) in
         let m = both (f .first w′ x′ mine) (o .second refl) (o .third refl) in
         subst (λ (y : ℕ). NextWeekly c j past here w y (weeklyKind ∷ w′ ∷ x′ ∷ rest)) (m .1)
         (subst (λ (v : ℕ). NextWeekly c j past here v x′ (weeklyKind ∷ w′ ∷ x′ ∷ rest)) (m .0)
@@ -462,20 +463,20 @@ module _ (c : Course) (lies : Lies c) (few : count c < byteValues) (bound : c .j
         both (NotPast.same e s) a b = (sym e, omega (arith, b (sym e)))
 
 -- ---- the step: before the rest of index j, in a state brought on to the week in which it starts
-module _ (c : Course) (lies : Lies c) (few : count c < byteValues) (bound : c .judged ≤ totalAtMost) (long : length (c .loads) ≡ count c)
+module _ (c : Course) (lies : Lies c) (few : count c < byteValues) (bound : c .judged ≤ totalAtMost) (long : length (c .compensations) ≡ count c)
     (j : ℕ) (inside : j < count c) (st : State) (past : List Entry) (r : List ℕ) where
   abbrev Brought-to : State → Type 0
   Brought-to here = advance (restWeek c) (weekOf (at (c .starts) j) - st .week) st ≡ To here
 
-  step-short : (n : ℕ) → n + j ≡ count c → LeastFrom c n j st past r → ((i : ℕ) → j ≤ i → at (c .loads) i ≡ compensationOf (suc i) past)
-      → (here : State) → Brought-to here → lengthAt c j < leastNet (Weekly Regular) + loadAt c j → NextDaily c j past here r
-  step-short zero k l loads here reached s = absurd (omega arith)
-  step-short (suc n) k l loads here reached s =
-      must-be-daily c lies few bound long n j k st past loads here reached r l s (how-begins c lies few bound long n j k st past loads here reached r l)
+  step-short : (n : ℕ) → n + j ≡ count c → LeastFrom c n j st past r → ((i : ℕ) → j ≤ i → at (c .compensations) i ≡ compensationOf (suc i) past)
+      → (here : State) → Brought-to here → lengthAt c j < leastNet (Weekly Regular) + compensationAt c j → NextDaily c j past here r
+  step-short zero k l compensations here reached s = absurd (omega arith)
+  step-short (suc n) k l compensations here reached s =
+      must-be-daily c lies few bound long n j k st past compensations here reached r l s (how-begins c lies few bound long n j k st past compensations here reached r l)
 
-  pub too-short-for-weekly : Ahead c j st past r → (here : State) → Brought-to here → lengthAt c j < leastNet (Weekly Regular) + loadAt c j
+  pub too-short-for-weekly : Ahead c j st past r → (here : State) → Brought-to here → lengthAt c j < leastNet (Weekly Regular) + compensationAt c j
       → NextDaily c j past here r
-  too-short-for-weekly a here reached s = step-short (a .left) (a .counts) (a .least) (a .loads) here reached s
+  too-short-for-weekly a here reached s = step-short (a .left) (a .counts) (a .least) (a .compensations) here reached s
 
   step-broken : (n : ℕ) → n + j ≡ count c → LeastFrom c n j st past r
       → advance (restWeek c) (weekOf (at (c .starts) j) - st .week) st ≡ Broken → ⊥
@@ -497,36 +498,36 @@ module _ (c : Course) (lies : Lies c) (few : count c < byteValues) (bound : c .j
   pub never-broken : Ahead c j st past r → advance (restWeek c) (weekOf (at (c .starts) j) - st .week) st ≡ Broken → ⊥
   never-broken a e = step-broken (a .left) (a .counts) (a .least) e
 
-  module _ (owed : List ℕ) (size : length owed ≡ count c) (zeros : Zeros owed) where
+  module _ (outstanding : List ℕ) (size : length outstanding ≡ count c) (zeros : Zeros outstanding) where
     -- where there is a first reading, the rests can be read
-    can-be-read : (n : ℕ) → n + j ≡ count c → LeastFrom c n j st past r → ((i : ℕ) → j ≤ i → at (c .loads) i ≡ compensationOf (suc i) past)
-        → (here : State) → Brought-to here → CanBeRead c j here owed
+    can-be-read : (n : ℕ) → n + j ≡ count c → LeastFrom c n j st past r → ((i : ℕ) → j ≤ i → at (c .compensations) i ≡ compensationOf (suc i) past)
+        → (here : State) → Brought-to here → CanBeRead c j here outstanding
     unfolding Completable
-    can-be-read zero k l loads here reached = absurd (omega arith)
-    can-be-read (suc n) k l loads here reached =
+    can-be-read zero k l compensations here reached = absurd (omega arith)
+    can-be-read (suc n) k l compensations here reached =
         let a : n ≡ count c - (j + 1) = omega arith in
         let b : suc j ≡ j + 1 = omega arith in
-        let g = extended c lies few bound (suc n) j st owed past k size zeros loads r (l .keeps) in
-        let t = subst (λ (x : Brought). After x (λ y. Tries c (Completable c n (suc j)) j y owed)) reached (g .2) in
-        subst (λ (i : ℕ). Tries c (Completable c (count c - (j + 1)) i) j here owed) b (subst (λ (m : ℕ). Tries c (Completable c m (suc j)) j here owed) a t)
+        let g = extended c lies few bound (suc n) j st outstanding past k size zeros compensations r (l .keeps) in
+        let t = subst (λ (x : Brought). After x (λ y. Tries c (Completable c n (suc j)) j y outstanding)) reached (g .2) in
+        subst (λ (i : ℕ). Tries c (Completable c (count c - (j + 1)) i) j here outstanding) b (subst (λ (m : ℕ). Tries c (Completable c m (suc j)) j here outstanding) a t)
 
-    step-daily : (n : ℕ) → n + j ≡ count c → LeastFrom c n j st past r → ((i : ℕ) → j ≤ i → at (c .loads) i ≡ compensationOf (suc i) past)
-        → (here : State) → Brought-to here → (CanBeRead c j here owed → GoesDaily c j here owed) → NextDaily c j past here r
-    step-daily zero k l loads here reached g = absurd (omega arith)
-    step-daily (suc n) k l loads here reached g =
-        is-daily c lies few bound long n j k st past loads here reached owed size zeros r l (g (can-be-read (suc n) k l loads here reached))
-        (how-begins c lies few bound long n j k st past loads here reached r l)
+    step-daily : (n : ℕ) → n + j ≡ count c → LeastFrom c n j st past r → ((i : ℕ) → j ≤ i → at (c .compensations) i ≡ compensationOf (suc i) past)
+        → (here : State) → Brought-to here → (CanBeRead c j here outstanding → CanBeDaily c j here outstanding) → NextDaily c j past here r
+    step-daily zero k l compensations here reached g = absurd (omega arith)
+    step-daily (suc n) k l compensations here reached g =
+        is-daily c lies few bound long n j k st past compensations here reached outstanding size zeros r l (g (can-be-read (suc n) k l compensations here reached))
+        (how-begins c lies few bound long n j k st past compensations here reached r l)
 
-    pub goes-as-daily : Ahead c j st past r → (here : State) → Brought-to here → (CanBeRead c j here owed → GoesDaily c j here owed) → NextDaily c j past here r
-    goes-as-daily a here reached g = step-daily (a .left) (a .counts) (a .least) (a .loads) here reached g
+    pub goes-as-daily : Ahead c j st past r → (here : State) → Brought-to here → (CanBeRead c j here outstanding → CanBeDaily c j here outstanding) → NextDaily c j past here r
+    goes-as-daily a here reached g = step-daily (a .left) (a .counts) (a .least) (a .compensations) here reached g
 
-    step-weekly : (n : ℕ) → n + j ≡ count c → LeastFrom c n j st past r → ((i : ℕ) → j ≤ i → at (c .loads) i ≡ compensationOf (suc i) past)
-        → (here : State) → Brought-to here → (GoesDaily c j here owed → ⊥) → (w x : ℕ) → FirstWeekly c j here owed w x → NextWeekly c j past here w x r
-    step-weekly zero k l loads here reached nay w x f = absurd (omega arith)
-    step-weekly (suc n) k l loads here reached nay w x f =
-        is-weekly c lies few bound long n j k st past loads here reached owed size zeros r w x l nay (can-be-read (suc n) k l loads here reached) f
-        (how-begins c lies few bound long n j k st past loads here reached r l)
+    step-weekly : (n : ℕ) → n + j ≡ count c → LeastFrom c n j st past r → ((i : ℕ) → j ≤ i → at (c .compensations) i ≡ compensationOf (suc i) past)
+        → (here : State) → Brought-to here → (CanBeDaily c j here outstanding → ⊥) → (w x : ℕ) → FirstWeekly c j here outstanding w x → NextWeekly c j past here w x r
+    step-weekly zero k l compensations here reached nay w x f = absurd (omega arith)
+    step-weekly (suc n) k l compensations here reached nay w x f =
+        is-weekly c lies few bound long n j k st past compensations here reached outstanding size zeros r w x l nay (can-be-read (suc n) k l compensations here reached) f
+        (how-begins c lies few bound long n j k st past compensations here reached r l)
 
-    pub goes-as-weekly : Ahead c j st past r → (here : State) → Brought-to here → (GoesDaily c j here owed → ⊥) → (w x : ℕ)
-        → FirstWeekly c j here owed w x → NextWeekly c j past here w x r
-    goes-as-weekly a here reached nay w x f = step-weekly (a .left) (a .counts) (a .least) (a .loads) here reached nay w x f
+    pub goes-as-weekly : Ahead c j st past r → (here : State) → Brought-to here → (CanBeDaily c j here outstanding → ⊥) → (w x : ℕ)
+        → FirstWeekly c j here outstanding w x → NextWeekly c j past here w x r
+    goes-as-weekly a here reached nay w x f = step-weekly (a .left) (a .counts) (a .least) (a .compensations) here reached nay w x f

@@ -1,4 +1,4 @@
--- Laws of the functions that write the first reading: what a load leaves room for, candidates in order, and the bytes written so far.
+-- Laws of the functions that write the first reading: what a compensation leaves room for, candidates in order, and the bytes written so far.
 -- Assumes nothing.
 use mathlib.Core.Path.{_≡_, refl, sym, ap, subst, _∙_}
 use mathlib.Core.Logic.{_⊎_, inl, inr, ⊎-elim}
@@ -20,70 +20,70 @@ use Rattle.rules.specs.ReadingRules.{leastNet, weeksToCompensate}
 use Rattle.rules.specs.declared.Kind.the-variants.{Daily, Weekly}
 use Rattle.rules.specs.declared.Standing.the-variants.{Regular}
 use Rattle.rules.proofs.FirstLaws.{bytes-length}
-use Rattle.rules_reading.specs.Items.{paid, Zeros}
+use Rattle.rules_reading.specs.Items.{addedTo, Zeros}
 use Rattle.verdict_completion.specs.declared.State.{State}
 use Rattle.verdict_completion.specs.declared.Brought.{Brought}
 use Rattle.verdict_completion.specs.declared.Brought.the-variants.{Broken, To}
 use Rattle.verdict_completion.specs.States.{startState, advance, After, afterDaily, afterWeekly}
-use Rattle.verdict_completion.specs.Completable.{Course, at, count, restWeek, lengthAt, amountOf, debtOf, Pays, shortens, Reads, Tries, Completable, Lies, Stands}
+use Rattle.verdict_completion.specs.Completable.{Course, at, count, restWeek, lengthAt, amountOf, outstandingOf, Compensates, shortens, Reads, Tries, Completable, Lies, Stands}
 use Rattle.verdict_completion.specs.Better.{AtRest, bestState}
 use Rattle.verdict_completion.proofs.Heads.{arrives, after}
 use Rattle.verdict_completion.proofs.Monotone.{daily-stands}
-use Rattle.verdict_completion.proofs.Payments.{set-other}
+use Rattle.verdict_completion.proofs.Compensations.{set-other}
 use Rattle.verdict_steps.specs.Steps.{Says}
-use Rattle.verdict_search.specs.Search.{courseOf, Later, Sound, Lent, Before, withLoads}
+use Rattle.verdict_search.specs.Search.{courseOf, Later, Sound, Lent, Before, withCompensations}
 use Rattle.verdict_merging.specs.Merging.{FoundIf}
 use Rattle.verdict_search.proofs.Leading.{Equal}
 use Rattle.verdict_search.proofs.Slots.{sized-too, reached-at}
 use Rattle.verdict_sweep.proofs.Sweeps.{noneOf, none-size, none-zeros}
 use Rattle.verdict_first_reading.specs.First.{Least, restsOnly}
 use Rattle.verdict_first_reading.proofs.Choosing.{lies-with, carrier-low}
-use Rattle.verdict_first_reading.specs.Choices.{loadAt, reductionAt, carrying, CanBeRead, CarriedBy, afterCounted, GoesWeekly, Room, NotPast, FirstWeekly}
-use Rattle.verdict_first_reading.specs.Choices.{LeastFrom, Ahead, withEntry, Placed, FirstOf, Limited, Carries, GoesWith}
+use Rattle.verdict_first_reading.specs.Choices.{compensationAt, reductionAt, carrying, CanBeRead, CarriedBy, afterCounted, CanBeWeekly, Room, NotPast, FirstWeekly}
+use Rattle.verdict_first_reading.specs.Choices.{LeastFrom, Ahead, withEntry, Placed, FirstOf, Limited, Carries, CanHave}
 
--- ---- each rest that is left is long enough for its load
-record Paying (F : ℕ → List ℕ → Type 0) (load : ℕ) : Type 0 where
+-- ---- each rest that is left is long enough for its compensation
+record Compensating (F : ℕ → List ℕ → Type 0) (compensation : ℕ) : Type 0 where
   total : ℕ
   left : List ℕ
-  more : load ≤ total
+  more : compensation ≤ total
   asked : F total left
 
-paying : (F : ℕ → List ℕ → Type 0) (minutes m i load : ℕ) (owed : List ℕ) → Pays F minutes m i load owed → Paying F load
-unfolding Pays
-paying F minutes zero i load owed h = record { total = load; left = owed; more = le-refl _; asked = h }
-paying F minutes (suc m) i load owed (inl h) =
-    let q = paying F minutes m (i + 1) (load + amountOf (at owed i)) (set owed i 0) (h .2) in
+compensating : (F : ℕ → List ℕ → Type 0) (minutes m i compensation : ℕ) (outstanding : List ℕ) → Compensates F minutes m i compensation outstanding → Compensating F compensation
+unfolding Compensates
+compensating F minutes zero i compensation outstanding h = record { total = compensation; left = outstanding; more = le-refl _; asked = h }
+compensating F minutes (suc m) i compensation outstanding (inl h) =
+    let q = compensating F minutes m (i + 1) (compensation + amountOf (at outstanding i)) (set outstanding i 0) (h .2) in
     record { total = q .total; left = q .left; more = omega (arith, q .more); asked = q .asked }
-paying F minutes (suc m) i load owed (inr h) = paying F minutes m (i + 1) load owed h
+compensating F minutes (suc m) i compensation outstanding (inr h) = compensating F minutes m (i + 1) compensation outstanding h
 
 module _ (c : Course) where
   abbrev LongEnough : ℕ → Type 0
-  LongEnough y = leastNet Daily + at (c .loads) y ≤ lengthAt c y
+  LongEnough y = leastNet Daily + at (c .compensations) y ≤ lengthAt c y
 
   here-or-later : (j y : ℕ) → j ≤ y → LongEnough j → (suc j ≤ y → LongEnough y) → LongEnough y
   here-or-later j y l now then = ⊎-elim then (λ h. let e : j ≡ y = omega arith in subst LongEnough e now) (less-or-not j y)
 
-  long-on : (j : ℕ) (here : State) (load y : ℕ) (K : State → List ℕ → Type 0) (owed : List ℕ) → at (c .loads) j ≤ load → j ≤ y
-      → ((st : State) (o : List ℕ) → suc j ≤ y → K st o → LongEnough y) → Reads c K j here load owed → LongEnough y
-  long-on j here load y K owed more l ih (inl d) =
-      here-or-later j y l (omega (arith, d .net)) (λ h. ih (afterDaily (shortens c j load) here) owed h (d .then))
-  long-on j here load y K owed more l ih (inr d) =
-      let next : State → State = afterWeekly (restWeek c (d .week)) (leb (regularMinutes + load) (lengthAt c j)) (at (c .ends) j) in
-      let owes : List ℕ = set owed j (debtOf (lengthAt c j) load (d .week)) in
-      let t = arrives (advance (restWeek c) (d .week - here .week) here) (λ there. K (next there) owes) (d .then) in
-      here-or-later j y l (omega (arith, d .net)) (λ h. ih (next (t .state)) owes h (t .holds))
+  long-on : (j : ℕ) (here : State) (compensation y : ℕ) (K : State → List ℕ → Type 0) (outstanding : List ℕ) → at (c .compensations) j ≤ compensation → j ≤ y
+      → ((st : State) (o : List ℕ) → suc j ≤ y → K st o → LongEnough y) → Reads c K j here compensation outstanding → LongEnough y
+  long-on j here compensation y K outstanding more l ih (inl d) =
+      here-or-later j y l (omega (arith, d .net)) (λ h. ih (afterDaily (shortens c j compensation) here) outstanding h (d .then))
+  long-on j here compensation y K outstanding more l ih (inr d) =
+      let next : State → State = afterWeekly (restWeek c (d .week)) (leb (regularMinutes + compensation) (lengthAt c j)) (at (c .ends) j) in
+      let isOutstanding : List ℕ = set outstanding j (outstandingOf (lengthAt c j) compensation (d .week)) in
+      let t = arrives (advance (restWeek c) (d .week - here .week) here) (λ there. K (next there) isOutstanding) (d .then) in
+      here-or-later j y l (omega (arith, d .net)) (λ h. ih (next (t .state)) isOutstanding h (t .holds))
 
-  long-enough : (n j : ℕ) (st : State) (owed : List ℕ) (y : ℕ) → j ≤ y → y < n + j → Completable c n j st owed → LongEnough y
+  long-enough : (n j : ℕ) (st : State) (outstanding : List ℕ) (y : ℕ) → j ≤ y → y < n + j → Completable c n j st outstanding → LongEnough y
   unfolding Completable
-  long-enough zero j st owed y l m h = absurd (omega arith)
-  long-enough (suc n) j st owed y l m h =
-      let t = arrives (advance (restWeek c) (weekOf (at (c .starts) j) - st .week) st) (λ here. Tries c (Completable c n (suc j)) j here owed) (h .2) in
-      let p = paying (Reads c (Completable c n (suc j)) j (t .state)) (lengthAt c j) j 0 (at (c .loads) j) owed (t .holds) in
+  long-enough zero j st outstanding y l m h = absurd (omega arith)
+  long-enough (suc n) j st outstanding y l m h =
+      let t = arrives (advance (restWeek c) (weekOf (at (c .starts) j) - st .week) st) (λ here. Tries c (Completable c n (suc j)) j here outstanding) (h .2) in
+      let p = compensating (Reads c (Completable c n (suc j)) j (t .state)) (lengthAt c j) j 0 (at (c .compensations) j) outstanding (t .holds) in
       long-on j (t .state) (p .total) y (Completable c n (suc j)) (p .left) (p .more) l
       (λ st′ o k g. long-enough n (suc j) st′ o y k (omega arith) g) (p .asked)
 
--- ---- other loads
-pub before-with : (c : Course) (p : List ℕ) {j : ℕ} {st : State} → Before c j st → Before (withLoads c p) j st
+-- ---- other compensations
+pub before-with : (c : Course) (p : List ℕ) {j : ℕ} {st : State} → Before c j st → Before (withCompensations c p) j st
 before-with c p h = record {
   within = h .within;
   stands = record { short = h .stands .short; ended = h .stands .ended; week = h .stands .week; week-judged = h .stands .week-judged };
@@ -92,52 +92,52 @@ before-with c p h = record {
   reached = h .reached;
 }
 
-pub paid-length : (p : List ℕ) (x d : ℕ) → length (paid p x d) ≡ length p
-paid-length p zero d = refl
-paid-length p (suc i) d = length-set p i _
+pub addedTo-length : (p : List ℕ) (x d : ℕ) → length (addedTo p x d) ≡ length p
+addedTo-length p zero d = refl
+addedTo-length p (suc i) d = length-set p i _
 
 pub limited : {c : Course} {o : List ℕ} → Lent c o → Limited c
-limited {c} h = sized-too c (h .sized .lies) (h .sized) (h .sized .loads-too ∙ sym (h .sized .owed-too))
+limited {c} h = sized-too c (h .sized .lies) (h .sized) (h .sized .compensations-too ∙ sym (h .sized .outstanding-too))
 
 pub lent-of : {c d : Course} {o o′ : List ℕ} → Limited d → count d ≡ count c → Lent c o → o′ ≡ o → Lent d o′
 lent-of {c} {d} s k h e = record {
-  sized = sized-too d (s .lies) s (ap length e ∙ h .sized .owed-too ∙ sym k ∙ sym (s .loads-too));
+  sized = sized-too d (s .lies) s (ap length e ∙ h .sized .outstanding-too ∙ sym k ∙ sym (s .compensations-too));
   below = zero-le;
   unused = λ x l. ap (λ (q : List ℕ). at q x) e ∙ h .unused x l;
 }
 
 -- slices that are as they were
-module _ {c : Course} {p : List ℕ} (q : p ≡ c .loads) where
-  pub lent-same : {o o′ : List ℕ} → o′ ≡ o → Lent c o → Lent (withLoads c p) o′
-  lent-same {o} {o′} e h = subst (λ (x : List ℕ). Lent (withLoads c x) o′) (sym q) (lent-of (limited h) refl h e)
+module _ {c : Course} {p : List ℕ} (q : p ≡ c .compensations) where
+  pub lent-same : {o o′ : List ℕ} → o′ ≡ o → Lent c o → Lent (withCompensations c p) o′
+  lent-same {o} {o′} e h = subst (λ (x : List ℕ). Lent (withCompensations c x) o′) (sym q) (lent-of (limited h) refl h e)
 
-  pub sound-with : {t : List ℕ} → Sound c t → Sound (withLoads c p) t
-  sound-with {t} h = subst (λ (x : List ℕ). Sound (withLoads c x) t) (sym q) h
+  pub sound-with : {t : List ℕ} → Sound c t → Sound (withCompensations c p) t
+  sound-with {t} h = subst (λ (x : List ℕ). Sound (withCompensations c x) t) (sym q) h
 
-  pub with-sound : {t : List ℕ} → Sound (withLoads c p) t → Sound c t
-  with-sound {t} h = subst (λ (x : List ℕ). Sound (withLoads c x) t) q h
+  pub with-sound : {t : List ℕ} → Sound (withCompensations c p) t → Sound c t
+  with-sound {t} h = subst (λ (x : List ℕ). Sound (withCompensations c x) t) q h
 
   -- what was asked of them
   pub found-same : (here : State) {j w x : ℕ} {next : State} {r : Bool} {o o′ o″ t : List ℕ} → o′ ≡ o
-      → FoundIf (CanBeRead (withLoads c p) j here o′) (GoesWith (withLoads c p) j w next o′ x) r o′ o″ (Sound (withLoads c p) t)
-      → FoundIf (CanBeRead c j here o) (GoesWith c j w next o x) r o o″ (Sound c t)
+      → FoundIf (CanBeRead (withCompensations c p) j here o′) (CanHave (withCompensations c p) j w next o′ x) r o′ o″ (Sound (withCompensations c p) t)
+      → FoundIf (CanBeRead c j here o) (CanHave c j w next o x) r o o″ (Sound c t)
   found-same here {j} {w} {x} {next} {r} {o} {o′} {o″} {t} e f =
-      subst (λ (l : List ℕ). FoundIf (CanBeRead c j here l) (GoesWith c j w next l x) r l o″ (Sound c t)) e
-      (subst (λ (l : List ℕ). FoundIf (CanBeRead (withLoads c l) j here o′) (GoesWith (withLoads c l) j w next o′ x) r o′ o″ (Sound (withLoads c l) t)) q f)
+      subst (λ (l : List ℕ). FoundIf (CanBeRead c j here l) (CanHave c j w next l x) r l o″ (Sound c t)) e
+      (subst (λ (l : List ℕ). FoundIf (CanBeRead (withCompensations c l) j here o′) (CanHave (withCompensations c l) j w next o′ x) r o′ o″ (Sound (withCompensations c l) t)) q f)
 
-  pub room-same : {j x : ℕ} → Room (withLoads c p) j x → Room c j x
-  room-same {j} {x} f = subst (λ (l : List ℕ). Room (withLoads c l) j x) q f
+  pub room-same : {j x : ℕ} → Room (withCompensations c p) j x → Room c j x
+  room-same {j} {x} f = subst (λ (l : List ℕ). Room (withCompensations c l) j x) q f
 
   pub first-same : {j w x : ℕ} {here : State} {o o′ : List ℕ} → o′ ≡ o
-      → FirstOf (CanBeRead (withLoads c p) j here o′) (GoesWeekly (withLoads c p) j here o′ w) (Room (withLoads c p) j) (count c) x
-      → FirstOf (CanBeRead c j here o) (GoesWeekly c j here o w) (Room c j) (count c) x
+      → FirstOf (CanBeRead (withCompensations c p) j here o′) (CanBeWeekly (withCompensations c p) j here o′ w) (Room (withCompensations c p) j) (count c) x
+      → FirstOf (CanBeRead c j here o) (CanBeWeekly c j here o w) (Room c j) (count c) x
   first-same {j} {w} {x} {here} {o} {o′} e f =
-      subst (λ (l : List ℕ). FirstOf (CanBeRead c j here l) (GoesWeekly c j here l w) (Room c j) (count c) x) e
-      (subst (λ (l : List ℕ). FirstOf (CanBeRead (withLoads c l) j here o′) (GoesWeekly (withLoads c l) j here o′ w) (Room (withLoads c l) j) (count c) x) q f)
+      subst (λ (l : List ℕ). FirstOf (CanBeRead c j here l) (CanBeWeekly c j here l w) (Room c j) (count c) x) e
+      (subst (λ (l : List ℕ). FirstOf (CanBeRead (withCompensations c l) j here o′) (CanBeWeekly (withCompensations c l) j here o′ w) (Room (withCompensations c l) j) (count c) x) q f)
 
-  pub weekly-same : {j w x : ℕ} {here : State} {o o′ : List ℕ} → o′ ≡ o → FirstWeekly (withLoads c p) j here o′ w x → FirstWeekly c j here o w x
+  pub weekly-same : {j w x : ℕ} {here : State} {o o′ : List ℕ} → o′ ≡ o → FirstWeekly (withCompensations c p) j here o′ w x → FirstWeekly c j here o w x
   weekly-same {j} {w} {x} {here} {o} {o′} e f =
-      subst (λ (l : List ℕ). FirstWeekly c j here l w x) e (subst (λ (l : List ℕ). FirstWeekly (withLoads c l) j here o′ w x) q f)
+      subst (λ (l : List ℕ). FirstWeekly c j here l w x) e (subst (λ (l : List ℕ). FirstWeekly (withCompensations c l) j here o′ w x) q f)
 
 -- ---- answers
 pub if-no : {R P S : Type 0} {o o′ : List ℕ} → (P → ⊥) → o′ ≡ o → S → FoundIf R P false o o′ S
@@ -170,69 +170,69 @@ before-best c lies j {st} inside e =
     }))
 
 module _ (c : Course) (j : ℕ) where
-  paid-low : Limited c → (x : ℕ) → x ≤ count c → Room c j x → (i : ℕ) → at (paid (c .loads) x (reductionAt c j)) i ≤ totalAtMost
-  paid-low s zero l r i = s .loads-low i
-  paid-low s (suc y) l r i = by (less-or-not y i)
+  addedTo-low : Limited c → (x : ℕ) → x ≤ count c → Room c j x → (i : ℕ) → at (addedTo (c .compensations) x (reductionAt c j)) i ≤ totalAtMost
+  addedTo-low s zero l r i = s .compensations-low i
+  addedTo-low s (suc y) l r i = by (less-or-not y i)
     where
       v : ℕ
-      v = at (c .loads) y + reductionAt c j
+      v = at (c .compensations) y + reductionAt c j
 
-      other : (i ≡ y → ⊥) → at (set (c .loads) y (at (c .loads) y + reductionAt c j)) i ≤ totalAtMost
-      other n = subst (λ (m : ℕ). m ≤ totalAtMost) (sym (set-other (c .loads) y i _ n)) (s .loads-low i)
+      other : (i ≡ y → ⊥) → at (set (c .compensations) y (at (c .compensations) y + reductionAt c j)) i ≤ totalAtMost
+      other n = subst (λ (m : ℕ). m ≤ totalAtMost) (sym (set-other (c .compensations) y i _ n)) (s .compensations-low i)
 
-      same : at (set (c .loads) y (at (c .loads) y + reductionAt c j)) y ≤ totalAtMost
+      same : at (set (c .compensations) y (at (c .compensations) y + reductionAt c j)) y ≤ totalAtMost
       same =
-          let e : at (set (c .loads) y (at (c .loads) y + reductionAt c j)) y ≡ at (c .loads) y + reductionAt c j =
-          getD-set-same (c .loads) y (at (c .loads) y + reductionAt c j) 0 (omega (arith, s .loads-too)) in
+          let e : at (set (c .compensations) y (at (c .compensations) y + reductionAt c j)) y ≡ at (c .compensations) y + reductionAt c j =
+          getD-set-same (c .compensations) y (at (c .compensations) y + reductionAt c j) 0 (omega (arith, s .compensations-too)) in
           omega (arith, e, r .room y refl, s .lies .judged y (omega arith), s .judged)
 
-      by : (y < i) ⊎ (i ≤ y) → at (set (c .loads) y (at (c .loads) y + reductionAt c j)) i ≤ totalAtMost
+      by : (y < i) ⊎ (i ≤ y) → at (set (c .compensations) y (at (c .compensations) y + reductionAt c j)) i ≤ totalAtMost
       by (inl h) = other (λ q. omega arith)
       by (inr h) =
           ⊎-elim (λ k. other (λ q. omega arith))
-          (λ k. let e : y ≡ i = omega arith in subst (λ (m : ℕ). at (set (c .loads) y (at (c .loads) y + reductionAt c j)) m ≤ totalAtMost) e same)
+          (λ k. let e : y ≡ i = omega arith in subst (λ (m : ℕ). at (set (c .compensations) y (at (c .compensations) y + reductionAt c j)) m ≤ totalAtMost) e same)
           (less-or-not i y)
 
   pub limited-with : Limited c → (x : ℕ) → x ≤ count c → Room c j x → Limited (carrying c j x)
   limited-with s x l r = record {
     lies = lies-with c _ (s .lies);
-    loads-too = paid-length (c .loads) x (reductionAt c j) ∙ s .loads-too;
-    owed-too = paid-length (c .loads) x (reductionAt c j) ∙ s .loads-too;
+    compensations-too = addedTo-length (c .compensations) x (reductionAt c j) ∙ s .compensations-too;
+    outstanding-too = addedTo-length (c .compensations) x (reductionAt c j) ∙ s .compensations-too;
     few = s .few;
     judged = s .judged;
-    loads-low = paid-low s x l r;
+    compensations-low = addedTo-low s x l r;
   }
 
   -- what can be gone on with has room
-  room-by : (w : ℕ) (next : State) (owed : List ℕ) (x : ℕ) → length (c .loads) ≡ count c → CarriedBy c j w x → Later (carrying c j x) j next owed
+  room-by : (w : ℕ) (next : State) (outstanding : List ℕ) (x : ℕ) → length (c .compensations) ≡ count c → CarriedBy c j w x → Later (carrying c j x) j next outstanding
       → Room c j x
-  room-by w next owed x long (CarriedBy.alone z h) g = record { room = λ i q. absurd (omega (arith, z, q)) }
-  room-by w next owed x long (CarriedBy.later i z l m u d) g =
-      let e : at (carrying c j x .loads) i ≡ at (c .loads) i + reductionAt c j =
-      ap (λ (y : ℕ). at (paid (c .loads) y (reductionAt c j)) i) z ∙ getD-set-same (c .loads) i _ 0 (omega (arith, long)) in
-      let h : leastNet Daily + at (carrying c j x .loads) i ≤ lengthAt c i =
-      long-enough (carrying c j x) (count c - (j + 1)) (j + 1) next owed i (omega arith) (omega arith) g in
-      let r : leastNet Daily + (at (c .loads) i + reductionAt c j) ≤ lengthAt c i = omega (arith, h, e) in
+  room-by w next outstanding x long (CarriedBy.alone z h) g = record { room = λ i q. absurd (omega (arith, z, q)) }
+  room-by w next outstanding x long (CarriedBy.later i z l m u d) g =
+      let e : at (carrying c j x .compensations) i ≡ at (c .compensations) i + reductionAt c j =
+      ap (λ (y : ℕ). at (addedTo (c .compensations) y (reductionAt c j)) i) z ∙ getD-set-same (c .compensations) i _ 0 (omega (arith, long)) in
+      let h : leastNet Daily + at (carrying c j x .compensations) i ≤ lengthAt c i =
+      long-enough (carrying c j x) (count c - (j + 1)) (j + 1) next outstanding i (omega arith) (omega arith) g in
+      let r : leastNet Daily + (at (c .compensations) i + reductionAt c j) ≤ lengthAt c i = omega (arith, h, e) in
       record {
         room = λ i′ q.
             let k : i ≡ i′ = omega (arith, z, q) in
-            subst (λ (y : ℕ). leastNet Daily + (at (c .loads) y + reductionAt c j) ≤ lengthAt c y) k r;
+            subst (λ (y : ℕ). leastNet Daily + (at (c .compensations) y + reductionAt c j) ≤ lengthAt c y) k r;
       }
 
-  pub room-with : (w : ℕ) (next : State) (owed : List ℕ) (x : ℕ) → length (c .loads) ≡ count c → GoesWith c j w next owed x → Room c j x
-  room-with w next owed x long g = room-by w next owed x long (g .carried) (g .then)
+  pub room-with : (w : ℕ) (next : State) (outstanding : List ℕ) (x : ℕ) → length (c .compensations) ≡ count c → CanHave c j w next outstanding x → Room c j x
+  room-with w next outstanding x long g = room-by w next outstanding x long (g .carried) (g .then)
 
   -- ---- carriers in order
   carrier-past : {w x : ℕ} → CarriedBy c j w x → 0 < x → j + 2 ≤ x
   carrier-past (CarriedBy.alone z h) p = absurd (omega arith)
   carrier-past (CarriedBy.later i z l m u d) p = omega arith
 
-  pub none-below : {w : ℕ} {next : State} {owed : List ℕ} (x r : ℕ) → ((x ≡ 0) × (r ≡ j + 2)) ⊎ ((0 < x) × (r ≡ x + 1))
-      → (GoesWith c j w next owed x → ⊥) → ((y : ℕ) → y < x → GoesWith c j w next owed y → ⊥) → (y : ℕ) → y < r → GoesWith c j w next owed y → ⊥
-  none-below {w} {next} {owed} x r q nay old y l g = by q (less-or-not y x)
+  pub none-below : {w : ℕ} {next : State} {outstanding : List ℕ} (x r : ℕ) → ((x ≡ 0) × (r ≡ j + 2)) ⊎ ((0 < x) × (r ≡ x + 1))
+      → (CanHave c j w next outstanding x → ⊥) → ((y : ℕ) → y < x → CanHave c j w next outstanding y → ⊥) → (y : ℕ) → y < r → CanHave c j w next outstanding y → ⊥
+  none-below {w} {next} {outstanding} x r q nay old y l g = by q (less-or-not y x)
     where
       at-x : y ≡ x → ⊥
-      at-x e = nay (subst (λ (v : ℕ). GoesWith c j w next owed v) e g)
+      at-x e = nay (subst (λ (v : ℕ). CanHave c j w next outstanding v) e g)
 
       by : ((x ≡ 0) × (r ≡ j + 2)) ⊎ ((0 < x) × (r ≡ x + 1)) → (y < x) ⊎ (x ≤ y) → ⊥
       by q (inl h) = old y h g
@@ -240,68 +240,68 @@ module _ (c : Course) (j : ℕ) where
       by (inl q) (inr h) = ⊎-elim (λ p. let v = carrier-past (g .carried) p in omega (arith, v, q .1)) (λ p. at-x (omega (arith, q .0))) (less-or-not 0 y)
 
   -- the state after the rest, by its week
-  module _ (w : ℕ) (here there next : State) (owed : List ℕ) (counted : advance (restWeek c) (w - here .week) here ≡ To there)
+  module _ (w : ℕ) (here there next : State) (outstanding : List ℕ) (counted : advance (restWeek c) (w - here .week) here ≡ To there)
       (e : next ≡ afterCounted c j w there) where
-    pub from-with : (x : ℕ) → leastNet (Weekly Regular) + loadAt c j ≤ lengthAt c j → at (c .starts) j < weekStart (w + 1) → weekStart w < at (c .ends) j
-        → GoesWith c j w next owed x → GoesWeekly c j here owed w x
+    pub from-with : (x : ℕ) → leastNet (Weekly Regular) + compensationAt c j ≤ lengthAt c j → at (c .starts) j < weekStart (w + 1) → weekStart w < at (c .ends) j
+        → CanHave c j w next outstanding x → CanBeWeekly c j here outstanding w x
     from-with x net from upto g = record {
       net = net;
       from = from;
       upto = upto;
       carried = g .carried;
-      then = after _ counted (subst (λ (st : State). Later (carrying c j x) j st owed) e (g .then));
+      then = after _ counted (subst (λ (st : State). Later (carrying c j x) j st outstanding) e (g .then));
     }
 
-    pub to-with : (x : ℕ) → GoesWeekly c j here owed w x → GoesWith c j w next owed x
+    pub to-with : (x : ℕ) → CanBeWeekly c j here outstanding w x → CanHave c j w next outstanding x
     to-with x g = record {
       carried = g .carried;
       then =
-          subst (λ (st : State). Later (carrying c j x) j st owed) (sym e)
-          (subst (λ (b : Brought). After b (λ y. Later (carrying c j x) j (afterCounted c j w y) owed)) counted (g .then));
+          subst (λ (st : State). Later (carrying c j x) j st outstanding) (sym e)
+          (subst (λ (b : Brought). After b (λ y. Later (carrying c j x) j (afterCounted c j w y) outstanding)) counted (g .then));
     }
 
-  pub not-counted : (w : ℕ) (here : State) (owed : List ℕ) (x : ℕ) → advance (restWeek c) (w - here .week) here ≡ Broken → GoesWeekly c j here owed w x → ⊥
-  not-counted w here owed x e g = subst (λ (b : Brought). After b (λ y. Later (carrying c j x) j (afterCounted c j w y) owed)) e (g .then)
+  pub not-counted : (w : ℕ) (here : State) (outstanding : List ℕ) (x : ℕ) → advance (restWeek c) (w - here .week) here ≡ Broken → CanBeWeekly c j here outstanding w x → ⊥
+  not-counted w here outstanding x e g = subst (λ (b : Brought). After b (λ y. Later (carrying c j x) j (afterCounted c j w y) outstanding)) e (g .then)
 
   -- ---- weeks in order
-  pub none-before : {here : State} {owed : List ℕ} (w x : ℕ) → FirstOf (CanBeRead c j here owed) (GoesWeekly c j here owed w) (Room c j) (count c) x → count c < x
-      → ((v y : ℕ) → v < w → GoesWeekly c j here owed v y → ⊥) → (v y : ℕ) → v < w + 1 → GoesWeekly c j here owed v y → ⊥
-  none-before {here} {owed} w x f past old v y l g =
+  pub none-before : {here : State} {outstanding : List ℕ} (w x : ℕ) → FirstOf (CanBeRead c j here outstanding) (CanBeWeekly c j here outstanding w) (Room c j) (count c) x → count c < x
+      → ((v y : ℕ) → v < w → CanBeWeekly c j here outstanding v y → ⊥) → (v y : ℕ) → v < w + 1 → CanBeWeekly c j here outstanding v y → ⊥
+  none-before {here} {outstanding} w x f past old v y l g =
       ⊎-elim (λ h. old v y h g)
       (λ h. let e : v ≡ w = omega arith in
-      let k = f .first y (subst (λ (u : ℕ). GoesWeekly c j here owed u y) e g) in
+      let k = f .first y (subst (λ (u : ℕ). CanBeWeekly c j here outstanding u y) e g) in
       omega (arith, k, carrier-low c j v y (g .carried)))
       (less-or-not v w)
 
-  pub first-here : {here : State} {owed : List ℕ} (w x : ℕ) → FirstOf (CanBeRead c j here owed) (GoesWeekly c j here owed w) (Room c j) (count c) x → x ≤ count c
-      → at (c .starts) j < weekStart (w + 1) → weekStart w < at (c .ends) j → ((v y : ℕ) → v < w → GoesWeekly c j here owed v y → ⊥) → FirstWeekly c j here owed w x
-  first-here {here} {owed} w x f l from upto old = record {
+  pub first-here : {here : State} {outstanding : List ℕ} (w x : ℕ) → FirstOf (CanBeRead c j here outstanding) (CanBeWeekly c j here outstanding w) (Room c j) (count c) x → x ≤ count c
+      → at (c .starts) j < weekStart (w + 1) → weekStart w < at (c .ends) j → ((v y : ℕ) → v < w → CanBeWeekly c j here outstanding v y → ⊥) → FirstWeekly c j here outstanding w x
+  first-here {here} {outstanding} w x f l from upto old = record {
     goes = f .goes;
     fits = λ h. record { from = from; upto = upto; room = f .fits h };
     found = λ v y g. l;
     first = λ v y g.
         ⊎-elim (λ h. absurd (old v y h g))
         (λ h. ⊎-elim NotPast.sooner
-        (λ k. let e : v ≡ w = omega arith in NotPast.same (sym e) (f .first y (subst (λ (u : ℕ). GoesWeekly c j here owed u y) e g))) (less-or-not w v))
+        (λ k. let e : v ≡ w = omega arith in NotPast.same (sym e) (f .first y (subst (λ (u : ℕ). CanBeWeekly c j here outstanding u y) e g))) (less-or-not w v))
         (less-or-not v w);
   }
 
-  pub none-at-all : {here : State} {owed : List ℕ} (w : ℕ) → at (c .ends) j ≤ weekStart w → ((v y : ℕ) → v < w → GoesWeekly c j here owed v y → ⊥)
-      → FirstWeekly c j here owed w (count c + 1)
-  none-at-all {here} {owed} w past old = record {
+  pub none-at-all : {here : State} {outstanding : List ℕ} (w : ℕ) → at (c .ends) j ≤ weekStart w → ((v y : ℕ) → v < w → CanBeWeekly c j here outstanding v y → ⊥)
+      → FirstWeekly c j here outstanding w (count c + 1)
+  none-at-all {here} {outstanding} w past old = record {
     goes = λ h. absurd (omega arith);
     fits = λ h. absurd (omega arith);
     found = λ v y g. absurd (none v y g);
     first = λ v y g. absurd (none v y g);
   }
     where
-      none : (v y : ℕ) → GoesWeekly c j here owed v y → ⊥
+      none : (v y : ℕ) → CanBeWeekly c j here outstanding v y → ⊥
       none v y g = old v y (omega (arith, g .upto)) g
 
 -- ---- whether a rest can be the carrier
 module _ (c : Course) (j w x : ℕ) where
-  abbrev due : ℕ
-  due = weekStart (w + weeksToCompensate)
+  abbrev deadline : ℕ
+  deadline = weekStart (w + weeksToCompensate)
 
   pub carries-none : x ≡ 0 → reductionAt c j ≡ 0 → Says (Carries c j w x) true
   carries-none z r = record {
@@ -309,15 +309,15 @@ module _ (c : Course) (j w x : ℕ) where
     no = λ h. absurd (true≢false h);
   }
 
-  pub carries-late : x ≡ 0 → (reductionAt c j ≡ 0 → ⊥) → Says (Carries c j w x) (ltb (c .judged) due)
+  pub carries-late : x ≡ 0 → (reductionAt c j ≡ 0 → ⊥) → Says (Carries c j w x) (ltb (c .judged) deadline)
   carries-late z r = record {
-    yes = λ h. record { carried = CarriedBy.alone z (inr (ltb-true (c .judged) due h)); fits = record { room = λ i q. absurd (omega (arith, z, q)) } };
+    yes = λ h. record { carried = CarriedBy.alone z (inr (ltb-true (c .judged) deadline h)); fits = record { room = λ i q. absurd (omega (arith, z, q)) } };
     no = λ h k. by h (k .carried);
   }
     where
-      by : ltb (c .judged) due ≡ false → CarriedBy c j w x → ⊥
+      by : ltb (c .judged) deadline ≡ false → CarriedBy c j w x → ⊥
       by h (CarriedBy.alone e (inl q)) = r (omega arith)
-      by h (CarriedBy.alone e (inr q)) = let g = ltb-false (c .judged) due h in omega (arith, g, q)
+      by h (CarriedBy.alone e (inr q)) = let g = ltb-false (c .judged) deadline h in omega (arith, g, q)
       by h (CarriedBy.later i e l m u d) = omega (arith, e, z)
 
   pub carries-regular : (x ≡ 0 → ⊥) → reductionAt c j ≡ 0 → Carries c j w x → ⊥
@@ -327,37 +327,37 @@ module _ (c : Course) (j w x : ℕ) where
       by (CarriedBy.alone e h) = n e
       by (CarriedBy.later i e l m u d) = omega (arith, r, u)
 
-  pub carries-past : (x ≡ 0 → ⊥) → due < at (c .ends) (x - 1) → Carries c j w x → ⊥
+  pub carries-past : (x ≡ 0 → ⊥) → deadline < at (c .ends) (x - 1) → Carries c j w x → ⊥
   carries-past n p k = by (k .carried)
     where
       by : CarriedBy c j w x → ⊥
       by (CarriedBy.alone e h) = n e
       by (CarriedBy.later i e l m u d) = let q : x - 1 ≡ i = omega (arith, e) in let v = ap (at (c .ends)) q in omega (arith, v, d, p)
 
-  pub carries-fits : (x ≡ 0 → ⊥) → (reductionAt c j ≡ 0 → ⊥) → j + 1 < x → x ≤ count c → at (c .ends) (x - 1) ≤ due
-      → (less : ℕ) → less ≡ reductionAt c j → Says (Carries c j w x) (leb (leastNet Daily + (at (c .loads) (x - 1) + less)) (at (c .ends) (x - 1) - at (c .starts) (x - 1)))
+  pub carries-fits : (x ≡ 0 → ⊥) → (reductionAt c j ≡ 0 → ⊥) → j + 1 < x → x ≤ count c → at (c .ends) (x - 1) ≤ deadline
+      → (less : ℕ) → less ≡ reductionAt c j → Says (Carries c j w x) (leb (leastNet Daily + (at (c .compensations) (x - 1) + less)) (at (c .ends) (x - 1) - at (c .starts) (x - 1)))
   carries-fits n r l m d less e = record {
     yes = λ h. record {
       carried = CarriedBy.later (x - 1) (omega (arith, l)) (omega (arith, l)) (omega (arith, l, m)) (omega arith) d;
       fits = record {
         room = λ i q.
             let v : x - 1 ≡ i = omega (arith, q) in
-            let g = leb-true (leastNet Daily + (at (c .loads) (x - 1) + less)) (at (c .ends) (x - 1) - at (c .starts) (x - 1)) h in
-            subst (λ (y : ℕ). leastNet Daily + (at (c .loads) y + reductionAt c j) ≤ lengthAt c y) v (omega (arith, g, e));
+            let g = leb-true (leastNet Daily + (at (c .compensations) (x - 1) + less)) (at (c .ends) (x - 1) - at (c .starts) (x - 1)) h in
+            subst (λ (y : ℕ). leastNet Daily + (at (c .compensations) y + reductionAt c j) ≤ lengthAt c y) v (omega (arith, g, e));
       };
     };
     no = λ h k.
-        let g = leb-false (leastNet Daily + (at (c .loads) (x - 1) + less)) (at (c .ends) (x - 1) - at (c .starts) (x - 1)) h in
+        let g = leb-false (leastNet Daily + (at (c .compensations) (x - 1) + less)) (at (c .ends) (x - 1) - at (c .starts) (x - 1)) h in
         let v = k .fits .room (x - 1) (omega (arith, l)) in
         omega (arith, g, v, e);
   }
 
 -- with a carrier that is one, the later rests are what is left to ask
 pub with-carrier : (c : Course) (j w : ℕ) (next : State) (o : List ℕ) (x : ℕ) {less : ℕ} → less ≡ reductionAt c j → CarriedBy c j w x
-    → Equal (Later (withLoads c (paid (c .loads) x less)) j next o) (GoesWith c j w next o x)
+    → Equal (Later (withCompensations c (addedTo (c .compensations) x less)) j next o) (CanHave c j w next o x)
 with-carrier c j w next o x {less} e k = record {
-  to = λ p. record { carried = k; then = subst (λ (d : ℕ). Later (withLoads c (paid (c .loads) x d)) j next o) e p };
-  from = λ g. subst (λ (d : ℕ). Later (withLoads c (paid (c .loads) x d)) j next o) (sym e) (g .then);
+  to = λ p. record { carried = k; then = subst (λ (d : ℕ). Later (withCompensations c (addedTo (c .compensations) x d)) j next o) e p };
+  from = λ g. subst (λ (d : ℕ). Later (withCompensations c (addedTo (c .compensations) x d)) j next o) (sym e) (g .then);
 }
 
 -- ---- the bytes written so far
@@ -372,7 +372,7 @@ pub record Progress (c : Course) (f reading : List ℕ) (j : ℕ) (st : State) :
   pub ahead : Ahead c j st past left
 
 pub progress-start : (c : Course) (f reading : List ℕ) (st : State) → Least (restsOnly (c .starts) (c .ends) (c .nets) (c .judged)) f
-    → Zeros (c .loads) → st ≡ startState (restWeek c 0) → Progress c f reading 0 st
+    → Zeros (c .compensations) → st ≡ startState (restWeek c 0) → Progress c f reading 0 st
 unfolding entries compensationOf
 progress-start c f reading st l z e = record {
   front = [];
@@ -388,7 +388,7 @@ progress-start c f reading st l z e = record {
     least =
         subst (λ (s : State). LeastFrom c (count c) 0 s [] f) (sym e)
         (record { bytes = l .bytes; keeps = l .keeps; first = l .first });
-    loads = λ i h. z i;
+    compensations = λ i h. z i;
   };
 }
 
@@ -457,24 +457,24 @@ pub to-same : {b a : Brought} {here there : State} → b ≡ a → b ≡ To here
 to-same e f g = cc
 
 pub counted-state : (c : Course) (j w : ℕ) (rest : Bool) (there next : State)
-    → next ≡ afterWeekly rest (leb (regularMinutes + loadAt c j) (lengthAt c j)) (at (c .ends) j) there → rest ≡ restWeek c w → next ≡ afterCounted c j w there
+    → next ≡ afterWeekly rest (leb (regularMinutes + compensationAt c j) (lengthAt c j)) (at (c .ends) j) there → rest ≡ restWeek c w → next ≡ afterCounted c j w there
 counted-state c j w rest there next e r =
-    e ∙ ap (λ (b : Bool). afterWeekly b (leb (regularMinutes + loadAt c j) (lengthAt c j)) (at (c .ends) j) there) r
+    e ∙ ap (λ (b : Bool). afterWeekly b (leb (regularMinutes + compensationAt c j) (lengthAt c j)) (at (c .ends) j) there) r
 
-pub at-rest-with : (c : Course) (p : List ℕ) {j : ℕ} {here : State} → AtRest c j here → AtRest (withLoads c p) j here
+pub at-rest-with : (c : Course) (p : List ℕ) {j : ℕ} {here : State} → AtRest c j here → AtRest (withCompensations c p) j here
 at-rest-with c p h = record { within = h .within; small = h .small; week = h .week; ended = h .ended }
 
--- ---- before a rest has a load or anything is owed
+-- ---- before a rest has a compensation or anything is outstanding
 pub lent-start : (starts ends nets : List ℕ) (s : ℕ) → Lies (restsOnly starts ends nets s) → length starts ≤ longRestsAtMost → s ≤ totalAtMost
     → Lent (courseOf starts ends nets (noneOf (length starts)) s) (noneOf (length starts))
 lent-start starts ends nets s l few judged = record {
   sized = record {
     lies = lies-with (restsOnly starts ends nets s) (noneOf (length starts)) l;
-    loads-too = none-size (length starts) few;
-    owed-too = none-size (length starts) few;
+    compensations-too = none-size (length starts) few;
+    outstanding-too = none-size (length starts) few;
     few = few;
     judged = judged;
-    loads-low = λ i. omega (arith, none-zeros (length starts) i);
+    compensations-low = λ i. omega (arith, none-zeros (length starts) i);
   };
   below = zero-le;
   unused = λ x _. none-zeros (length starts) x;

@@ -18,14 +18,14 @@ use Rattle.verdict_completion.specs.States.{advance}
 use Rattle.verdict_completion.specs.Completable.{Course, at, count, restWeek, lengthAt, Lies}
 use Rattle.verdict_completion.specs.Better.{AtRest, bestState}
 use Rattle.verdict_completion.proofs.Monotone.{arrives}
-use Rattle.verdict_search.specs.Search.{Sound, Lent, Before, withLoads}
+use Rattle.verdict_search.specs.Search.{Sound, Lent, Before, withCompensations}
 use Rattle.verdict_search.proofs.Slots.{brought}
 use Rattle.verdict_search.proofs.Memory.{empty-sound}
-use Rattle.verdict_first_reading.specs.Choices.{Renewed, loadAt, carrying, CanBeRead, GoesDaily, Fits, FirstWeekly, Ahead, Limited, PutDaily, PutWeekly, Stepped}
+use Rattle.verdict_first_reading.specs.Choices.{Renewed, compensationAt, carrying, CanBeRead, CanBeDaily, Fits, FirstWeekly, Ahead, Limited, PutDaily, PutWeekly, Stepped}
 use Rattle.verdict_first_reading.proofs.Choosing.{lies-with, daily, weekly, NextDaily, too-short-for-weekly, never-broken, goes-as-daily, goes-as-weekly}
 use Rattle.verdict_first_reading.proofs.Placing.{limited, lent-of, before-best}
 
-module _ (c : Course) (j : ℕ) (st : State) (owed : List ℕ) (lent : Lent c owed) (before : Before c j st) (inside : j < count c) where
+module _ (c : Course) (j : ℕ) (st : State) (outstanding : List ℕ) (lent : Lent c outstanding) (before : Before c j st) (inside : j < count c) where
   abbrev brought-on : Brought
   brought-on = advance (restWeek c) (weekOf (at (c .starts) j) - st .week) st
 
@@ -34,22 +34,22 @@ module _ (c : Course) (j : ℕ) (st : State) (owed : List ℕ) (lent : Lent c ow
   at-rest e g = arrives c (lent .sized .lies) inside (before .stands) (brought (restWeek c) (weekOf (at (c .starts) j) - st .week) (before .small) e g)
 
   pub stepped-broken : {b : Brought} {r : State} (nogoods reading : List ℕ) → Sound c nogoods → b ≡ brought-on → b ≡ Broken → r ≡ bestState (at (c .starts) j)
-      → Stepped c c j st owed owed nogoods reading reading r
+      → Stepped c c j st outstanding outstanding nogoods reading reading r
   stepped-broken {b} {r} nogoods reading sound e g q = record {
     lent = lent;
     sound = sound;
     same = refl;
     before = before-best c (lent .sized .lies) j inside q;
     placed = λ past left a.
-        absurd (never-broken c (lent .sized .lies) (omega (arith, lent .sized .few)) (lent .sized .judged) (lent .sized .loads-too) j inside st past left a (sym e ∙ g));
+        absurd (never-broken c (lent .sized .lies) (omega (arith, lent .sized .few)) (lent .sized .judged) (lent .sized .compensations-too) j inside st past left a (sym e ∙ g));
   }
 
-  module _ {b : Brought} {here : State} (e : b ≡ brought-on) (g : b ≡ To here) (owed′ nogoods′ reading reading′ : List ℕ) (same : owed′ ≡ owed) (r : State) where
-    lent-still : {d : Course} → Limited d → count d ≡ count c → Lent d owed′
+  module _ {b : Brought} {here : State} (e : b ≡ brought-on) (g : b ≡ To here) (outstanding′ nogoods′ reading reading′ : List ℕ) (same : outstanding′ ≡ outstanding) (r : State) where
+    lent-still : {d : Course} → Limited d → count d ≡ count c → Lent d outstanding′
     lent-still s q = lent-of s q lent same
 
     stepped-daily : Sound c nogoods′ → PutDaily c j here reading reading′ r → ((past : List Entry) (left : List ℕ) → Ahead c j st past left → NextDaily c j past here left)
-        → Stepped c c j st owed owed′ nogoods′ reading reading′ r
+        → Stepped c c j st outstanding outstanding′ nogoods′ reading reading′ r
     stepped-daily sound put next = record {
       lent = lent-still (limited lent) refl;
       sound = sound;
@@ -69,23 +69,23 @@ module _ (c : Course) (j : ℕ) (st : State) (owed : List ℕ) (lent : Lent c ow
           };
     }
 
-    pub stepped-short : Sound c nogoods′ → lengthAt c j < leastNet (Weekly Regular) + loadAt c j → PutDaily c j here reading reading′ r
-        → Stepped c c j st owed owed′ nogoods′ reading reading′ r
+    pub stepped-short : Sound c nogoods′ → lengthAt c j < leastNet (Weekly Regular) + compensationAt c j → PutDaily c j here reading reading′ r
+        → Stepped c c j st outstanding outstanding′ nogoods′ reading reading′ r
     stepped-short sound s put =
         stepped-daily sound put
-        (λ past left a. too-short-for-weekly c (lent .sized .lies) (omega (arith, lent .sized .few)) (lent .sized .judged) (lent .sized .loads-too) j inside st past left a here (sym e ∙ g) s)
+        (λ past left a. too-short-for-weekly c (lent .sized .lies) (omega (arith, lent .sized .few)) (lent .sized .judged) (lent .sized .compensations-too) j inside st past left a here (sym e ∙ g) s)
 
-    module _ (zeros : Zeros owed) where
-      pub stepped-as-daily : Sound c nogoods′ → (CanBeRead c j here owed → GoesDaily c j here owed) → PutDaily c j here reading reading′ r
-          → Stepped c c j st owed owed′ nogoods′ reading reading′ r
+    module _ (zeros : Zeros outstanding) where
+      pub stepped-as-daily : Sound c nogoods′ → (CanBeRead c j here outstanding → CanBeDaily c j here outstanding) → PutDaily c j here reading reading′ r
+          → Stepped c c j st outstanding outstanding′ nogoods′ reading reading′ r
       stepped-as-daily sound d put =
           stepped-daily sound put
           (λ past left a.
           let h = lent .sized in
-          goes-as-daily c (h .lies) (omega (arith, h .few)) (h .judged) (h .loads-too) j inside st past left owed (h .owed-too) zeros a here (sym e ∙ g) d)
+          goes-as-daily c (h .lies) (omega (arith, h .few)) (h .judged) (h .compensations-too) j inside st past left outstanding (h .outstanding-too) zeros a here (sym e ∙ g) d)
 
-      pub stepped-weekly : (p : List ℕ) (w x : ℕ) → Sound (withLoads c p) nogoods′ → (GoesDaily c j here owed → ⊥) → FirstWeekly c j here owed w x
-          → PutWeekly c (withLoads c p) j here w x reading reading′ r → Stepped c (withLoads c p) j st owed owed′ nogoods′ reading reading′ r
+      pub stepped-weekly : (p : List ℕ) (w x : ℕ) → Sound (withCompensations c p) nogoods′ → (CanBeDaily c j here outstanding → ⊥) → FirstWeekly c j here outstanding w x
+          → PutWeekly c (withCompensations c p) j here w x reading reading′ r → Stepped c (withCompensations c p) j st outstanding outstanding′ nogoods′ reading reading′ r
       stepped-weekly p w x sound nay f put = record {
         lent = lent-still (put .limited) refl;
         sound = sound;
@@ -93,7 +93,7 @@ module _ (c : Course) (j : ℕ) (st : State) (owed : List ℕ) (lent : Lent c ow
         before = put .before;
         placed = λ past left a.
             let h = lent .sized in
-            let n = goes-as-weekly c (h .lies) (omega (arith, h .few)) (h .judged) (h .loads-too) j inside st past left owed (h .owed-too) zeros a here (sym e ∙ g) nay w x f in
+            let n = goes-as-weekly c (h .lies) (omega (arith, h .few)) (h .judged) (h .compensations-too) j inside st past left outstanding (h .outstanding-too) zeros a here (sym e ∙ g) nay w x f in
             let d = put .done (n .there) (n .found) (n .counted) in
             record {
               entry = weekly c j past w x;
@@ -104,37 +104,37 @@ module _ (c : Course) (j : ℕ) (st : State) (owed : List ℕ) (lent : Lent c ow
               begins = n .begins;
               written = d .written;
               ahead =
-                  subst (λ (l : List ℕ). Ahead (withLoads c l) (suc j) r (weekly c j past w x ∷ past) (n .rest)) (sym (d .loads))
+                  subst (λ (l : List ℕ). Ahead (withCompensations c l) (suc j) r (weekly c j past w x ∷ past) (n .rest)) (sym (d .compensations))
                   (subst (λ (s : State). Ahead (carrying c j x) (suc j) s (weekly c j past w x ∷ past) (n .rest)) (sym (d .state)) (n .ahead));
             };
       }
 
--- the same, of loads that are as they were
-module _ {c : Course} {p : List ℕ} (q : p ≡ c .loads) where
-  pub put-daily-same : {j : ℕ} {here r : State} {reading reading′ : List ℕ} → PutDaily (withLoads c p) j here reading reading′ r → PutDaily c j here reading reading′ r
-  put-daily-same {j} {here} {r} {reading} {reading′} h = subst (λ (l : List ℕ). PutDaily (withLoads c l) j here reading reading′ r) q h
+-- the same, of compensations that are as they were
+module _ {c : Course} {p : List ℕ} (q : p ≡ c .compensations) where
+  pub put-daily-same : {j : ℕ} {here r : State} {reading reading′ : List ℕ} → PutDaily (withCompensations c p) j here reading reading′ r → PutDaily c j here reading reading′ r
+  put-daily-same {j} {here} {r} {reading} {reading′} h = subst (λ (l : List ℕ). PutDaily (withCompensations c l) j here reading reading′ r) q h
 
   pub stepped-same : {j : ℕ} {st r : State} {o o′ t reading reading′ : List ℕ} → Stepped c c j st o o′ t reading reading′ r
-      → Stepped c (withLoads c p) j st o o′ t reading reading′ r
-  stepped-same {j} {st} {r} {o} {o′} {t} {reading} {reading′} h = subst (λ (l : List ℕ). Stepped c (withLoads c l) j st o o′ t reading reading′ r) (sym q) h
+      → Stepped c (withCompensations c p) j st o o′ t reading reading′ r
+  stepped-same {j} {st} {r} {o} {o′} {t} {reading} {reading′} h = subst (λ (l : List ℕ). Stepped c (withCompensations c l) j st o o′ t reading reading′ r) (sym q) h
 
-  pub put-same : {d : Course} {j w x : ℕ} {here r : State} {reading reading′ : List ℕ} → PutWeekly (withLoads c p) d j here w x reading reading′ r
+  pub put-same : {d : Course} {j w x : ℕ} {here r : State} {reading reading′ : List ℕ} → PutWeekly (withCompensations c p) d j here w x reading reading′ r
       → PutWeekly c d j here w x reading reading′ r
-  put-same {d} {j} {w} {x} {here} {r} {reading} {reading′} h = subst (λ (l : List ℕ). PutWeekly (withLoads c l) d j here w x reading reading′ r) q h
+  put-same {d} {j} {w} {x} {here} {r} {reading} {reading′} h = subst (λ (l : List ℕ). PutWeekly (withCompensations c l) d j here w x reading reading′ r) q h
 
-  pub limited-same : Limited c → Limited (withLoads c p)
-  limited-same h = subst (λ (l : List ℕ). Limited (withLoads c l)) (sym q) h
+  pub limited-same : Limited c → Limited (withCompensations c p)
+  limited-same h = subst (λ (l : List ℕ). Limited (withCompensations c l)) (sym q) h
 
-  pub fits-same : {j w x : ℕ} → Fits c j w x → Fits (withLoads c p) j w x
-  fits-same {j} {w} {x} h = subst (λ (l : List ℕ). Fits (withLoads c l) j w x) (sym q) h
+  pub fits-same : {j w x : ℕ} → Fits c j w x → Fits (withCompensations c p) j w x
+  fits-same {j} {w} {x} h = subst (λ (l : List ℕ). Fits (withCompensations c l) j w x) (sym q) h
 
--- the nogoods after a weekly rest: as they were where no load has grown, or none
-pub sound-renewed : {c d : Course} {x : ℕ} {t t′ : List ℕ} → Lies c → Sound c t → (x ≡ 0 → d .loads ≡ c .loads)
-    → d ≡ withLoads c (d .loads) → Renewed (count c) x t t′ → Sound d t′
+-- the nogoods after a weekly rest: as they were where no compensation has grown, or none
+pub sound-renewed : {c d : Course} {x : ℕ} {t t′ : List ℕ} → Lies c → Sound c t → (x ≡ 0 → d .compensations ≡ c .compensations)
+    → d ≡ withCompensations c (d .compensations) → Renewed (count c) x t t′ → Sound d t′
 sound-renewed {c} {d} {x} {t} {t′} lies sound kept e r = go (eq-zero-or-pos x)
   where
     go : (x ≡ 0) ⊎ (0 < x) → Sound d t′
     go (inl z) =
         subst (λ (k : Course). Sound k t′) (sym e)
-        (subst (λ (p : List ℕ). Sound (withLoads c p) t′) (sym (kept z)) (subst (Sound c) (sym (r .kept z)) sound))
-    go (inr l) = subst (λ (k : Course). Sound k t′) (sym e) (empty-sound (withLoads c (d .loads)) (lies-with c (d .loads) lies) (r .empty (λ z. omega arith)))
+        (subst (λ (p : List ℕ). Sound (withCompensations c p) t′) (sym (kept z)) (subst (Sound c) (sym (r .kept z)) sound))
+    go (inr l) = subst (λ (k : Course). Sound k t′) (sym e) (empty-sound (withCompensations c (d .compensations)) (lies-with c (d .compensations) lies) (r .empty (λ z. omega arith)))

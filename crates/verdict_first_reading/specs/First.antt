@@ -1,4 +1,5 @@
--- The first reading of long rests that keeps rules 6 to 11. Assumes nothing.
+-- Inner: the first reading of long rests that keeps rules 6 to 11. Nobody has to believe it: no public contract cites it.
+-- Assumes nothing.
 use mathlib.Core.List.{List, []}
 use Prim.Native.Nat.{ℕ, _*_}
 use Rattle.rules.specs.Reading.{entryBytes, entries}
@@ -17,6 +18,6 @@ pub record Least (c : Course) (r : List ℕ) : Type 0 where
   pub keeps : KeptBy c r
   pub first : (t : List ℕ) → Bytes (entryBytes * count c) t → KeptBy c t → NotAfter r t
 
--- long rests that have no load yet
+-- long rests that have no compensation yet
 abbrev pub restsOnly : List ℕ → List ℕ → List ℕ → ℕ → Course
-restsOnly starts ends nets s = record { starts = starts; ends = ends; nets = nets; loads = []; judged = s }
+restsOnly starts ends nets s = record { starts = starts; ends = ends; nets = nets; compensations = []; judged = s }

@@ -1,4 +1,5 @@
 // The first lawful reading of long rests, entry by entry: for each rest the first entry with which the later rests can still be read.
+use rules::Kind;
 use verdict_completion::Brought;
 use verdict_completion::State;
 ghost use mathlib.Core.Path.{_≡_};
@@ -14,15 +15,15 @@ ghost use Rattle.rules.specs.Reading.{regularMinutes, entryBytes};
 ghost use Rattle.rules.specs.ReadingRules.{leastNet};
 ghost use Rattle.rules.specs.declared.Kind.the-variants.{Daily, Weekly};
 ghost use Rattle.rules.specs.declared.Standing.the-variants.{Regular};
-ghost use Rattle.rules_reading.specs.Items.{loadAtMost, paid, Zeros};
+ghost use Rattle.rules_reading.specs.Items.{compensationAtMost, addedTo, Zeros};
 ghost use Rattle.verdict_completion.specs.Completable.{at, count, lengthAt, Lies};
 ghost use Rattle.verdict_completion.specs.Better.{AtRest};
 ghost use Rattle.verdict_steps.specs.Steps.{Says};
-ghost use Rattle.verdict_search.specs.Search.{courseNow, courseAt, withLoads, Sound, Lent, Before};
+ghost use Rattle.verdict_search.specs.Search.{courseNow, courseAt, withCompensations, Sound, Lent, Before};
 ghost use Rattle.verdict_merging.specs.Merging.{FindsIf};
 ghost use Rattle.verdict_first_reading.specs.First.{Least, restsOnly};
-ghost use Rattle.verdict_first_reading.specs.Choices.{Renewed, CanBeRead, GoesDaily, GoesWeekly, FirstWeekly, withEntry, FirstOf};
-ghost use Rattle.verdict_first_reading.specs.Choices.{Limited, Room, Fits, Carries, GoesWith, PutDaily, PutWeekly, Stepped};
+ghost use Rattle.verdict_first_reading.specs.Choices.{Renewed, CanBeRead, CanBeDaily, CanBeWeekly, FirstWeekly, withEntry, FirstOf};
+ghost use Rattle.verdict_first_reading.specs.Choices.{Limited, Room, Fits, Carries, CanHave, PutDaily, PutWeekly, Stepped};
 
 // A week in which a weekly rest is counted, and the number of its carrier: 0, or a later rest, or past all rests where there is no choice.
 pub struct Choice {
@@ -34,26 +35,23 @@ const DAILY_KIND: u8 = 0;
 
 const WEEKLY_KIND: u8 = 1;
 
-// By how many minutes a weekly rest of so many minutes, with a load, is reduced.
-fn reduction(minutes: u32, load: u32) -> u32
-    requires { ⌜ load ≤ loadAtMost ⌝ }
-    ensures { λ r. ⌜ r ≡ regularMinutes + load - minutes ⌝ }
+// How many minutes a weekly rest of so many minutes, with a compensation, lacks to be regular: its reduction.
+fn lacking(minutes: u32, compensation: u32) -> u32
+    requires { ⌜ compensation ≤ compensationAtMost ⌝ }
+    ensures { λ r. ⌜ r ≡ regularMinutes + compensation - minutes ⌝ }
 {
-    let full = rules_reading::REGULAR + load;
-    if full <= minutes {
-        return 0;
-    }
-    full - minutes
+    let standing = rules_reading::standing_of(minutes, compensation);
+    rules_reading::reduction(Kind::Weekly(standing))
 }
 
 // Whether the rest of index j can be daily.
-fn daily_goes(
+fn can_be_daily(
     starts: &[u32],
     ends: &[u32],
     nets: &[u32],
-    loads: &mut [u32],
+    compensations: &mut [u32],
     s: u32,
-    owed: &mut [u32],
+    outstanding: &mut [u32],
     nogoods: &mut [u32],
     front: &mut [u32],
     other: &mut [u32],
@@ -62,12 +60,13 @@ fn daily_goes(
     j: usize,
     here: State,
 ) -> bool
-    requires { ⌜ (let c = courseNow starts ends nets loads s in
-        Lent c (now owed) × AtRest c j here × (leastNet Daily + at (now loads) j ≤ lengthAt c j) × Sound c (now nogoods)) ⌝ }
-    ensures { λ r. ⌜ (let c = courseAt starts ends nets loads s in FindsIf c (CanBeRead c j here (now (owed .entry))) (GoesDaily c j here (now (owed .entry))) r owed nogoods
-        × (now (loads .exit) ≡ now (loads .entry))) ⌝ }
+    requires { ⌜ (let c = courseNow starts ends nets compensations s in
+        Lent c (now outstanding) × AtRest c j here × (leastNet Daily + at (now compensations) j ≤ lengthAt c j) × Sound c (now nogoods)) ⌝ }
+    ensures { λ r. ⌜ (let c = courseAt starts ends nets compensations s in FindsIf c (CanBeRead c j here (now (outstanding .entry)))
+        (CanBeDaily c j here (now (outstanding .entry))) r outstanding nogoods
+        × (now (compensations .exit) ≡ now (compensations .entry))) ⌝ }
 {
-    let short = verdict_steps::is_short(ends[j] - starts[j], nets[j], loads[j]);
+    let short = verdict_steps::is_short(ends[j] - starts[j], nets[j], compensations[j]);
     let next = verdict_steps::after_daily(here, short);
     if rules_reading::SHORTENED_AT_MOST < next.short {
         return false;
@@ -76,9 +75,9 @@ fn daily_goes(
         starts,
         ends,
         nets,
-        loads,
+        compensations,
         s,
-        owed,
+        outstanding,
         nogoods,
         front,
         other,
@@ -97,41 +96,41 @@ fn carries(
     starts: &[u32],
     ends: &[u32],
     nets: &[u32],
-    loads: &[u32],
+    compensations: &[u32],
     s: u32,
     j: usize,
     w: u32,
     x: usize,
 ) -> bool
-    requires { ⌜ (let c = courseNow starts ends nets loads s in Limited c × (j < count c) × (weekStart w < at (now ends) j) × (x ≤ count c) × (0 < x → j + 1 < x)) ⌝ }
-    ensures { λ r. ⌜ (let c = courseAt starts ends nets loads s in Says (Carries c j w x) r) ⌝ }
+    requires { ⌜ (let c = courseNow starts ends nets compensations s in Limited c × (j < count c) × (weekStart w < at (now ends) j) × (x ≤ count c) × (0 < x → j + 1 < x)) ⌝ }
+    ensures { λ r. ⌜ (let c = courseAt starts ends nets compensations s in Says (Carries c j w x) r) ⌝ }
 {
-    let due = recording::WEEK_MINUTES * (w + rules_reading::WEEKS_TO_COMPENSATE);
-    let less = reduction(ends[j] - starts[j], loads[j]);
+    let deadline = recording::WEEK_MINUTES * (w + rules_reading::WEEKS_TO_COMPENSATE);
+    let less = lacking(ends[j] - starts[j], compensations[j]);
     if x == 0 {
         if less == 0 {
             return true;
         }
-        return s < due;
+        return s < deadline;
     }
     if less == 0 {
         return false;
     }
     let i = x - 1;
-    if due < ends[i] {
+    if deadline < ends[i] {
         return false;
     }
-    rules_reading::DAILY_NET + (loads[i] + less) <= ends[i] - starts[i]
+    rules_reading::DAILY_NET + (compensations[i] + less) <= ends[i] - starts[i]
 }
 
 // Whether the rest of index j, weekly and counted in week w, can have the carrier x; the state after it is next.
-fn goes_with(
+fn can_have(
     starts: &[u32],
     ends: &[u32],
     nets: &[u32],
-    loads: &mut [u32],
+    compensations: &mut [u32],
     s: u32,
-    owed: &mut [u32],
+    outstanding: &mut [u32],
     nogoods: &mut [u32],
     front: &mut [u32],
     other: &mut [u32],
@@ -143,22 +142,23 @@ fn goes_with(
     next: State,
     x: usize,
 ) -> bool
-    requires { ⌜ (let c = courseNow starts ends nets loads s in Lent c (now owed) × AtRest c j here × Before c (j + 1) next × (weekStart w < at (now ends) j)
+    requires { ⌜ (let c = courseNow starts ends nets compensations s in Lent c (now outstanding) × AtRest c j here × Before c (j + 1) next × (weekStart w < at (now ends) j)
         × (x ≤ count c) × (0 < x → j + 1 < x) × Sound c (now nogoods)) ⌝ }
-    ensures { λ r. ⌜ (let c = courseAt starts ends nets loads s in FindsIf c (CanBeRead c j here (now (owed .entry))) (GoesWith c j w next (now (owed .entry)) x) r owed nogoods
-        × (r ≡ true → Room c j x) × (now (loads .exit) ≡ now (loads .entry))) ⌝ }
+    ensures { λ r. ⌜ (let c = courseAt starts ends nets compensations s in FindsIf c (CanBeRead c j here (now (outstanding .entry)))
+        (CanHave c j w next (now (outstanding .entry)) x) r outstanding nogoods
+        × (r ≡ true → Room c j x) × (now (compensations .exit) ≡ now (compensations .entry))) ⌝ }
 {
-    if !carries(starts, ends, nets, loads, s, j, w, x) {
+    if !carries(starts, ends, nets, compensations, s, j, w, x) {
         return false;
     }
-    let less = reduction(ends[j] - starts[j], loads[j]);
+    let less = lacking(ends[j] - starts[j], compensations[j]);
     verdict_merging::completes_beside(
         starts,
         ends,
         nets,
-        loads,
+        compensations,
         s,
-        owed,
+        outstanding,
         nogoods,
         front,
         other,
@@ -188,9 +188,9 @@ fn first_carrier(
     starts: &[u32],
     ends: &[u32],
     nets: &[u32],
-    loads: &mut [u32],
+    compensations: &mut [u32],
     s: u32,
-    owed: &mut [u32],
+    outstanding: &mut [u32],
     nogoods: &mut [u32],
     front: &mut [u32],
     other: &mut [u32],
@@ -201,20 +201,21 @@ fn first_carrier(
     w: u32,
     next: State,
 ) -> usize
-    requires { ⌜ (let c = courseNow starts ends nets loads s in
-        Lent c (now owed) × AtRest c j here × Before c (j + 1) next × (weekStart w < at (now ends) j) × Sound c (now nogoods)) ⌝ }
-    ensures { λ r. ⌜ (let c = courseAt starts ends nets loads s in FirstOf (CanBeRead c j here (now (owed .entry))) (GoesWith c j w next (now (owed .entry))) (Room c j) (count c) r
-        × (now (owed .exit) ≡ now (owed .entry)) × (now (loads .exit) ≡ now (loads .entry)) × Sound c (now (nogoods .exit))) ⌝ }
+    requires { ⌜ (let c = courseNow starts ends nets compensations s in
+        Lent c (now outstanding) × AtRest c j here × Before c (j + 1) next × (weekStart w < at (now ends) j) × Sound c (now nogoods)) ⌝ }
+    ensures { λ r. ⌜ (let c = courseAt starts ends nets compensations s in FirstOf (CanBeRead c j here (now (outstanding .entry))) (CanHave c j w next (now (outstanding .entry))) (Room c j)
+        (count c) r
+        × (now (outstanding .exit) ≡ now (outstanding .entry)) × (now (compensations .exit) ≡ now (compensations .entry)) × Sound c (now (nogoods .exit))) ⌝ }
 {
     let mut x = 0;
     while x <= starts.len() {
-        if goes_with(
+        if can_have(
             starts,
             ends,
             nets,
-            loads,
+            compensations,
             s,
-            owed,
+            outstanding,
             nogoods,
             front,
             other,
@@ -238,9 +239,9 @@ fn carrier_in(
     starts: &[u32],
     ends: &[u32],
     nets: &[u32],
-    loads: &mut [u32],
+    compensations: &mut [u32],
     s: u32,
-    owed: &mut [u32],
+    outstanding: &mut [u32],
     nogoods: &mut [u32],
     front: &mut [u32],
     other: &mut [u32],
@@ -250,25 +251,25 @@ fn carrier_in(
     here: State,
     w: u32,
 ) -> usize
-    requires { ⌜ (let c = courseNow starts ends nets loads s in Lent c (now owed) × AtRest c j here × (leastNet (Weekly Regular) + at (now loads) j ≤ lengthAt c j)
+    requires { ⌜ (let c = courseNow starts ends nets compensations s in Lent c (now outstanding) × AtRest c j here × (leastNet (Weekly Regular) + at (now compensations) j ≤ lengthAt c j)
         × (at (now starts) j < weekStart (w + 1)) × (weekStart w < at (now ends) j) × Sound c (now nogoods)) ⌝ }
-    ensures { λ r. ⌜ (let c = courseAt starts ends nets loads s in
-        FirstOf (CanBeRead c j here (now (owed .entry))) (GoesWeekly c j here (now (owed .entry)) w) (Room c j) (count c) r
-        × (now (owed .exit) ≡ now (owed .entry)) × (now (loads .exit) ≡ now (loads .entry)) × Sound c (now (nogoods .exit))) ⌝ }
+    ensures { λ r. ⌜ (let c = courseAt starts ends nets compensations s in
+        FirstOf (CanBeRead c j here (now (outstanding .entry))) (CanBeWeekly c j here (now (outstanding .entry)) w) (Room c j) (count c) r
+        × (now (outstanding .exit) ≡ now (outstanding .entry)) × (now (compensations .exit) ≡ now (compensations .entry)) × Sound c (now (nogoods .exit))) ⌝ }
 {
     let Brought::To(there) = verdict_steps::advance(starts, ends, j + 1, here, w) else {
         return starts.len() + 1;
     };
     let rest = rules_reading::rest_week(starts, ends, starts.len(), w);
-    let regular = rules_reading::REGULAR + loads[j] <= ends[j] - starts[j];
+    let regular = rules_reading::REGULAR + compensations[j] <= ends[j] - starts[j];
     let next = verdict_steps::after_weekly(there, rest, regular, ends[j]);
     first_carrier(
         starts,
         ends,
         nets,
-        loads,
+        compensations,
         s,
-        owed,
+        outstanding,
         nogoods,
         front,
         other,
@@ -286,9 +287,9 @@ fn first_weekly(
     starts: &[u32],
     ends: &[u32],
     nets: &[u32],
-    loads: &mut [u32],
+    compensations: &mut [u32],
     s: u32,
-    owed: &mut [u32],
+    outstanding: &mut [u32],
     nogoods: &mut [u32],
     front: &mut [u32],
     other: &mut [u32],
@@ -297,10 +298,10 @@ fn first_weekly(
     j: usize,
     here: State,
 ) -> Choice
-    requires { ⌜ (let c = courseNow starts ends nets loads s in
-        Lent c (now owed) × AtRest c j here × (leastNet (Weekly Regular) + at (now loads) j ≤ lengthAt c j) × Sound c (now nogoods)) ⌝ }
-    ensures { λ r. ⌜ (let c = courseAt starts ends nets loads s in FirstWeekly c j here (now (owed .entry)) (r .week) (r .carrier)
-        × (now (owed .exit) ≡ now (owed .entry)) × (now (loads .exit) ≡ now (loads .entry)) × Sound c (now (nogoods .exit))) ⌝ }
+    requires { ⌜ (let c = courseNow starts ends nets compensations s in
+        Lent c (now outstanding) × AtRest c j here × (leastNet (Weekly Regular) + at (now compensations) j ≤ lengthAt c j) × Sound c (now nogoods)) ⌝ }
+    ensures { λ r. ⌜ (let c = courseAt starts ends nets compensations s in FirstWeekly c j here (now (outstanding .entry)) (r .week) (r .carrier)
+        × (now (outstanding .exit) ≡ now (outstanding .entry)) × (now (compensations .exit) ≡ now (compensations .entry)) × Sound c (now (nogoods .exit))) ⌝ }
 {
     let end = ends[j];
     let mut w = starts[j] / recording::WEEK_MINUTES;
@@ -309,9 +310,9 @@ fn first_weekly(
             starts,
             ends,
             nets,
-            loads,
+            compensations,
             s,
-            owed,
+            outstanding,
             nogoods,
             front,
             other,
@@ -348,16 +349,16 @@ fn put_entry(reading: &mut [u8], j: usize, kind: u8, week: u8, carrier: u8)
     reading[third] = carrier;
 }
 
-// So many minutes are added to the load of the rest of number x, if that is one.
-fn add_load(loads: &mut [u32], x: usize, less: u32)
-    requires { ⌜ (x ≤ length (now loads)) × ((i : ℕ) → x ≡ suc i → at (now loads) i + less ≤ totalAtMost) ⌝ }
-    ensures { λ r. ⌜ now (loads .exit) ≡ paid (now (loads .entry)) x less ⌝ }
+// So many minutes are added to the compensation of the rest of number x, if that is one.
+fn add_compensation(compensations: &mut [u32], x: usize, less: u32)
+    requires { ⌜ (x ≤ length (now compensations)) × ((i : ℕ) → x ≡ suc i → at (now compensations) i + less ≤ totalAtMost) ⌝ }
+    ensures { λ r. ⌜ now (compensations .exit) ≡ addedTo (now (compensations .entry)) x less ⌝ }
 {
     if x == 0 {
         return;
     }
     let i = x - 1;
-    loads[i] = loads[i] + less;
+    compensations[i] = compensations[i] + less;
 }
 
 // The rest of index j is daily.
@@ -365,17 +366,17 @@ fn put_daily(
     starts: &[u32],
     ends: &[u32],
     nets: &[u32],
-    loads: &[u32],
+    compensations: &[u32],
     s: u32,
     reading: &mut [u8],
     j: usize,
     here: State,
 ) -> State
-    requires { ⌜ (let c = courseNow starts ends nets loads s in Limited c × AtRest c j here × (length (now reading) ≡ entryBytes * count c)) ⌝ }
-    ensures { λ r. ⌜ (let c = courseAt starts ends nets loads s in PutDaily c j here (now (reading .entry)) (now (reading .exit)) r) ⌝ }
+    requires { ⌜ (let c = courseNow starts ends nets compensations s in Limited c × AtRest c j here × (length (now reading) ≡ entryBytes * count c)) ⌝ }
+    ensures { λ r. ⌜ (let c = courseAt starts ends nets compensations s in PutDaily c j here (now (reading .entry)) (now (reading .exit)) r) ⌝ }
 {
     put_entry(reading, j, DAILY_KIND, 0, 0);
-    let short = verdict_steps::is_short(ends[j] - starts[j], nets[j], loads[j]);
+    let short = verdict_steps::is_short(ends[j] - starts[j], nets[j], compensations[j]);
     let next = verdict_steps::after_daily(here, short);
     if rules_reading::SHORTENED_AT_MOST < next.short {
         return here;
@@ -388,7 +389,7 @@ fn put_weekly(
     starts: &[u32],
     ends: &[u32],
     nets: &[u32],
-    loads: &mut [u32],
+    compensations: &mut [u32],
     s: u32,
     reading: &mut [u8],
     j: usize,
@@ -396,8 +397,8 @@ fn put_weekly(
     w: u32,
     x: usize,
 ) -> State
-    requires { ⌜ (let c = courseNow starts ends nets loads s in Limited c × AtRest c j here × (length (now reading) ≡ entryBytes * count c) × (x ≤ count c → Fits c j w x)) ⌝ }
-    ensures { λ r. ⌜ (let c = courseAt starts ends nets loads s in let d = withLoads c (now (loads .exit)) in
+    requires { ⌜ (let c = courseNow starts ends nets compensations s in Limited c × AtRest c j here × (length (now reading) ≡ entryBytes * count c) × (x ≤ count c → Fits c j w x)) ⌝ }
+    ensures { λ r. ⌜ (let c = courseAt starts ends nets compensations s in let d = withCompensations c (now (compensations .exit)) in
         PutWeekly c d j here w x (now (reading .entry)) (now (reading .exit)) r) ⌝ }
 {
     if starts.len() < x {
@@ -407,19 +408,19 @@ fn put_weekly(
         return here;
     };
     let rest = rules_reading::rest_week(starts, ends, starts.len(), w);
-    let load = loads[j];
+    let compensation = compensations[j];
     let minutes = ends[j] - starts[j];
     put_entry(reading, j, WEEKLY_KIND, (w % 256) as u8, (x % 256) as u8);
-    add_load(loads, x, reduction(minutes, load));
+    add_compensation(compensations, x, lacking(minutes, compensation));
     verdict_steps::after_weekly(
         there,
         rest,
-        rules_reading::REGULAR + load <= minutes,
+        rules_reading::REGULAR + compensation <= minutes,
         ends[j],
     )
 }
 
-// The nogoods are emptied where the load of the rest of number x, if that is one, has grown.
+// The nogoods are emptied where the compensation of the rest of number x, if that is one, has grown.
 fn renew(nogoods: &mut [u32], k: usize, x: usize)
     ensures { λ _. ⌜ Renewed k x (now (nogoods .entry)) (now (nogoods .exit)) ⌝ }
 {
@@ -434,9 +435,9 @@ fn place(
     starts: &[u32],
     ends: &[u32],
     nets: &[u32],
-    loads: &mut [u32],
+    compensations: &mut [u32],
     s: u32,
-    owed: &mut [u32],
+    outstanding: &mut [u32],
     nogoods: &mut [u32],
     front: &mut [u32],
     other: &mut [u32],
@@ -446,10 +447,10 @@ fn place(
     j: usize,
     st: State,
 ) -> State
-    requires { ⌜ (let c = courseNow starts ends nets loads s in
-        Lent c (now owed) × Zeros (now owed) × Before c j st × (j < count c) × (length (now reading) ≡ entryBytes * count c) × Sound c (now nogoods)) ⌝ }
-    ensures { λ r. ⌜ (let c = courseAt starts ends nets loads s in let d = withLoads c (now (loads .exit)) in
-        Stepped c d j st (now (owed .entry)) (now (owed .exit)) (now (nogoods .exit)) (now (reading .entry)) (now (reading .exit)) r) ⌝ }
+    requires { ⌜ (let c = courseNow starts ends nets compensations s in
+        Lent c (now outstanding) × Zeros (now outstanding) × Before c j st × (j < count c) × (length (now reading) ≡ entryBytes * count c) × Sound c (now nogoods)) ⌝ }
+    ensures { λ r. ⌜ (let c = courseAt starts ends nets compensations s in let d = withCompensations c (now (compensations .exit)) in
+        Stepped c d j st (now (outstanding .entry)) (now (outstanding .exit)) (now (nogoods .exit)) (now (reading .entry)) (now (reading .exit)) r) ⌝ }
 {
     let Brought::To(here) = verdict_steps::advance(
         starts,
@@ -460,16 +461,16 @@ fn place(
     ) else {
         return verdict_steps::best_state(starts[j]);
     };
-    if ends[j] - starts[j] < rules_reading::WEEKLY_NET + loads[j] {
-        return put_daily(starts, ends, nets, loads, s, reading, j, here);
+    if ends[j] - starts[j] < rules_reading::WEEKLY_NET + compensations[j] {
+        return put_daily(starts, ends, nets, compensations, s, reading, j, here);
     }
-    if daily_goes(
+    if can_be_daily(
         starts,
         ends,
         nets,
-        loads,
+        compensations,
         s,
-        owed,
+        outstanding,
         nogoods,
         front,
         other,
@@ -478,15 +479,15 @@ fn place(
         j,
         here,
     ) {
-        return put_daily(starts, ends, nets, loads, s, reading, j, here);
+        return put_daily(starts, ends, nets, compensations, s, reading, j, here);
     }
     let choice = first_weekly(
         starts,
         ends,
         nets,
-        loads,
+        compensations,
         s,
-        owed,
+        outstanding,
         nogoods,
         front,
         other,
@@ -499,7 +500,7 @@ fn place(
         starts,
         ends,
         nets,
-        loads,
+        compensations,
         s,
         reading,
         j,
@@ -511,14 +512,14 @@ fn place(
     next
 }
 
-// All rests are read, where no rest has a load and nothing is owed.
+// All rests are read, where no rest has a compensation and nothing is outstanding.
 fn write_entries(
     starts: &[u32],
     ends: &[u32],
     nets: &[u32],
-    loads: &mut [u32],
+    compensations: &mut [u32],
     s: u32,
-    owed: &mut [u32],
+    outstanding: &mut [u32],
     nogoods: &mut [u32],
     front: &mut [u32],
     other: &mut [u32],
@@ -526,8 +527,8 @@ fn write_entries(
     beside: &mut [u32],
     reading: &mut [u8],
 )
-    requires { ⌜ (let c = courseNow starts ends nets loads s in
-        Lent c (now owed) × Zeros (now loads) × Zeros (now owed) × (length (now reading) ≡ entryBytes * count c) × Sound c (now nogoods)) ⌝ }
+    requires { ⌜ (let c = courseNow starts ends nets compensations s in
+        Lent c (now outstanding) × Zeros (now compensations) × Zeros (now outstanding) × (length (now reading) ≡ entryBytes * count c) × Sound c (now nogoods)) ⌝ }
     ensures { λ r. ⌜ (let c = restsOnly (now (starts .entry)) (now (ends .entry)) (now (nets .entry)) s in
         (f : List ℕ) → Least c f → now (reading .exit) ≡ f) ⌝ }
 {
@@ -543,9 +544,9 @@ fn write_entries(
             starts,
             ends,
             nets,
-            loads,
+            compensations,
             s,
-            owed,
+            outstanding,
             nogoods,
             front,
             other,
@@ -579,16 +580,16 @@ pub fn write_first(
         (f : List ℕ) → Least c f → now (reading .exit) ≡ f) ⌝ }
 {
     let k = starts.len();
-    let mut loads = [0u32; recording::LONG_RESTS];
-    let mut owed = [0u32; recording::LONG_RESTS];
+    let mut compensations = [0u32; recording::LONG_RESTS];
+    let mut outstanding = [0u32; recording::LONG_RESTS];
     verdict_nogoods::clear(nogoods, k);
     write_entries(
         starts,
         ends,
         nets,
-        &mut loads[..k],
+        &mut compensations[..k],
         s,
-        &mut owed[..k],
+        &mut outstanding[..k],
         nogoods,
         front,
         other,

@@ -6,7 +6,6 @@ use mathlib.Core.List.{List, [], _∷_}
 use Prim.Native.Nat.{ℕ, zero, suc, _+_, _-_, _≤_, _<_}
 use native.Mathlib.Nat.{le-refl}
 use native.Mathlib.Omega.{arith}
-use lib.Dec.{ltb}
 use lib.ListN.{length, set, List·getD-eq-default}
 use borrow.Author.Tests.{lt-ltb, le-ltb}
 use Rattle.recording.specs.Tests.{pick}
@@ -15,13 +14,13 @@ use Rattle.rules_reading.specs.Items.{Zeros}
 use Rattle.verdict_completion.specs.declared.State.{State}
 use Rattle.verdict_completion.specs.Completable.{at}
 use Rattle.verdict_completion.specs.Better.{Within}
-use Rattle.verdict_nogoods.specs.Table.{stateWords, debtsAtMost, entryWords, debtsOf, debtPlace, debtIn, owing, stated, PutAll}
+use Rattle.verdict_nogoods.specs.Table.{stateWords, reductionsAtMost, entryWords, reductionsOf, reductionPlace, reductionIn, outstandingCount, stated, PutAll}
 use Rattle.verdict_nogoods.proofs.TableLaws.{same, skip, stated-other, stated-first, stated-at, PairedBelow}
-use Rattle.verdict_fronts.specs.Front.{entryAt, slotIn, wordsBy, owedIn, Paired, Same, Copied, Held, Beats, Beaten, AllBeaten}
-use Rattle.verdict_fronts.specs.Front.{Stays, stays, goes, From, Removed, Comes, old, fresh, Remains, there, beaten, Stands, itself, other, Placed, PlacedState}
+use Rattle.verdict_fronts.specs.Front.{entryAt, slotIn, wordsBy, outstandingIn, Paired, Same, Copied, Held, Dominates, Dominated, AllDominated}
+use Rattle.verdict_fronts.specs.Front.{Stays, stays, goes, From, Removed, Comes, old, fresh, Remains, there, dominated, Stands, itself, other, Placed, PlacedState}
 
--- ---- debts compared
-pub paired-all : {a b : List ℕ} {p q d i : ℕ} → PairedBelow (debtIn a p) (debtIn b q) d i → debtsOf a p ≤ d → i ≤ debtsOf b q → debtsOf b q ≤ debtsAtMost
+-- ---- reductions compared
+pub paired-all : {a b : List ℕ} {p q d i : ℕ} → PairedBelow (reductionIn a p) (reductionIn b q) d i → reductionsOf a p ≤ d → i ≤ reductionsOf b q → reductionsOf b q ≤ reductionsAtMost
     → Paired a p b q
 paired-all before l m few = record {
   to = before .to;
@@ -85,27 +84,27 @@ same-first {a} {b} {p} {q} f =
     let g : q + 0 ≡ q = omega arith in
     ap (at a) (sym e) ∙ f .word 0 (omega arith) ∙ ap (at b) g
 
-pub same-debt : {a b : List ℕ} {p q : ℕ} → Same a p b q → (d : ℕ) → d < debtsAtMost → debtIn a p d ≡ debtIn b q d
-same-debt {a} {b} {p} {q} f d l =
-    let e : debtPlace p d ≡ p + (stateWords + d) = omega arith in
-    let g : q + (stateWords + d) ≡ debtPlace q d = omega arith in
+pub same-reduction : {a b : List ℕ} {p q : ℕ} → Same a p b q → (d : ℕ) → d < reductionsAtMost → reductionIn a p d ≡ reductionIn b q d
+same-reduction {a} {b} {p} {q} f d l =
+    let e : reductionPlace p d ≡ p + (stateWords + d) = omega arith in
+    let g : q + (stateWords + d) ≡ reductionPlace q d = omega arith in
     ap (at a) e ∙ f .word (stateWords + d) (omega arith) ∙ ap (at b) g
 
 -- entries in terms of one another: beaten, after words that are the same
-pub beats-back : {a b t : List ℕ} {r p q : ℕ} → Same b q t p → Beats a r b q → Beats a r t p
-beats-back {a} {b} {t} {r} {p} {q} f h = record {
+pub dominates-back : {a b t : List ℕ} {r p q : ℕ} → Same b q t p → Dominates a r b q → Dominates a r t p
+dominates-back {a} {b} {t} {r} {p} {q} f h = record {
   ended = omega (arith, h .ended, same-first f);
   short = omega (arith, h .short, f .word 1 (omega arith));
   weekly-before = omega (arith, h .weekly-before, f .word 2 (omega arith));
   regular-before = omega (arith, h .regular-before, f .word 3 (omega arith));
   weekly = omega (arith, h .weekly, f .word 4 (omega arith));
   regular = omega (arith, h .regular, f .word 5 (omega arith));
-  debts = record {
-    to = h .debts .to;
-    below = λ d l. omega (arith, h .debts .below d l, f .word 6 (omega arith));
-    within = λ d l. subst (Within (debtIn a r d)) (same-debt f (h .debts .to d) (omega (arith, h .debts .below d l, h .debts .few))) (h .debts .within d l);
-    rises = h .debts .rises;
-    few = omega (arith, h .debts .few, f .word 6 (omega arith));
+  reductions = record {
+    to = h .reductions .to;
+    below = λ d l. omega (arith, h .reductions .below d l, f .word 6 (omega arith));
+    within = λ d l. subst (Within (reductionIn a r d)) (same-reduction f (h .reductions .to d) (omega (arith, h .reductions .below d l, h .reductions .few))) (h .reductions .within d l);
+    rises = h .reductions .rises;
+    few = omega (arith, h .reductions .few, f .word 6 (omega arith));
   };
 }
 
@@ -117,21 +116,21 @@ pub copied-by : {t t₁ t₂ a : List ℕ} {p q : ℕ} → Same t₁ 0 a p → C
 copied-by f c = record { there = same-then (c .there) f; other = c .other }
 
 -- ---- fronts compared: the entries from i on, below n
-pub record BeatenFrom (a : List ℕ) (n : ℕ) (b : List ℕ) (m i : ℕ) : Type 0 where
-  pub each : (e : ℕ) → i ≤ e → e < n → Beaten b m a (entryAt e)
+pub record DominatedFrom (a : List ℕ) (n : ℕ) (b : List ℕ) (m i : ℕ) : Type 0 where
+  pub each : (e : ℕ) → i ≤ e → e < n → Dominated b m a (entryAt e)
 
-pub beaten-start : (a : List ℕ) (n : ℕ) (b : List ℕ) (m : ℕ) → BeatenFrom a n b m n
-beaten-start a n b m = record { each = λ e l h. absurd (omega arith) }
+pub dominated-start : (a : List ℕ) (n : ℕ) (b : List ℕ) (m : ℕ) → DominatedFrom a n b m n
+dominated-start a n b m = record { each = λ e l h. absurd (omega arith) }
 
-pub beaten-on : {a b : List ℕ} {n m i : ℕ} → Beaten b m a (entryAt (i - 1)) → BeatenFrom a n b m i → BeatenFrom a n b m (i - 1)
-beaten-on {a} {b} {n} {m} {i} this before = record { each = λ e l h. go e l h (less-or-not e i) }
+pub dominated-on : {a b : List ℕ} {n m i : ℕ} → Dominated b m a (entryAt (i - 1)) → DominatedFrom a n b m i → DominatedFrom a n b m (i - 1)
+dominated-on {a} {b} {n} {m} {i} this before = record { each = λ e l h. go e l h (less-or-not e i) }
   where
-    go : (e : ℕ) → i - 1 ≤ e → e < n → (e < i) ⊎ (i ≤ e) → Beaten b m a (entryAt e)
-    go e l h (inl f) = let q : i - 1 ≡ e = omega arith in subst (λ (x : ℕ). Beaten b m a (entryAt x)) q this
+    go : (e : ℕ) → i - 1 ≤ e → e < n → (e < i) ⊎ (i ≤ e) → Dominated b m a (entryAt e)
+    go e l h (inl f) = let q : i - 1 ≡ e = omega arith in subst (λ (x : ℕ). Dominated b m a (entryAt x)) q this
     go e l h (inr f) = before .each e f h
 
-pub beaten-all : {a b : List ℕ} {n m i : ℕ} → i ≤ 0 → BeatenFrom a n b m i → AllBeaten a n b m
-beaten-all z h = record { each = λ e l. h .each e (omega arith) l }
+pub dominated-all : {a b : List ℕ} {n m i : ℕ} → i ≤ 0 → DominatedFrom a n b m i → AllDominated a n b m
+dominated-all z h = record { each = λ e l. h .each e (omega arith) l }
 
 -- ---- entries removed
 pub removed-start : (t new : List ℕ) → Removed t t new 0 0
@@ -142,7 +141,7 @@ module _ {t t′ new : List ℕ} {i r : ℕ} (before : Removed t t′ new i r) w
   here = same-kept (entryAt i) (λ x l _. before .rest x l)
 
   -- the new one is at least as good as the next entry
-  pub removed-out : Beats new 0 t′ (entryAt i) → Removed t t′ new (i + 1) r
+  pub removed-out : Dominates new 0 t′ (entryAt i) → Removed t t′ new (i + 1) r
   removed-out b = record {
     fewer = omega (arith, before .fewer);
     rest = λ x l. before .rest x (omega arith);
@@ -158,7 +157,7 @@ module _ {t t′ new : List ℕ} {i r : ℕ} (before : Removed t t′ new i r) w
       go e l (inl m) = wider e (before .to e m)
       go e l (inr m) =
           let q : i ≡ e = omega arith in
-          subst (λ (x : ℕ). Stays t t′ new (i + 1) r x) q (goes (omega (arith, before .fewer)) (beats-back here b))
+          subst (λ (x : ℕ). Stays t t′ new (i + 1) r x) q (goes (omega (arith, before .fewer)) (dominates-back here b))
 
   -- the next entry moves up
   pub removed-on : {t″ : List ℕ} → Copied t′ t″ t′ (entryAt i) (entryAt r) → Removed t t″ new (i + 1) (r + 1)
@@ -201,10 +200,10 @@ unmoved {t} room found = record {
   found = found;
 }
 
-pub dropped : {t new : List ℕ} {n : ℕ} → entryAt n ≤ length t → Beaten t n new 0 → Placed t t new n n true
+pub dropped : {t new : List ℕ} {n : ℕ} → entryAt n ≤ length t → Dominated t n new 0 → Placed t t new n n true
 dropped room b = unmoved room (λ _. other b)
 
-pub not-placed : {t owed : List ℕ} {n m : ℕ} {st : State} → entryAt n ≤ length t → PlacedState t t owed m st n n false
+pub not-placed : {t outstanding : List ℕ} {n m : ℕ} {st : State} → entryAt n ≤ length t → PlacedState t t outstanding m st n n false
 not-placed room = record { new = []; held = λ h. absurd (false≢true h); placed = unmoved room (λ h. absurd (false≢true h)) }
 
 module _ {t t′ new : List ℕ} {n r : ℕ} (w : Removed t t′ new n r) where
@@ -238,14 +237,14 @@ module _ {t t′ new : List ℕ} {n r : ℕ} (w : Removed t t′ new n r) where
 
       go : (e : ℕ) → Stays t t′ new n r e → Remains t t″ new (r + 1) true e
       go e (stays x m s) = there x (omega arith) (same-then (kept x m) s)
-      go e (goes m s) = beaten refl s
+      go e (goes m s) = dominated refl s
 
 -- ---- an entry written and read
-module _ (t t₁ owed : List ℕ) (m d : ℕ) (st : State) (room : entryWords ≤ length t₁) (few : d ≤ debtsAtMost) (debts : PutAll t t₁ 0 owed m d) where
+module _ (t t₁ outstanding : List ℕ) (m d : ℕ) (st : State) (room : entryWords ≤ length t₁) (few : d ≤ reductionsAtMost) (reductions : PutAll t t₁ 0 outstanding m d) where
   room₁ : 0 + entryWords ≤ length t₁
   room₁ = omega arith
 
-  pub held : Held (stated t₁ 0 st d) 0 st owed m
+  pub held : Held (stated t₁ 0 st d) 0 st outstanding m
   held = record {
     ended = stated-first t₁ 0 st d room₁;
     short = stated-at t₁ 0 st d room₁ 0 1 (omega arith) (omega arith);
@@ -254,18 +253,18 @@ module _ (t t₁ owed : List ℕ) (m d : ℕ) (st : State) (room : entryWords �
     weekly = stated-at t₁ 0 st d room₁ 3 4 (omega arith) (omega arith);
     regular = stated-at t₁ 0 st d room₁ 4 5 (omega arith) (omega arith);
     few = omega (arith, many);
-    count = many ∙ debts .count;
-    debt = λ i l h. stated-other t₁ 0 st d room₁ (debtPlace 0 (owing owed i)) (inr (omega arith)) ∙ debts .debt i l h;
+    count = many ∙ reductions .count;
+    reduction = λ i l h. stated-other t₁ 0 st d room₁ (reductionPlace 0 (outstandingCount outstanding i)) (inr (omega arith)) ∙ reductions .reduction i l h;
   }
     where
       many : at (stated t₁ 0 st d) 6 ≡ d
       many = stated-at t₁ 0 st d room₁ 5 6 (omega arith) (omega arith)
 
-pub no-slot : (t : List ℕ) (p d : ℕ) → debtsOf t p ≤ d → slotIn t p d ≡ 0
-no-slot t p d l = ap (λ (b : Bool). pick b (debtIn t p d) 0) (le-ltb d (debtsOf t p) l)
+pub no-slot : (t : List ℕ) (p d : ℕ) → reductionsOf t p ≤ d → slotIn t p d ≡ 0
+no-slot t p d l = ap (λ (b : Bool). pick b (reductionIn t p d) 0) (le-ltb d (reductionsOf t p) l)
 
-pub a-slot : (t : List ℕ) (p d : ℕ) → d < debtsOf t p → slotIn t p d ≡ debtIn t p d
-a-slot t p d l = ap (λ (b : Bool). pick b (debtIn t p d) 0) (lt-ltb d (debtsOf t p) l)
+pub a-slot : (t : List ℕ) (p d : ℕ) → d < reductionsOf t p → slotIn t p d ≡ reductionIn t p d
+a-slot t p d l = ap (λ (b : Bool). pick b (reductionIn t p d) 0) (lt-ltb d (reductionsOf t p) l)
 
 pub words-length : (f : ℕ → ℕ) (i k : ℕ) → length (wordsBy f i k) ≡ k
 unfolding wordsBy
@@ -298,7 +297,7 @@ unfolding wordsBy
 words-same f g i zero h = refl
 words-same f g i (suc k) h = ap (λ (y : ℕ). y ∷ wordsBy f (suc i) k) (h i) ∙ ap (λ (q : List ℕ). g i ∷ q) (words-same f g (suc i) k h)
 
--- the first i slots have no debt
+-- the first i slots have no reduction
 pub record Cleared (l : List ℕ) (i : ℕ) : Type 0 where
   pub none : (d : ℕ) → d < i → at l d ≡ 0
 
@@ -319,7 +318,7 @@ cleared-all {l} {i} m h d = go (less-or-not d i)
     go (inl f) = h .none d f
     go (inr f) = List·getD-eq-default l 0 (omega arith)
 
--- the first i slots are written, and no other has a debt
+-- the first i slots are written, and no other has a reduction
 pub record Written (t : List ℕ) (p : ℕ) (l : List ℕ) (i : ℕ) : Type 0 where
   pub word : (d : ℕ) → d < i → at l d ≡ slotIn t p d
   pub none : (d : ℕ) → i ≤ d → at l d ≡ 0
@@ -337,7 +336,7 @@ written-on {t} {l} {p} {i} w room e before = record {
     go d h (inl f) = skip l i d w (λ q. omega arith) ∙ before .word d f
     go d h (inr f) = let q : i ≡ d = omega arith in subst (λ (x : ℕ). at (set l i w) x ≡ slotIn t p x) q (same l i w room ∙ e)
 
-pub written-all : {t l : List ℕ} {p i k : ℕ} → length l ≡ k → debtsOf t p ≤ i → Written t p l i → l ≡ owedIn t p k
+pub written-all : {t l : List ℕ} {p i k : ℕ} → length l ≡ k → reductionsOf t p ≤ i → Written t p l i → l ≡ outstandingIn t p k
 written-all {t} {l} {p} {i} {k} e m h =
     words-are (slotIn t p) 0 l (λ d f. go d (less-or-not d i) ∙ ap (slotIn t p) (let g : d ≡ 0 + d = omega arith in g)) ∙ ap (λ (x : ℕ). wordsBy (slotIn t p) 0 x) e
   where

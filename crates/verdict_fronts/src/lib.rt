@@ -2,17 +2,17 @@
 // is that in which the rest starts. The first n entries are in use; the slice may have any length, and holds as many as it has room for.
 use verdict_completion::Counts;
 use verdict_completion::State;
-use verdict_nogoods::DEBT_AT;
-use verdict_nogoods::DEBTS_AT;
-use verdict_nogoods::DEBTS_AT_MOST;
 use verdict_nogoods::ENTRY_WORDS;
+use verdict_nogoods::REDUCTION_AT;
+use verdict_nogoods::REDUCTIONS_AT;
+use verdict_nogoods::REDUCTIONS_AT_MOST;
 ghost use mathlib.Core.Path.{_≡_};
 ghost use mathlib.Core.Bool.{true};
 ghost use Prim.Native.Nat.{_+_, _≤_};
 ghost use lib.ListN.{length};
 ghost use Rattle.rules_reading.specs.Items.{Zeros};
-ghost use Rattle.verdict_nogoods.specs.Table.{debtsAtMost, entryWords, debtsOf};
-ghost use Rattle.verdict_fronts.specs.Front.{entryAt, stateIn, owedIn, Paired, Beats, Copied, Held, Beaten, AllBeaten, Removed, Placed, PlacedState};
+ghost use Rattle.verdict_nogoods.specs.Table.{reductionsAtMost, entryWords, reductionsOf};
+ghost use Rattle.verdict_fronts.specs.Front.{entryAt, stateIn, outstandingIn, Paired, Dominates, Copied, Held, Dominated, AllDominated, Removed, Placed, PlacedState};
 
 // How many entries are in use after a state was put into a front, and whether it found its place there or needs none.
 pub struct Grown {
@@ -20,17 +20,17 @@ pub struct Grown {
     pub fits: bool,
 }
 
-// Each debt of the entry at p of a lies within one of the entry at q of b, in order: within the first that fits, after that of the debt before.
-fn debts_within(a: &[u32], p: usize, b: &[u32], q: usize) -> bool
+// Each reduction of the entry at p of a lies within one of the entry at q of b, in order: within the first that fits, after that of the reduction before.
+fn reductions_within(a: &[u32], p: usize, b: &[u32], q: usize) -> bool
     requires { ⌜ (p + entryWords ≤ length (now a)) × (q + entryWords ≤ length (now b)) ⌝ }
     ensures { λ r. ⌜ (r ≡ true → Paired (now (a .entry)) p (now (b .entry)) q) ⌝ }
 {
-    let stored = a[p + DEBTS_AT];
-    if DEBTS_AT_MOST < stored {
+    let stored = a[p + REDUCTIONS_AT];
+    if REDUCTIONS_AT_MOST < stored {
         return false;
     }
-    let present = b[q + DEBTS_AT];
-    if DEBTS_AT_MOST < present {
+    let present = b[q + REDUCTIONS_AT];
+    if REDUCTIONS_AT_MOST < present {
         return false;
     }
     let m = stored as usize;
@@ -41,21 +41,21 @@ fn debts_within(a: &[u32], p: usize, b: &[u32], q: usize) -> bool
         if n - i < m - d {
             return false;
         }
-        let other = b[q + DEBT_AT + i];
+        let other = b[q + REDUCTION_AT + i];
         i += 1;
-        if verdict_nogoods::lies_within(a[p + DEBT_AT + d], other) {
+        if verdict_nogoods::lies_within(a[p + REDUCTION_AT + d], other) {
             d += 1;
         }
     }
     true
 }
 
-// The entry at p of a is at least as good as the entry at q of b. One with more debts is not; that is seen first.
-fn beats(a: &[u32], p: usize, b: &[u32], q: usize) -> bool
+// The entry at p of a is at least as good as the entry at q of b. One with more reductions is not; that is seen first.
+fn dominates(a: &[u32], p: usize, b: &[u32], q: usize) -> bool
     requires { ⌜ (p + entryWords ≤ length (now a)) × (q + entryWords ≤ length (now b)) ⌝ }
-    ensures { λ r. ⌜ (r ≡ true → Beats (now (a .entry)) p (now (b .entry)) q) ⌝ }
+    ensures { λ r. ⌜ (r ≡ true → Dominates (now (a .entry)) p (now (b .entry)) q) ⌝ }
 {
-    if b[q + DEBTS_AT] < a[p + DEBTS_AT] {
+    if b[q + REDUCTIONS_AT] < a[p + REDUCTIONS_AT] {
         return false;
     }
     if a[p] < b[q] {
@@ -76,18 +76,18 @@ fn beats(a: &[u32], p: usize, b: &[u32], q: usize) -> bool
     if a[p + 5] < b[q + 5] {
         return false;
     }
-    debts_within(a, p, b, q)
+    reductions_within(a, p, b, q)
 }
 
 // One of the first n entries is at least as good as the entry at q of another slice.
-fn beaten(front: &[u32], n: usize, other: &[u32], q: usize) -> bool
+fn dominated(front: &[u32], n: usize, other: &[u32], q: usize) -> bool
     requires { ⌜ (entryAt n ≤ length (now front)) × (q + entryWords ≤ length (now other)) ⌝ }
-    ensures { λ r. ⌜ (r ≡ true → Beaten (now (front .entry)) n (now (other .entry)) q) ⌝ }
+    ensures { λ r. ⌜ (r ≡ true → Dominated (now (front .entry)) n (now (other .entry)) q) ⌝ }
 {
     let mut e = n;
     while 0 < e {
         e -= 1;
-        if beats(front, ENTRY_WORDS * e, other, q) {
+        if dominates(front, ENTRY_WORDS * e, other, q) {
             return true;
         }
     }
@@ -97,12 +97,12 @@ fn beaten(front: &[u32], n: usize, other: &[u32], q: usize) -> bool
 // For each of the first n entries of a one of the first m of b is at least as good.
 pub fn covers_all(a: &[u32], n: usize, b: &[u32], m: usize) -> bool
     requires { ⌜ (entryAt n ≤ length (now a)) × (entryAt m ≤ length (now b)) ⌝ }
-    ensures { λ r. ⌜ (r ≡ true → AllBeaten (now (a .entry)) n (now (b .entry)) m) ⌝ }
+    ensures { λ r. ⌜ (r ≡ true → AllDominated (now (a .entry)) n (now (b .entry)) m) ⌝ }
 {
     let mut e = n;
     while 0 < e {
         e -= 1;
-        if !beaten(b, m, a, ENTRY_WORDS * e) {
+        if !dominated(b, m, a, ENTRY_WORDS * e) {
             return false;
         }
     }
@@ -135,7 +135,7 @@ fn move_entry(front: &mut [u32], p: usize, q: usize)
 }
 
 // The entries that the new one is at least as good as are removed, the others move up; how many are left.
-fn remove_beaten(front: &mut [u32], n: usize, new: &[u32]) -> usize
+fn remove_dominated(front: &mut [u32], n: usize, new: &[u32]) -> usize
     requires { ⌜ (entryAt n ≤ length (now front)) × (entryWords ≤ length (now new)) ⌝ }
     ensures { λ r. ⌜ Removed (now (front .entry)) (now (front .exit)) (now (new .entry)) n r ⌝ }
 {
@@ -144,7 +144,7 @@ fn remove_beaten(front: &mut [u32], n: usize, new: &[u32]) -> usize
     while i < n {
         let p = ENTRY_WORDS * i;
         i += 1;
-        if !beats(new, 0, front, p) {
+        if !dominates(new, 0, front, p) {
             move_entry(front, p, ENTRY_WORDS * r);
             r += 1;
         }
@@ -158,10 +158,10 @@ fn put_entry(front: &mut [u32], n: usize, new: &[u32]) -> Grown
     requires { ⌜ (entryAt n ≤ length (now front)) × (entryWords ≤ length (now new)) ⌝ }
     ensures { λ r. ⌜ Placed (now (front .entry)) (now (front .exit)) (now (new .entry)) n (r .n) (r .fits) ⌝ }
 {
-    if beaten(front, n, new, 0) {
+    if dominated(front, n, new, 0) {
         return Grown { n: n, fits: true };
     }
-    let left = remove_beaten(front, n, new);
+    let left = remove_dominated(front, n, new);
     if front.len() / ENTRY_WORDS <= left {
         return Grown {
             n: left,
@@ -175,30 +175,30 @@ fn put_entry(front: &mut [u32], n: usize, new: &[u32]) -> Grown
     }
 }
 
-// Writes a state and what is owed in the first m slots as an entry at the first place, if there are few enough debts.
-fn write_entry(new: &mut [u32], owed: &[u32], m: usize, st: State) -> bool
-    requires { ⌜ (entryWords ≤ length (now new)) × (m ≤ length (now owed)) ⌝ }
-    ensures { λ r. ⌜ (r ≡ true → Held (now (new .exit)) 0 st (now (owed .entry)) m) ⌝ }
+// Writes a state and what is outstanding in the first m slots as an entry at the first place, if there are few enough reductions.
+fn write_entry(new: &mut [u32], outstanding: &[u32], m: usize, st: State) -> bool
+    requires { ⌜ (entryWords ≤ length (now new)) × (m ≤ length (now outstanding)) ⌝ }
+    ensures { λ r. ⌜ (r ≡ true → Held (now (new .exit)) 0 st (now (outstanding .entry)) m) ⌝ }
 {
-    let most = DEBTS_AT_MOST as usize;
-    if most < verdict_nogoods::debts(owed, m) {
+    let most = REDUCTIONS_AT_MOST as usize;
+    if most < verdict_nogoods::reductions(outstanding, m) {
         return false;
     }
-    let d = verdict_nogoods::put_debts(new, owed, m, 0);
+    let d = verdict_nogoods::put_reductions(new, outstanding, m, 0);
     verdict_nogoods::put_state(new, 0, st, d);
     true
 }
 
-// The same, of a state and what is owed in the first m slots. It does not fit either where there are too many debts, or no room for any entry.
-pub fn put(front: &mut [u32], n: usize, owed: &[u32], m: usize, st: State) -> Grown
-    requires { ⌜ (entryAt n ≤ length (now front)) × (m ≤ length (now owed)) ⌝ }
-    ensures { λ r. ⌜ PlacedState (now (front .entry)) (now (front .exit)) (now (owed .entry)) m st n (r .n) (r .fits) ⌝ }
+// The same, of a state and what is outstanding in the first m slots. It does not fit either where there are too many reductions, or no room for any entry.
+pub fn put(front: &mut [u32], n: usize, outstanding: &[u32], m: usize, st: State) -> Grown
+    requires { ⌜ (entryAt n ≤ length (now front)) × (m ≤ length (now outstanding)) ⌝ }
+    ensures { λ r. ⌜ PlacedState (now (front .entry)) (now (front .exit)) (now (outstanding .entry)) m st n (r .n) (r .fits) ⌝ }
 {
     if front.len() < ENTRY_WORDS {
         return Grown { n: n, fits: false };
     }
     let mut new = [0u32; ENTRY_WORDS];
-    if !write_entry(&mut new, owed, m, st) {
+    if !write_entry(&mut new, outstanding, m, st) {
         return Grown { n: n, fits: false };
     }
     put_entry(front, n, &new)
@@ -226,37 +226,37 @@ pub fn state_in(front: &[u32], p: usize, w: u32) -> State
     }
 }
 
-// How many debts the entry at p has.
-pub fn debts_in(front: &[u32], p: usize) -> usize
-    requires { ⌜ (p + entryWords ≤ length (now front)) × (debtsOf (now front) p ≤ debtsAtMost) ⌝ }
-    ensures { λ r. ⌜ r ≡ debtsOf (now (front .entry)) p ⌝ }
+// How many reductions the entry at p has.
+pub fn reductions_in(front: &[u32], p: usize) -> usize
+    requires { ⌜ (p + entryWords ≤ length (now front)) × (reductionsOf (now front) p ≤ reductionsAtMost) ⌝ }
+    ensures { λ r. ⌜ r ≡ reductionsOf (now (front .entry)) p ⌝ }
 {
-    let m = front[p + DEBTS_AT];
+    let m = front[p + REDUCTIONS_AT];
     m as usize
 }
 
-// No slot has a debt.
-fn clear_slots(owed: &mut [u32])
-    ensures { λ _. ⌜ Zeros (now (owed .exit)) ⌝ }
+// No slot has a reduction.
+fn clear_slots(outstanding: &mut [u32])
+    ensures { λ _. ⌜ Zeros (now (outstanding .exit)) ⌝ }
 {
-    let k = owed.len();
+    let k = outstanding.len();
     let mut i = 0;
     while i < k {
-        owed[i] = 0;
+        outstanding[i] = 0;
         i += 1;
     }
 }
 
-// Writes what the entry at p owes into slots.
-pub fn owed_in(front: &[u32], p: usize, owed: &mut [u32])
-    requires { ⌜ (p + entryWords ≤ length (now front)) × (debtsOf (now front) p ≤ debtsAtMost) × (debtsOf (now front) p ≤ length (now owed)) ⌝ }
-    ensures { λ _. ⌜ now (owed .exit) ≡ owedIn (now (front .entry)) p (length (now (owed .entry))) ⌝ }
+// Writes what is outstanding in the entry at p into slots.
+pub fn outstanding_in(front: &[u32], p: usize, outstanding: &mut [u32])
+    requires { ⌜ (p + entryWords ≤ length (now front)) × (reductionsOf (now front) p ≤ reductionsAtMost) × (reductionsOf (now front) p ≤ length (now outstanding)) ⌝ }
+    ensures { λ _. ⌜ now (outstanding .exit) ≡ outstandingIn (now (front .entry)) p (length (now (outstanding .entry))) ⌝ }
 {
-    clear_slots(owed);
-    let m = debts_in(front, p);
+    clear_slots(outstanding);
+    let m = reductions_in(front, p);
     let mut i = 0;
     while i < m {
-        owed[i] = front[p + DEBT_AT + i];
+        outstanding[i] = front[p + REDUCTION_AT + i];
         i += 1;
     }
 }

@@ -8,8 +8,8 @@ ghost use Prim.Native.Nat.{_+_, _-_, _*_, _<_, _≤_};
 ghost use lib.ListN.{length};
 ghost use Rattle.verdict_completion.specs.Completable.{count, Tries};
 ghost use Rattle.verdict_completion.specs.Better.{AtRest};
-ghost use Rattle.verdict_fronts.specs.Front.{entryAt, AllBeaten};
-ghost use Rattle.verdict_search.specs.Search.{courseNow, courseAt, paying, Later, Sound, Sized, Lent, Before};
+ghost use Rattle.verdict_fronts.specs.Front.{entryAt, AllDominated};
+ghost use Rattle.verdict_search.specs.Search.{courseNow, courseAt, compensating, Later, Sound, Sized, Lent, Before};
 ghost use Rattle.verdict_search.specs.Leading.{Any, Front};
 ghost use Rattle.verdict_merging.specs.Merging.{FindsIf, ToldIf, Trusted, Besides, Knows, Reaches};
 
@@ -23,7 +23,7 @@ pub struct Both {
 // Whether something is known, and for each of the first g known entries one of the first n of a front is at least as good.
 fn all_matched(known: &[u32], g: usize, front: &[u32], n: usize) -> bool
     requires { ⌜ (entryAt g ≤ length (now known)) × (entryAt n ≤ length (now front)) ⌝ }
-    ensures { λ r. ⌜ (r ≡ true → (0 < g) × AllBeaten (now (known .entry)) g (now (front .entry)) n) ⌝ }
+    ensures { λ r. ⌜ (r ≡ true → (0 < g) × AllDominated (now (known .entry)) g (now (front .entry)) n) ⌝ }
 {
     if g == 0 {
         return false;
@@ -36,9 +36,9 @@ fn beside_rest(
     starts: &[u32],
     ends: &[u32],
     nets: &[u32],
-    loads: &[u32],
+    compensations: &[u32],
     s: u32,
-    owed: &mut [u32],
+    outstanding: &mut [u32],
     nogoods: &mut [u32],
     next: &mut [u32],
     front: &[u32],
@@ -48,16 +48,16 @@ fn beside_rest(
     f: usize,
     g: usize,
 ) -> Both
-    requires { ⌜ (let c = courseNow starts ends nets loads s in Sized c (now owed) × Sound c (now nogoods) × (j < count c) × Front c j (now front) f × Front c j (now known) g) ⌝ }
-    ensures { λ r. ⌜ (let c = courseAt starts ends nets loads s in Besides c j front f known g (j + 1) next beside nogoods r) ⌝ }
+    requires { ⌜ (let c = courseNow starts ends nets compensations s in Sized c (now outstanding) × Sound c (now nogoods) × (j < count c) × Front c j (now front) f × Front c j (now known) g) ⌝ }
+    ensures { λ r. ⌜ (let c = courseAt starts ends nets compensations s in Besides c j front f known g (j + 1) next beside nogoods r) ⌝ }
 {
     let went = verdict_sweep::sweep_rest(
         starts,
         ends,
         nets,
-        loads,
+        compensations,
         s,
-        owed,
+        outstanding,
         nogoods,
         next,
         front,
@@ -89,9 +89,9 @@ fn beside_rest(
         starts,
         ends,
         nets,
-        loads,
+        compensations,
         s,
-        owed,
+        outstanding,
         nogoods,
         beside,
         known,
@@ -124,9 +124,9 @@ fn beside_two(
     starts: &[u32],
     ends: &[u32],
     nets: &[u32],
-    loads: &[u32],
+    compensations: &[u32],
     s: u32,
-    owed: &mut [u32],
+    outstanding: &mut [u32],
     nogoods: &mut [u32],
     front: &mut [u32],
     other: &mut [u32],
@@ -136,16 +136,16 @@ fn beside_two(
     f: usize,
     g: usize,
 ) -> Both
-    requires { ⌜ (let c = courseNow starts ends nets loads s in Sized c (now owed) × Sound c (now nogoods) × (j < count c) × Front c j (now front) f × Front c j (now known) g) ⌝ }
-    ensures { λ r. ⌜ (let c = courseAt starts ends nets loads s in Besides c j front f known g (j + 2) front known nogoods r) ⌝ }
+    requires { ⌜ (let c = courseNow starts ends nets compensations s in Sized c (now outstanding) × Sound c (now nogoods) × (j < count c) × Front c j (now front) f × Front c j (now known) g) ⌝ }
+    ensures { λ r. ⌜ (let c = courseAt starts ends nets compensations s in Besides c j front f known g (j + 2) front known nogoods r) ⌝ }
 {
     let there = beside_rest(
         starts,
         ends,
         nets,
-        loads,
+        compensations,
         s,
-        owed,
+        outstanding,
         nogoods,
         other,
         front,
@@ -173,9 +173,9 @@ fn beside_two(
         starts,
         ends,
         nets,
-        loads,
+        compensations,
         s,
-        owed,
+        outstanding,
         nogoods,
         front,
         other,
@@ -208,9 +208,9 @@ fn merge_on(
     starts: &[u32],
     ends: &[u32],
     nets: &[u32],
-    loads: &[u32],
+    compensations: &[u32],
     s: u32,
-    owed: &mut [u32],
+    outstanding: &mut [u32],
     nogoods: &mut [u32],
     front: &mut [u32],
     other: &mut [u32],
@@ -220,9 +220,9 @@ fn merge_on(
     f: usize,
     g: usize,
 ) -> bool
-    requires { ⌜ (let c = courseNow starts ends nets loads s in
-        Sized c (now owed) × Sound c (now nogoods) × (j ≤ count c + 1) × Front c j (now front) f × Front c j (now known) g) ⌝ }
-    ensures { λ r. ⌜ (let c = courseAt starts ends nets loads s in
+    requires { ⌜ (let c = courseNow starts ends nets compensations s in
+        Sized c (now outstanding) × Sound c (now nogoods) × (j ≤ count c + 1) × Front c j (now front) f × Front c j (now known) g) ⌝ }
+    ensures { λ r. ⌜ (let c = courseAt starts ends nets compensations s in
         ToldIf (Trusted c j (now (known .entry)) g) (Any c j (now (front .entry)) f) r (Sound c (now (nogoods .exit)))) ⌝ }
 {
     if all_matched(known, g, front, f) {
@@ -237,9 +237,9 @@ fn merge_on(
             starts,
             ends,
             nets,
-            loads,
+            compensations,
             s,
-            owed,
+            outstanding,
             nogoods,
             front,
             other,
@@ -263,9 +263,9 @@ fn merge_on(
         starts,
         ends,
         nets,
-        loads,
+        compensations,
         s,
-        owed,
+        outstanding,
         nogoods,
         front,
         other,
@@ -275,14 +275,14 @@ fn merge_on(
     swept.yes
 }
 
-// From a state before the rest of index j, where nothing is owed, p times two rests on.
+// From a state before the rest of index j, where nothing is outstanding, p times two rests on.
 fn ask_to(
     starts: &[u32],
     ends: &[u32],
     nets: &[u32],
-    loads: &[u32],
+    compensations: &[u32],
     s: u32,
-    owed: &mut [u32],
+    outstanding: &mut [u32],
     slots: &mut [u32],
     nogoods: &mut [u32],
     front: &mut [u32],
@@ -291,16 +291,16 @@ fn ask_to(
     st: State,
     p: usize,
 ) -> Went
-    requires { ⌜ (let c = courseNow starts ends nets loads s in Lent c (now owed) × Sized c (now slots) × Sound c (now nogoods) × Before c j st × (j + 2 * p ≤ count c + 1)) ⌝ }
-    ensures { λ r. ⌜ (let c = courseAt starts ends nets loads s in Reaches c c j st (j + 2 * p) front owed nogoods r) ⌝ }
+    requires { ⌜ (let c = courseNow starts ends nets compensations s in Lent c (now outstanding) × Sized c (now slots) × Sound c (now nogoods) × Before c j st × (j + 2 * p ≤ count c + 1)) ⌝ }
+    ensures { λ r. ⌜ (let c = courseAt starts ends nets compensations s in Reaches c c j st (j + 2 * p) front outstanding nogoods r) ⌝ }
 {
     let went = verdict_search::step(
         starts,
         ends,
         nets,
-        loads,
+        compensations,
         s,
-        owed,
+        outstanding,
         nogoods,
         front,
         j,
@@ -315,7 +315,7 @@ fn ask_to(
         starts,
         ends,
         nets,
-        loads,
+        compensations,
         s,
         slots,
         nogoods,
@@ -327,15 +327,15 @@ fn ask_to(
     )
 }
 
-// From a state at the rest of index j, where nothing is owed, to the rest after it and then p times two rests on: how many states the known front has
+// From a state at the rest of index j, where nothing is outstanding, to the rest after it and then p times two rests on: how many states the known front has
 // there. 0 where a state was found good on the way: nothing is known of the front then.
 fn known_to(
     starts: &[u32],
     ends: &[u32],
     nets: &[u32],
-    loads: &[u32],
+    compensations: &[u32],
     s: u32,
-    owed: &mut [u32],
+    outstanding: &mut [u32],
     slots: &mut [u32],
     nogoods: &mut [u32],
     known: &mut [u32],
@@ -344,18 +344,18 @@ fn known_to(
     here: State,
     p: usize,
 ) -> usize
-    requires { ⌜ (let c = courseNow starts ends nets loads s in
-        Lent c (now owed) × Sized c (now slots) × Sound c (now nogoods) × AtRest c j here × (j + 1 + 2 * p ≤ count c + 1)) ⌝ }
-    ensures { λ r. ⌜ (let c = courseAt starts ends nets loads s in Knows (Tries c (Later c j) j here (now (owed .entry))) (Trusted c (j + 1 + 2 * p) (now (known .exit)) r)
-        (now (owed .entry)) (now (owed .exit)) (Sound c (now (nogoods .exit))) (Front c (j + 1 + 2 * p) (now (known .exit)) r)) ⌝ }
+    requires { ⌜ (let c = courseNow starts ends nets compensations s in
+        Lent c (now outstanding) × Sized c (now slots) × Sound c (now nogoods) × AtRest c j here × (j + 1 + 2 * p ≤ count c + 1)) ⌝ }
+    ensures { λ r. ⌜ (let c = courseAt starts ends nets compensations s in Knows (Tries c (Later c j) j here (now (outstanding .entry))) (Trusted c (j + 1 + 2 * p) (now (known .exit)) r)
+        (now (outstanding .entry)) (now (outstanding .exit)) (Sound c (now (nogoods .exit))) (Front c (j + 1 + 2 * p) (now (known .exit)) r)) ⌝ }
 {
     let first = verdict_search::place(
         starts,
         ends,
         nets,
-        loads,
+        compensations,
         s,
-        owed,
+        outstanding,
         nogoods,
         beside,
         j,
@@ -370,7 +370,7 @@ fn known_to(
         starts,
         ends,
         nets,
-        loads,
+        compensations,
         s,
         slots,
         nogoods,
@@ -386,7 +386,7 @@ fn known_to(
         starts,
         ends,
         nets,
-        loads,
+        compensations,
         s,
         slots,
         nogoods,
@@ -412,14 +412,14 @@ fn pairs_to(j: usize, x: usize) -> usize
     (x - j) / 2
 }
 
-// The same as `ask_to`, where the rest of number x has some minutes more load.
+// The same as `ask_to`, where the rest of number x has some minutes more compensation.
 fn try_to(
     starts: &[u32],
     ends: &[u32],
     nets: &[u32],
-    loads: &mut [u32],
+    compensations: &mut [u32],
     s: u32,
-    owed: &mut [u32],
+    outstanding: &mut [u32],
     slots: &mut [u32],
     nogoods: &mut [u32],
     front: &mut [u32],
@@ -430,20 +430,20 @@ fn try_to(
     x: usize,
     less: u32,
 ) -> Went
-    requires { ⌜ (let c = courseNow starts ends nets loads s in let d = paying c x less in
-        Sized c (now slots) × Lent d (now owed) × Sized d (now slots) × Sound c (now nogoods) × Before d j st × (j + 2 * p ≤ count c + 1) × (x ≤ count c)) ⌝ }
-    ensures { λ r. ⌜ (let c = courseAt starts ends nets loads s in let d = paying c x less in
-        Reaches c d j st (j + 2 * p) front owed nogoods r
-        × (now (loads .exit) ≡ now (loads .entry))) ⌝ }
+    requires { ⌜ (let c = courseNow starts ends nets compensations s in let d = compensating c x less in
+        Sized c (now slots) × Lent d (now outstanding) × Sized d (now slots) × Sound c (now nogoods) × Before d j st × (j + 2 * p ≤ count c + 1) × (x ≤ count c)) ⌝ }
+    ensures { λ r. ⌜ (let c = courseAt starts ends nets compensations s in let d = compensating c x less in
+        Reaches c d j st (j + 2 * p) front outstanding nogoods r
+        × (now (compensations .exit) ≡ now (compensations .entry))) ⌝ }
 {
     if x == 0 {
         return ask_to(
             starts,
             ends,
             nets,
-            loads,
+            compensations,
             s,
-            owed,
+            outstanding,
             slots,
             nogoods,
             front,
@@ -455,15 +455,15 @@ fn try_to(
     }
     verdict_nogoods::clear(nogoods, starts.len());
     let i = x - 1;
-    let load = loads[i];
-    loads[i] = load + less;
+    let compensation = compensations[i];
+    compensations[i] = compensation + less;
     let went = ask_to(
         starts,
         ends,
         nets,
-        loads,
+        compensations,
         s,
-        owed,
+        outstanding,
         slots,
         nogoods,
         front,
@@ -472,17 +472,17 @@ fn try_to(
         st,
         p,
     );
-    loads[i] = load;
+    compensations[i] = compensation;
     verdict_nogoods::clear(nogoods, starts.len());
     went
 }
 
-// The same as `merge_on`, where the rest of number x has some minutes more load.
+// The same as `merge_on`, where the rest of number x has some minutes more compensation.
 fn try_on(
     starts: &[u32],
     ends: &[u32],
     nets: &[u32],
-    loads: &mut [u32],
+    compensations: &mut [u32],
     s: u32,
     slots: &mut [u32],
     nogoods: &mut [u32],
@@ -496,18 +496,18 @@ fn try_on(
     x: usize,
     less: u32,
 ) -> bool
-    requires { ⌜ (let c = courseNow starts ends nets loads s in let d = paying c x less in
+    requires { ⌜ (let c = courseNow starts ends nets compensations s in let d = compensating c x less in
         Sized c (now slots) × Sized d (now slots) × Sound c (now nogoods) × (j ≤ count c + 1) × (x ≤ count c) × Front d j (now front) f × Front d j (now known) g) ⌝ }
-    ensures { λ r. ⌜ (let c = courseAt starts ends nets loads s in let d = paying c x less in
+    ensures { λ r. ⌜ (let c = courseAt starts ends nets compensations s in let d = compensating c x less in
         ToldIf (Trusted d j (now (known .entry)) g) (Any d j (now (front .entry)) f) r (Sound c (now (nogoods .exit)))
-        × (now (loads .exit) ≡ now (loads .entry))) ⌝ }
+        × (now (compensations .exit) ≡ now (compensations .entry))) ⌝ }
 {
     if x == 0 {
         return merge_on(
             starts,
             ends,
             nets,
-            loads,
+            compensations,
             s,
             slots,
             nogoods,
@@ -522,13 +522,13 @@ fn try_on(
     }
     verdict_nogoods::clear(nogoods, starts.len());
     let i = x - 1;
-    let load = loads[i];
-    loads[i] = load + less;
+    let compensation = compensations[i];
+    compensations[i] = compensation + less;
     let yes = merge_on(
         starts,
         ends,
         nets,
-        loads,
+        compensations,
         s,
         slots,
         nogoods,
@@ -540,7 +540,7 @@ fn try_on(
         f,
         g,
     );
-    loads[i] = load;
+    compensations[i] = compensation;
     verdict_nogoods::clear(nogoods, starts.len());
     yes
 }
@@ -550,9 +550,9 @@ fn asks_beside(
     starts: &[u32],
     ends: &[u32],
     nets: &[u32],
-    loads: &mut [u32],
+    compensations: &mut [u32],
     s: u32,
-    owed: &mut [u32],
+    outstanding: &mut [u32],
     slots: &mut [u32],
     nogoods: &mut [u32],
     front: &mut [u32],
@@ -565,20 +565,20 @@ fn asks_beside(
     x: usize,
     less: u32,
 ) -> bool
-    requires { ⌜ (let c = courseNow starts ends nets loads s in let d = paying c x less in
-        Lent c (now owed) × Lent d (now owed) × Sized c (now slots) × Sized d (now slots) × AtRest c j here × Before d (j + 1) next × (x ≤ count c) × Sound c (now nogoods)) ⌝ }
-    ensures { λ r. ⌜ (let c = courseAt starts ends nets loads s in let d = paying c x less in
-        FindsIf c (Tries c (Later c j) j here (now (owed .entry))) (Later d j next (now (owed .entry))) r owed nogoods
-        × (now (loads .exit) ≡ now (loads .entry))) ⌝ }
+    requires { ⌜ (let c = courseNow starts ends nets compensations s in let d = compensating c x less in
+        Lent c (now outstanding) × Lent d (now outstanding) × Sized c (now slots) × Sized d (now slots) × AtRest c j here × Before d (j + 1) next × (x ≤ count c) × Sound c (now nogoods)) ⌝ }
+    ensures { λ r. ⌜ (let c = courseAt starts ends nets compensations s in let d = compensating c x less in
+        FindsIf c (Tries c (Later c j) j here (now (outstanding .entry))) (Later d j next (now (outstanding .entry))) r outstanding nogoods
+        × (now (compensations .exit) ≡ now (compensations .entry))) ⌝ }
 {
     let p = pairs_to(j, x);
     let went = try_to(
         starts,
         ends,
         nets,
-        loads,
+        compensations,
         s,
-        owed,
+        outstanding,
         slots,
         nogoods,
         front,
@@ -599,9 +599,9 @@ fn asks_beside(
         starts,
         ends,
         nets,
-        loads,
+        compensations,
         s,
-        owed,
+        outstanding,
         slots,
         nogoods,
         known,
@@ -614,7 +614,7 @@ fn asks_beside(
         starts,
         ends,
         nets,
-        loads,
+        compensations,
         s,
         slots,
         nogoods,
@@ -630,16 +630,16 @@ fn asks_beside(
     )
 }
 
-// Whether the rests from that of index j + 1 on can be read from the state `next`, where the rest of number x has some minutes more load (0 is none)
-// and nothing is owed. A yes may rest on that the rests from that of index j on can be read from the state `here` at that rest with the loads as they
+// Whether the rests from that of index j + 1 on can be read from the state `next`, where the rest of number x has some minutes more compensation (0 is none)
+// and nothing is outstanding. A yes may rest on that the rests from that of index j on can be read from the state `here` at that rest with the compensations as they
 // stand: past the rest of number x, where each state that this can lead to is matched by one that `next` leads to, the answer is yes.
 pub fn completes_beside(
     starts: &[u32],
     ends: &[u32],
     nets: &[u32],
-    loads: &mut [u32],
+    compensations: &mut [u32],
     s: u32,
-    owed: &mut [u32],
+    outstanding: &mut [u32],
     nogoods: &mut [u32],
     front: &mut [u32],
     other: &mut [u32],
@@ -651,11 +651,11 @@ pub fn completes_beside(
     x: usize,
     less: u32,
 ) -> bool
-    requires { ⌜ (let c = courseNow starts ends nets loads s in let d = paying c x less in
-        Lent c (now owed) × Lent d (now owed) × AtRest c j here × Before d (j + 1) next × (x ≤ count c) × Sound c (now nogoods)) ⌝ }
-    ensures { λ r. ⌜ (let c = courseAt starts ends nets loads s in let d = paying c x less in
-        FindsIf c (Tries c (Later c j) j here (now (owed .entry))) (Later d j next (now (owed .entry))) r owed nogoods
-        × (now (loads .exit) ≡ now (loads .entry))) ⌝ }
+    requires { ⌜ (let c = courseNow starts ends nets compensations s in let d = compensating c x less in
+        Lent c (now outstanding) × Lent d (now outstanding) × AtRest c j here × Before d (j + 1) next × (x ≤ count c) × Sound c (now nogoods)) ⌝ }
+    ensures { λ r. ⌜ (let c = courseAt starts ends nets compensations s in let d = compensating c x less in
+        FindsIf c (Tries c (Later c j) j here (now (outstanding .entry))) (Later d j next (now (outstanding .entry))) r outstanding nogoods
+        × (now (compensations .exit) ≡ now (compensations .entry))) ⌝ }
 {
     let k = starts.len();
     let mut slots = [0u32; recording::LONG_RESTS];
@@ -663,9 +663,9 @@ pub fn completes_beside(
         starts,
         ends,
         nets,
-        loads,
+        compensations,
         s,
-        owed,
+        outstanding,
         &mut slots[..k],
         nogoods,
         front,

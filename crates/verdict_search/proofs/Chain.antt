@@ -18,6 +18,7 @@ use Rattle.rules.specs.declared.Kind.{Kind}
 use Rattle.rules.specs.declared.Kind.the-variants.{Daily, Weekly}
 use Rattle.rules.specs.declared.Standing.{Standing}
 use Rattle.rules.specs.declared.Standing.the-variants.{Regular}
+use Rattle.rules_reading.specs.Items.{standingFor}
 use Rattle.verdict_completion.specs.declared.State.{State}
 use Rattle.verdict_completion.specs.declared.Brought.{Brought}
 use Rattle.verdict_completion.specs.declared.Brought.the-variants.{Broken, To}
@@ -29,10 +30,10 @@ use Rattle.verdict_completion.specs.Completable.{
   restWeek,
   lengthAt,
   amountOf,
-  dueOf,
-  debtOf,
+  deadlineOf,
+  outstandingOf,
   Overdue,
-  Pays,
+  Compensates,
   shortens,
   Closes,
   ReadDaily,
@@ -46,11 +47,11 @@ use Rattle.verdict_completion.specs.Completable.{
 use Rattle.verdict_completion.specs.Better.{Within, Matched, AtRest}
 use Rattle.verdict_completion.proofs.Matching.{within-self, put-at}
 use Rattle.verdict_completion.proofs.Monotone.{better-self, matched-last, completable-by, regular-by, forget, recall}
-use Rattle.verdict_steps.specs.Steps.{Fits, Debtor, standingFor, debtBy}
-use Rattle.verdict_steps.proofs.StepLaws.{standing-debt}
+use Rattle.verdict_steps.specs.Steps.{Fits, Candidate, outstandingBy}
+use Rattle.verdict_steps.proofs.StepLaws.{standing-reduction}
 use Rattle.verdict_search.specs.Search.{Later, Slots}
 use Rattle.verdict_search.proofs.Memory.{later-mono}
-use Rattle.verdict_fronts.specs.Front.{entryAt, stateIn, owedIn}
+use Rattle.verdict_fronts.specs.Front.{entryAt}
 use Rattle.verdict_search.specs.Leading.{Can, Any, CountedIn, ReadAs, TakenAs}
 use Rattle.verdict_search.proofs.Leading.{Equal}
 
@@ -58,103 +59,103 @@ one-left : (n i : ℕ) → i < n → n - i ≡ suc (n - (i + 1))
 one-left n i l = omega arith
 
 -- ---- compensating out of a rest
--- no debt that fits is left in the first n slots, and the later ones owe nothing
-pub no-debtor : {o : List ℕ} {i n j load minutes d : ℕ} → n ≤ j → ((x : ℕ) → n ≤ x → at o x ≡ 0) → Debtor o i n load minutes d → d ≡ n → Debtor o i j load minutes j
-no-debtor {o} {i} {n} {j} {load} {minutes} {d} le unused w e = record {
+-- no reduction that fits is left in the first n slots, and the later ones have none
+pub no-candidate : {o : List ℕ} {i n j compensation minutes d : ℕ} → n ≤ j → ((x : ℕ) → n ≤ x → at o x ≡ 0) → Candidate o i n compensation minutes d → d ≡ n → Candidate o i j compensation minutes j
+no-candidate {o} {i} {n} {j} {compensation} {minutes} {d} le unused w e = record {
   low = omega (arith, w .low);
   high = le-refl _;
   passed = λ x l h f. go x l f (less-or-not x n);
   found = λ h. absurd (omega arith);
 }
   where
-    go : (x : ℕ) → i ≤ x → Fits (at o x) load minutes → (x < n) ⊎ (n ≤ x) → ⊥
+    go : (x : ℕ) → i ≤ x → Fits (at o x) compensation minutes → (x < n) ⊎ (n ≤ x) → ⊥
     go x l f (inl h) = w .passed x l (omega arith) f
-    go x l f (inr h) = omega (arith, f .owes, unused x h)
+    go x l f (inr h) = omega (arith, f .isOutstanding, unused x h)
 
 -- or there is one
-pub some-debtor : {o : List ℕ} {i n j load minutes d : ℕ} → n ≤ j → Debtor o i n load minutes d → d < n → Debtor o i j load minutes d
-some-debtor le w l = record { low = w .low; high = omega (arith, le, l); passed = w .passed; found = λ _. w .found l }
+pub some-candidate : {o : List ℕ} {i n j compensation minutes d : ℕ} → n ≤ j → Candidate o i n compensation minutes d → d < n → Candidate o i j compensation minutes d
+some-candidate le w l = record { low = w .low; high = omega (arith, le, l); passed = w .passed; found = λ _. w .found l }
 
-module _ (F : ℕ → List ℕ → Type 0) (minutes load : ℕ) (o : List ℕ) where
-  abbrev pub Paid : ℕ → ℕ → Type 0
-  Paid j d = Pays F minutes (j - (d + 1)) (d + 1) (load + amountOf (at o d)) (set o d 0)
+module _ (F : ℕ → List ℕ → Type 0) (minutes compensation : ℕ) (o : List ℕ) where
+  abbrev pub Compensated : ℕ → ℕ → Type 0
+  Compensated j d = Compensates F minutes (j - (d + 1)) (d + 1) (compensation + amountOf (at o d)) (set o d 0)
 
   abbrev pub Left : ℕ → ℕ → Type 0
-  Left j i = Pays F minutes (j - i) i load o
+  Left j i = Compensates F minutes (j - i) i compensation o
 
-  pays-in : (j i : ℕ) → i < j → ((0 < at o i) × (leastNet Daily + (load + amountOf (at o i)) ≤ minutes) × Paid j i) ⊎ Left j (i + 1) → Left j i
-  unfolding Pays
-  pays-in j i l h = subst (λ (m : ℕ). Pays F minutes m i load o) (sym (one-left j i l)) h
+  compensates-in : (j i : ℕ) → i < j → ((0 < at o i) × (leastNet Daily + (compensation + amountOf (at o i)) ≤ minutes) × Compensated j i) ⊎ Left j (i + 1) → Left j i
+  unfolding Compensates
+  compensates-in j i l h = subst (λ (m : ℕ). Compensates F minutes m i compensation o) (sym (one-left j i l)) h
 
-  pays-out : (j i : ℕ) → i < j → Left j i → ((0 < at o i) × (leastNet Daily + (load + amountOf (at o i)) ≤ minutes) × Paid j i) ⊎ Left j (i + 1)
-  unfolding Pays
-  pays-out j i l h = subst (λ (m : ℕ). Pays F minutes m i load o) (one-left j i l) h
+  compensates-out : (j i : ℕ) → i < j → Left j i → ((0 < at o i) × (leastNet Daily + (compensation + amountOf (at o i)) ≤ minutes) × Compensated j i) ⊎ Left j (i + 1)
+  unfolding Compensates
+  compensates-out j i l h = subst (λ (m : ℕ). Compensates F minutes m i compensation o) (one-left j i l) h
 
-  skip : (m i d j : ℕ) → d ≡ i + m → d ≤ j → ((x : ℕ) → i ≤ x → x < d → Fits (at o x) load minutes → ⊥) → Left j i → Left j d
+  skip : (m i d j : ℕ) → d ≡ i + m → d ≤ j → ((x : ℕ) → i ≤ x → x < d → Fits (at o x) compensation minutes → ⊥) → Left j i → Left j d
   skip zero i d j e le pass h = let q : i ≡ d = omega arith in subst (λ (x : ℕ). Left j x) q h
-  skip (suc m) i d j e le pass h = go (pays-out j i (omega arith) h) (skip m (i + 1) d j (omega arith) le (λ x l k. pass x (omega arith) k))
+  skip (suc m) i d j e le pass h = go (compensates-out j i (omega arith) h) (skip m (i + 1) d j (omega arith) le (λ x l k. pass x (omega arith) k))
     where
-      go : ((0 < at o i) × (leastNet Daily + (load + amountOf (at o i)) ≤ minutes) × Paid j i) ⊎ Left j (i + 1) → (Left j (i + 1) → Left j d) → Left j d
-      go (inl q) f = absurd (pass i (le-refl _) (omega arith) (record { owes = q .0; fits = q .1 }))
+      go : ((0 < at o i) × (leastNet Daily + (compensation + amountOf (at o i)) ≤ minutes) × Compensated j i) ⊎ Left j (i + 1) → (Left j (i + 1) → Left j d) → Left j d
+      go (inl q) f = absurd (pass i (le-refl _) (omega arith) (record { isOutstanding = q .0; fits = q .1 }))
       go (inr q) f = f q
 
   unskip : (m i d j : ℕ) → d ≡ i + m → d ≤ j → Left j d → Left j i
   unskip zero i d j e le h = let q : d ≡ i = omega arith in subst (λ (x : ℕ). Left j x) q h
-  unskip (suc m) i d j e le h = pays-in j i (omega arith) (inr (unskip m (i + 1) d j (omega arith) le h))
+  unskip (suc m) i d j e le h = compensates-in j i (omega arith) (inr (unskip m (i + 1) d j (omega arith) le h))
 
-  module _ {i j d : ℕ} (w : Debtor o i j load minutes d) where
-    to-debtor : Left j i → Left j d
-    to-debtor h = skip (d - i) i d j (omega (arith, w .low)) (w .high) (w .passed) h
+  module _ {i j d : ℕ} (w : Candidate o i j compensation minutes d) where
+    to-candidate : Left j i → Left j d
+    to-candidate h = skip (d - i) i d j (omega (arith, w .low)) (w .high) (w .passed) h
 
-    from-debtor : Left j d → Left j i
-    from-debtor h = unskip (d - i) i d j (omega (arith, w .low)) (w .high) h
+    from-candidate : Left j d → Left j i
+    from-candidate h = unskip (d - i) i d j (omega (arith, w .low)) (w .high) h
 
-    -- no debt that fits is left
-    pub none-fits : d ≡ j → Equal (F load o) (Pays F minutes (j - i) i load o)
-    unfolding Pays
+    -- no reduction that fits is left
+    pub none-fits : d ≡ j → Equal (F compensation o) (Compensates F minutes (j - i) i compensation o)
+    unfolding Compensates
     none-fits e =
         let z : j - d ≡ zero = omega (arith, e) in
         record {
-          to = λ p. from-debtor (subst (λ (m : ℕ). Pays F minutes m d load o) (sym z) p);
-          from = λ p. subst (λ (m : ℕ). Pays F minutes m d load o) z (to-debtor p);
+          to = λ p. from-candidate (subst (λ (m : ℕ). Compensates F minutes m d compensation o) (sym z) p);
+          from = λ p. subst (λ (m : ℕ). Compensates F minutes m d compensation o) z (to-candidate p);
         }
 
-    -- the debt of slot d is paid, or left
-    pub one-fits : d < j → Equal (Paid j d ⊎ Left j (d + 1)) (Pays F minutes (j - i) i load o)
-    one-fits l = record { to = go; from = λ p. back (pays-out j d l (to-debtor p)) }
+    -- the reduction of slot d is compensated for, or left
+    pub one-fits : d < j → Equal (Compensated j d ⊎ Left j (d + 1)) (Compensates F minutes (j - i) i compensation o)
+    one-fits l = record { to = go; from = λ p. back (compensates-out j d l (to-candidate p)) }
       where
-        go : Paid j d ⊎ Left j (d + 1) → Left j i
-        go (inl p) = let f = w .found l in from-debtor (pays-in j d l (inl (f .owes, f .fits, p)))
-        go (inr p) = from-debtor (pays-in j d l (inr p))
+        go : Compensated j d ⊎ Left j (d + 1) → Left j i
+        go (inl p) = let f = w .found l in from-candidate (compensates-in j d l (inl (f .isOutstanding, f .fits, p)))
+        go (inr p) = from-candidate (compensates-in j d l (inr p))
 
-        back : ((0 < at o d) × (leastNet Daily + (load + amountOf (at o d)) ≤ minutes) × Paid j d) ⊎ Left j (d + 1) → Paid j d ⊎ Left j (d + 1)
+        back : ((0 < at o d) × (leastNet Daily + (compensation + amountOf (at o d)) ≤ minutes) × Compensated j d) ⊎ Left j (d + 1) → Compensated j d ⊎ Left j (d + 1)
         back (inl q) = inl (q .2)
         back (inr q) = inr q
 
-  -- all debts of the rests before j
-  pub all-debts : (j : ℕ) → Equal (Pays F minutes (j - 0) 0 load o) (Pays F minutes j 0 load o)
-  all-debts j =
+  -- all reductions of the rests before j
+  pub all-reductions : (j : ℕ) → Equal (Compensates F minutes (j - 0) 0 compensation o) (Compensates F minutes j 0 compensation o)
+  all-reductions j =
       let e : j - 0 ≡ j = omega arith in
-      record { to = λ h. subst (λ (m : ℕ). Pays F minutes m 0 load o) e h; from = λ h. subst (λ (m : ℕ). Pays F minutes m 0 load o) (sym e) h }
+      record { to = λ h. subst (λ (m : ℕ). Compensates F minutes m 0 compensation o) e h; from = λ h. subst (λ (m : ℕ). Compensates F minutes m 0 compensation o) (sym e) h }
 
 -- ---- a rest
 module _ (c : Course) (lies : Lies c) where
-  -- a new debt stands in the next slot as well as in that of its own rest
+  -- a new reduction stands in the next slot as well as in that of its own rest
   module _ {j n : ℕ} {o : List ℕ} (h : Slots c j n o) (inside : j < count c) (a : ℕ) where
     used : (x : ℕ) → 0 < at o x → x < n
-    used x owes = go (less-or-not x n)
+    used x isOutstanding = go (less-or-not x n)
       where
         go : (x < n) ⊎ (n ≤ x) → x < n
         go (inl l) = l
-        go (inr l) = absurd (omega (arith, owes, h .unused x l))
+        go (inr l) = absurd (omega (arith, isOutstanding, h .unused x l))
 
     matched-self : Matched (count c) j o o
     matched-self = record {
-      long = h .sized .owed-too;
+      long = h .sized .outstanding-too;
       to = λ x. x;
-      below = λ x owes. omega (arith, used x owes, h .below);
-      to-below = λ x owes. omega (arith, used x owes, h .below);
-      within = λ x owes. within-self owes;
+      below = λ x isOutstanding. omega (arith, used x isOutstanding, h .below);
+      to-below = λ x isOutstanding. omega (arith, used x isOutstanding, h .below);
+      within = λ x isOutstanding. within-self isOutstanding;
       apart = λ x y _ _ e. e;
     }
 
@@ -168,12 +169,14 @@ module _ (c : Course) (lies : Lies c) where
     next-slot : Matched (count c) (j + 1) (set o n a) (set o j a)
     unfolding matched-self
     next-slot =
-        put-at matched-self (j + 1) n j a a (λ x owes e. let q : x ≡ j = e in omega (arith, used x owes, h .below)) (omega arith) (omega (arith, h .below)) (omega arith) inside itself
+        put-at matched-self (j + 1) n j a a (λ x isOutstanding e. let q : x ≡ j = e in omega (arith, used x isOutstanding, h .below)) (omega arith) (omega (arith, h .below))
+        (omega arith) inside itself
 
     own-slot : Matched (count c) (j + 1) (set o j a) (set o n a)
     unfolding matched-self
     own-slot =
-        put-at matched-self (j + 1) j n a a (λ x owes e. let q : x ≡ n = e in omega (arith, used x owes)) (omega arith) (omega arith) (omega (arith, h .below)) (omega (arith, h .below)) itself
+        put-at matched-self (j + 1) j n a a (λ x isOutstanding e. let q : x ≡ n = e in omega (arith, used x isOutstanding)) (omega arith) (omega arith) (omega (arith, h .below))
+        (omega (arith, h .below)) itself
 
     pub in-next-slot : (st : State) → Equal (Later c j st (set o n a)) (Later c j st (set o j a))
     in-next-slot st =
@@ -183,14 +186,14 @@ module _ (c : Course) (lies : Lies c) where
           from = completable-by c (matched-last c) lies (count c - (j + 1)) (j + 1) st st (set o n a) (set o j a) m (better-self st) next-slot;
         }
 
-  -- a debt that is due after S is left out
-  pub left-out : (j : ℕ) (st : State) (o : List ℕ) (a d : ℕ) → j < count c → a ≡ pick (ltb (c .judged) (dueOf d)) 0 d
+  -- a reduction that is due after S is left out
+  pub left-out : (j : ℕ) (st : State) (o : List ℕ) (a d : ℕ) → j < count c → a ≡ pick (ltb (c .judged) (deadlineOf d)) 0 d
       → Equal (Later c j st (set o j a)) (Later c j st (set o j d))
-  left-out j st o a d l e = go (ltb (c .judged) (dueOf d)) refl e
+  left-out j st o a d l e = go (ltb (c .judged) (deadlineOf d)) refl e
     where
-      go : (t : Bool) → ltb (c .judged) (dueOf d) ≡ t → a ≡ pick t 0 d → Equal (Later c j st (set o j a)) (Later c j st (set o j d))
+      go : (t : Bool) → ltb (c .judged) (deadlineOf d) ≡ t → a ≡ pick t 0 d → Equal (Later c j st (set o j a)) (Later c j st (set o j d))
       go true q z =
-          let after = ltb-true (c .judged) (dueOf d) q in
+          let after = ltb-true (c .judged) (deadlineOf d) q in
           let m : count c - (j + 1) + (j + 1) ≡ count c = omega arith in
           record {
             to = λ k. recall c lies (count c - (j + 1)) (j + 1) st o j d m after (subst (λ (x : ℕ). Later c j st (set o j x)) z k);
@@ -223,7 +226,7 @@ module _ (c : Course) (lies : Lies c) where
         let e : suc j ≡ j + 1 = omega arith in
         subst StepBy e (subst (λ (m : ℕ). Completable c m j st o) (one-left (count c) j l) h)
 
-    -- a rest starts too late, or a debt is overdue, or two weeks break rule 11
+    -- a rest starts too late, or a reduction is overdue, or two weeks break rule 11
     pub too-late : j < count c → st .ended + weeklyGap < at (c .starts) j → Completable c (count c - j) j st o → ⊥
     too-late l h k = omega (arith, step-out l k .0)
 
@@ -243,41 +246,41 @@ module _ (c : Course) (lies : Lies c) where
 
     pub goes-on : {b : Brought} (here : State) → j < count c → at (c .starts) j ≤ st .ended + weeklyGap → (Overdue o (at (c .ends) j) → ⊥)
         → b ≡ advance (restWeek c) (weekOf (at (c .starts) j) - st .week) st → b ≡ To here → Equal (Tries c (Later c j) j here o) (Completable c (count c - j) j st o)
-    goes-on here l near due e g = record {
-      to = λ t. step-in l (near, due, subst (λ (x : Brought). After x (λ y. Tries c (Later c j) j y o)) (sym g ∙ e) t);
+    goes-on here l near deadline e g = record {
+      to = λ t. step-in l (near, deadline, subst (λ (x : Brought). After x (λ y. Tries c (Later c j) j y o)) (sym g ∙ e) t);
       from = λ k. subst (λ (x : Brought). After x (λ y. Tries c (Later c j) j y o)) (sym e ∙ g) (step-out l k .2);
     }
 
-  module _ (j : ℕ) (here : State) (o : List ℕ) (load : ℕ) where
-    -- the rest is too short net of the load
-    pub too-short : lengthAt c j < leastNet Daily + load → Reads c (Later c j) j here load o → ⊥
+  module _ (j : ℕ) (here : State) (o : List ℕ) (compensation : ℕ) where
+    -- the rest is too short net of the compensation
+    pub too-short : lengthAt c j < leastNet Daily + compensation → Reads c (Later c j) j here compensation o → ⊥
     too-short l (inl h) = omega (arith, h .net)
     too-short l (inr h) = omega (arith, h .net)
 
     -- a rest that can be a regular weekly one need not be daily
-    pub as-regular : AtRest c j here → regularMinutes + load ≤ lengthAt c j → Equal (ReadWeekly c (Later c j) j here load o) (Reads c (Later c j) j here load o)
+    pub as-regular : AtRest c j here → regularMinutes + compensation ≤ lengthAt c j → Equal (ReadWeekly c (Later c j) j here compensation o) (Reads c (Later c j) j here compensation o)
     as-regular k fits = record { to = inr; from = go }
       where
-        go : Reads c (Later c j) j here load o → ReadWeekly c (Later c j) j here load o
-        go (inl d) = regular-by c lies (Later c j) (later-mono c lies j (k .within)) j here load o k fits d
+        go : Reads c (Later c j) j here compensation o → ReadWeekly c (Later c j) j here compensation o
+        go (inl d) = regular-by c lies (Later c j) (later-mono c lies j (k .within)) j here compensation o k fits d
         go (inr w) = w
 
     -- one that is too short for a weekly rest is daily
-    pub as-short : lengthAt c j < leastNet (Weekly Regular) + load → Equal (ReadDaily c (Later c j) j here load o) (Reads c (Later c j) j here load o)
+    pub as-short : lengthAt c j < leastNet (Weekly Regular) + compensation → Equal (ReadDaily c (Later c j) j here compensation o) (Reads c (Later c j) j here compensation o)
     as-short l = record { to = inl; from = go }
       where
-        go : Reads c (Later c j) j here load o → ReadDaily c (Later c j) j here load o
+        go : Reads c (Later c j) j here compensation o → ReadDaily c (Later c j) j here compensation o
         go (inl d) = d
         go (inr w) = absurd (omega (arith, w .net))
 
-    module _ {b : Bool} {next : State} (e : b ≡ shortens c j load) (f : next ≡ afterDaily b here) where
-      next-daily : next ≡ afterDaily (shortens c j load) here
+    module _ {b : Bool} {next : State} (e : b ≡ shortens c j compensation) (f : next ≡ afterDaily b here) where
+      next-daily : next ≡ afterDaily (shortens c j compensation) here
       next-daily = f ∙ ap (λ (x : Bool). afterDaily x here) e
 
-      pub too-many : shortenedAtMost < next .short → ReadDaily c (Later c j) j here load o → ⊥
+      pub too-many : shortenedAtMost < next .short → ReadDaily c (Later c j) j here compensation o → ⊥
       too-many l h = omega (arith, h .few, ap (λ (x : State). x .short) next-daily)
 
-      pub as-daily : leastNet Daily + load ≤ lengthAt c j → next .short ≤ shortenedAtMost → Equal (Later c j next o) (ReadDaily c (Later c j) j here load o)
+      pub as-daily : leastNet Daily + compensation ≤ lengthAt c j → next .short ≤ shortenedAtMost → Equal (Later c j next o) (ReadDaily c (Later c j) j here compensation o)
       as-daily net l = record {
         to = λ k. record {
           net = net;
@@ -289,49 +292,50 @@ module _ (c : Course) (lies : Lies c) where
 
     module _ (w : ℕ) (rest regular : Bool) {b : Brought} {there next : State} (e : b ≡ advance (restWeek c) (w - here .week) here) (g : b ≡ To there)
         (f : next ≡ afterWeekly rest regular (at (c .ends) j) there) where
-      pub as-counted : rest ≡ restWeek c w → regular ≡ leb (regularMinutes + load) (lengthAt c j)
-          → Equal (Later c j next (set o j (debtOf (lengthAt c j) load w))) (Counted c (Later c j) j here w load o)
+      pub as-counted : rest ≡ restWeek c w → regular ≡ leb (regularMinutes + compensation) (lengthAt c j)
+          → Equal (Later c j next (set o j (outstandingOf (lengthAt c j) compensation w))) (Counted c (Later c j) j here w compensation o)
       as-counted u v =
-          let left = set o j (debtOf (lengthAt c j) load w) in
-          let q : next ≡ afterWeekly (restWeek c w) (leb (regularMinutes + load) (lengthAt c j)) (at (c .ends) j) there
+          let left = set o j (outstandingOf (lengthAt c j) compensation w) in
+          let q : next ≡ afterWeekly (restWeek c w) (leb (regularMinutes + compensation) (lengthAt c j)) (at (c .ends) j) there
           = f ∙ ap (λ (x : Bool). afterWeekly x regular (at (c .ends) j) there) u ∙ ap (λ (x : Bool). afterWeekly (restWeek c w) x (at (c .ends) j) there) v in
           record {
-            to = λ k. subst (λ (x : Brought). After x (λ y. Later c j (afterWeekly (restWeek c w) (leb (regularMinutes + load) (lengthAt c j)) (at (c .ends) j) y) left)) (sym g ∙ e)
+            to = λ k. subst (λ (x : Brought). After x (λ y. Later c j (afterWeekly (restWeek c w) (leb (regularMinutes + compensation) (lengthAt c j)) (at (c .ends) j) y) left)) (sym g ∙ e)
                 (subst (λ (x : State). Later c j x left) q k);
             from = λ k. subst (λ (x : State). Later c j x left) (sym q)
-                (subst (λ (x : Brought). After x (λ y. Later c j (afterWeekly (restWeek c w) (leb (regularMinutes + load) (lengthAt c j)) (at (c .ends) j) y) left)) (sym e ∙ g) k);
+                (subst (λ (x : Brought). After x (λ y. Later c j (afterWeekly (restWeek c w) (leb (regularMinutes + compensation) (lengthAt c j)) (at (c .ends) j) y) left)) (sym e ∙ g) k);
           }
 
-    pub not-counted : (w : ℕ) {b : Brought} → b ≡ advance (restWeek c) (w - here .week) here → b ≡ Broken → Counted c (Later c j) j here w load o → ⊥
+    pub not-counted : (w : ℕ) {b : Brought} → b ≡ advance (restWeek c) (w - here .week) here → b ≡ Broken → Counted c (Later c j) j here w compensation o → ⊥
     not-counted w e g h =
-        subst (λ (x : Brought). After x (λ y. Later c j (afterWeekly (restWeek c w) (leb (regularMinutes + load) (lengthAt c j)) (at (c .ends) j) y) (set o j (debtOf (lengthAt c j) load w))))
+        subst (λ (x : Brought). After x (λ y. Later c j (afterWeekly (restWeek c w) (leb (regularMinutes + compensation) (lengthAt c j)) (at (c .ends) j) y)
+        (set o j (outstandingOf (lengthAt c j) compensation w))))
         (sym e ∙ g) h
 
 -- ---- the weeks of a rest
-module _ (c : Course) (K : State → List ℕ → Type 0) (j : ℕ) (here : State) (load : ℕ) (o : List ℕ) where
-  pub no-week : (v : ℕ) → CountedIn c K j here load o v v → ⊥
+module _ (c : Course) (K : State → List ℕ → Type 0) (j : ℕ) (here : State) (compensation : ℕ) (o : List ℕ) where
+  pub no-week : (v : ℕ) → CountedIn c K j here compensation o v v → ⊥
   no-week v h = omega (arith, h .low, h .high)
 
-  pub one-week : (v w : ℕ) → v ≤ w → Equal (CountedIn c K j here load o v w ⊎ Counted c K j here w load o) (CountedIn c K j here load o v (w + 1))
+  pub one-week : (v w : ℕ) → v ≤ w → Equal (CountedIn c K j here compensation o v w ⊎ Counted c K j here w compensation o) (CountedIn c K j here compensation o v (w + 1))
   one-week v w l = record { to = go; from = λ h. back h (less-or-not (h .week) w) }
     where
-      go : CountedIn c K j here load o v w ⊎ Counted c K j here w load o → CountedIn c K j here load o v (w + 1)
+      go : CountedIn c K j here compensation o v w ⊎ Counted c K j here w compensation o → CountedIn c K j here compensation o v (w + 1)
       go (inl h) = record { week = h .week; low = h .low; high = omega (arith, h .high); counted = h .counted }
       go (inr h) = record { week = w; low = l; high = omega arith; counted = h }
 
-      back : (h : CountedIn c K j here load o v (w + 1)) → (h .week < w) ⊎ (w ≤ h .week) → CountedIn c K j here load o v w ⊎ Counted c K j here w load o
+      back : (h : CountedIn c K j here compensation o v (w + 1)) → (h .week < w) ⊎ (w ≤ h .week) → CountedIn c K j here compensation o v w ⊎ Counted c K j here w compensation o
       back h (inl m) = inl (record { week = h .week; low = h .low; high = m; counted = h .counted })
-      back h (inr m) = let e : h .week ≡ w = omega (arith, h .high) in inr (subst (λ (x : ℕ). Counted c K j here x load o) e (h .counted))
+      back h (inr m) = let e : h .week ≡ w = omega (arith, h .high) in inr (subst (λ (x : ℕ). Counted c K j here x compensation o) e (h .counted))
 
-  pub a-week : (v w : ℕ) → leastNet (Weekly Regular) + load ≤ lengthAt c j → v ≡ weekOf (at (c .starts) j) → (weekStart (w - 1) < at (c .ends) j) ⊎ (w ≤ v)
-      → CountedIn c K j here load o v w → ReadWeekly c K j here load o
+  pub a-week : (v w : ℕ) → leastNet (Weekly Regular) + compensation ≤ lengthAt c j → v ≡ weekOf (at (c .starts) j) → (weekStart (w - 1) < at (c .ends) j) ⊎ (w ≤ v)
+      → CountedIn c K j here compensation o v w → ReadWeekly c K j here compensation o
   a-week v w net e s h = record { net = net; week = h .week; from = omega (arith, h .low, e); upto = go s; then = h .counted }
     where
       go : (weekStart (w - 1) < at (c .ends) j) ⊎ (w ≤ v) → weekStart (h .week) < at (c .ends) j
       go (inl l) = omega (arith, h .high)
       go (inr l) = absurd (omega (arith, h .low, h .high))
 
-  pub all-weeks : (v w : ℕ) → v ≡ weekOf (at (c .starts) j) → at (c .ends) j ≤ weekStart w → ReadWeekly c K j here load o → CountedIn c K j here load o v w
+  pub all-weeks : (v w : ℕ) → v ≡ weekOf (at (c .starts) j) → at (c .ends) j ≤ weekStart w → ReadWeekly c K j here compensation o → CountedIn c K j here compensation o v w
   all-weeks v w e l h = record { week = h .week; low = omega (arith, h .from, e); high = omega (arith, h .upto, l); counted = h .then }
 
 -- ---- the entries of a front
@@ -351,40 +355,40 @@ module _ (c : Course) (j : ℕ) (t : List ℕ) where
       back h (inr m) = let q : h .entry ≡ e = omega (arith, h .below) in inr (subst (λ (x : ℕ). Can c j t (entryAt x)) q (h .can))
 
 -- ---- a rest read as of a kind
-module _ (c : Course) (K : State → List ℕ → Type 0) (j : ℕ) (here : State) (load : ℕ) {kind : Kind} (o : List ℕ) where
-  pub read-daily : kind ≡ Daily → Equal (ReadAs c K j here load kind o) (ReadDaily c K j here load o)
+module _ (c : Course) (K : State → List ℕ → Type 0) (j : ℕ) (here : State) (compensation : ℕ) {kind : Kind} (o : List ℕ) where
+  pub read-daily : kind ≡ Daily → Equal (ReadAs c K j here compensation kind o) (ReadDaily c K j here compensation o)
   read-daily e = record {
-    to = λ h. subst (λ (x : Kind). ReadAs c K j here load x o) e h;
-    from = λ h. subst (λ (x : Kind). ReadAs c K j here load x o) (sym e) h;
+    to = λ h. subst (λ (x : Kind). ReadAs c K j here compensation x o) e h;
+    from = λ h. subst (λ (x : Kind). ReadAs c K j here compensation x o) (sym e) h;
   }
 
-  pub read-weekly : {standing : Standing} → kind ≡ Weekly standing → Equal (ReadAs c K j here load kind o) (ReadWeekly c K j here load o)
+  pub read-weekly : {standing : Standing} → kind ≡ Weekly standing → Equal (ReadAs c K j here compensation kind o) (ReadWeekly c K j here compensation o)
   read-weekly e = record {
-    to = λ h. subst (λ (x : Kind). ReadAs c K j here load x o) e h;
-    from = λ h. subst (λ (x : Kind). ReadAs c K j here load x o) (sym e) h;
+    to = λ h. subst (λ (x : Kind). ReadAs c K j here compensation x o) e h;
+    from = λ h. subst (λ (x : Kind). ReadAs c K j here compensation x o) (sym e) h;
   }
 
 standingIn : Kind → Standing
 standingIn Daily = Regular
 standingIn (Weekly standing) = standing
 
-module _ (c : Course) (j load : ℕ) {kind : Kind} where
-  pub taken-daily : kind ≡ Daily → TakenAs c j load kind → leastNet Daily + load ≤ lengthAt c j
+module _ (c : Course) (j compensation : ℕ) {kind : Kind} where
+  pub taken-daily : kind ≡ Daily → TakenAs c j compensation kind → leastNet Daily + compensation ≤ lengthAt c j
   taken-daily e (TakenAs.daily _ n) = n
   taken-daily e (TakenAs.weekly _ n) = omega (arith, n)
 
-  pub taken-standing : {standing : Standing} → kind ≡ Weekly standing → TakenAs c j load kind → standing ≡ standingFor (lengthAt c j) load
+  pub taken-standing : {standing : Standing} → kind ≡ Weekly standing → TakenAs c j compensation kind → standing ≡ standingFor (lengthAt c j) compensation
   unfolding standingIn
   taken-standing e (TakenAs.daily d _) = absurd (true≢false (ap isWeekly (sym e ∙ d)))
   taken-standing e (TakenAs.weekly w _) = ap standingIn (sym e ∙ w)
 
-  pub taken-weekly : {standing : Standing} → kind ≡ Weekly standing → TakenAs c j load kind → leastNet (Weekly Regular) + load ≤ lengthAt c j
+  pub taken-weekly : {standing : Standing} → kind ≡ Weekly standing → TakenAs c j compensation kind → leastNet (Weekly Regular) + compensation ≤ lengthAt c j
   taken-weekly e (TakenAs.daily d _) = absurd (true≢false (ap isWeekly (sym e ∙ d)))
   taken-weekly e (TakenAs.weekly _ n) = n
 
--- the debt of its standing is that of the question
-pub owes-as : (c : Course) (j : ℕ) (st : State) (o : List ℕ) (load w : ℕ) {standing : Standing} → standing ≡ standingFor (lengthAt c j) load
-    → Equal (Later c j st (set o j (debtBy standing w))) (Later c j st (set o j (debtOf (lengthAt c j) load w)))
-owes-as c j st o load w {standing} e =
-    let q : debtBy standing w ≡ debtOf (lengthAt c j) load w = ap (λ (x : Standing). debtBy x w) e ∙ standing-debt (lengthAt c j) load w in
+-- the reduction of its standing is that of the question
+pub isOutstanding-as : (c : Course) (j : ℕ) (st : State) (o : List ℕ) (compensation w : ℕ) {standing : Standing} → standing ≡ standingFor (lengthAt c j) compensation
+    → Equal (Later c j st (set o j (outstandingBy standing w))) (Later c j st (set o j (outstandingOf (lengthAt c j) compensation w)))
+isOutstanding-as c j st o compensation w {standing} e =
+    let q : outstandingBy standing w ≡ outstandingOf (lengthAt c j) compensation w = ap (λ (x : Standing). outstandingBy x w) e ∙ standing-reduction (lengthAt c j) compensation w in
     record { to = λ h. subst (λ (x : ℕ). Later c j st (set o j x)) q h; from = λ h. subst (λ (x : ℕ). Later c j st (set o j x)) (sym q) h }

@@ -112,7 +112,7 @@ first {P} {Q} {A} {B} {S} {W} {o} {o′} {r} e h = subst (λ (b : Bool). Led (P 
 pub known : {P A B S W : Type 0} {o o′ : List ℕ} {r b : Bool} → r ≡ b → Led P A B r o o′ S W → Led P A B b o o′ S W
 known {P} {A} {B} {S} {W} {o} {o′} e h = subst (λ (x : Bool). Led P A B x o o′ S W) e h
 
--- asked of debts that are as they were
+-- asked of reductions that are as they were
 pub again : (P : List ℕ → Type 0) {A A′ S W : Type 0} {r : Bool} {o o₁ o₂ : List ℕ} → o₁ ≡ o → Led (P o₁) A A′ r o₁ o₂ S W → Led (P o) A A′ r o₁ o₂ S W
 again P {A} {A′} {S} {W} {r} {o} {o₁} {o₂} e h = subst (λ (x : List ℕ). Led (P x) A A′ r o₁ o₂ S W) e h
 
@@ -132,6 +132,6 @@ back o last d a h = record {
 pub accepted : {P A A′ S W : Type 0} {r : Bool} {o o′ : List ℕ} → r ≡ true → P → o′ ≡ o → S → W → Led P A A′ r o o′ S W
 accepted {P} {A} {A′} {S} {W} {r} {o} {o′} e p q s w = subst (λ (b : Bool). Led P A A′ b o o′ S W) (sym e) (accept p q s w)
 
--- the same, where what is owed is not told
+-- the same, where what is outstanding is not told
 pub relist : {P A A′ S W : Type 0} {r : Bool} {o o′ : List ℕ} (q : List ℕ) → Led P A A′ r o o′ S W → Led P A A′ r q q S W
 relist q h = record { yes = h .yes; keeps = h .keeps; leads = h .leads; from = h .from; same = refl; sound = h .sound; well = h .well }

@@ -11,12 +11,12 @@ use Rattle.verdict_completion.specs.declared.State.{State}
 use Rattle.verdict_completion.specs.Completable.{Course, at, count, Tries, Lies}
 use Rattle.verdict_completion.specs.Better.{Within, Matched, Better}
 use Rattle.verdict_completion.proofs.Monotone.{Mono, MonoBy, matched-last, completable-by, completable-mono, tries-by}
-use Rattle.verdict_nogoods.specs.Table.{debtsAtMost, levelAt, entryAt, debtsOf, debtPlace, InUse, Beats, Holds, SameEntry, Entry, old, new, Remembered, Empty}
+use Rattle.verdict_nogoods.specs.Table.{reductionsAtMost, levelAt, entryAt, reductionsOf, reductionPlace, InUse, Dominates, Holds, SameEntry, Entry, old, new, Remembered, Empty}
 use Rattle.verdict_search.specs.Search.{Later, Sound}
 
 -- ---- a state that is remembered
-beats-back : (t t′ : List ℕ) (p : ℕ) (st : State) (o : List ℕ) → SameEntry t t′ p → debtsOf t p ≤ debtsAtMost → Beats t′ p st o → Beats t p st o
-beats-back t t′ p st o s few h =
+dominates-back : (t t′ : List ℕ) (p : ℕ) (st : State) (o : List ℕ) → SameEntry t t′ p → reductionsOf t p ≤ reductionsAtMost → Dominates t′ p st o → Dominates t p st o
+dominates-back t t′ p st o s few h =
     let n = s (p + 6) (omega arith) (omega arith) in
     record {
       ended = omega (arith, h .ended, s p (omega arith) (omega arith));
@@ -25,14 +25,14 @@ beats-back t t′ p st o s few h =
       regular-before = omega (arith, h .regular-before, s (p + 3) (omega arith) (omega arith));
       weekly = omega (arith, h .weekly, s (p + 4) (omega arith) (omega arith));
       regular = omega (arith, h .regular, s (p + 5) (omega arith) (omega arith));
-      debts = record {
-        to = h .debts .to;
-        within = λ d l. subst (λ (x : ℕ). Within x (at o (h .debts .to d))) (s (debtPlace p d) (omega arith) (omega arith)) (h .debts .within d (omega (arith, n)));
-        rises = λ d e l m. h .debts .rises d e l (omega (arith, n));
+      reductions = record {
+        to = h .reductions .to;
+        within = λ d l. subst (λ (x : ℕ). Within x (at o (h .reductions .to d))) (s (reductionPlace p d) (omega arith) (omega arith)) (h .reductions .within d (omega (arith, n)));
+        rises = λ d e l m. h .reductions .rises d e l (omega (arith, n));
       };
     }
 
-held-better : (t : List ℕ) (p : ℕ) (x y : State) (o q : List ℕ) → x .week ≡ y .week → Holds t p x o → Beats t p y q → Better x y
+held-better : (t : List ℕ) (p : ℕ) (x y : State) (o q : List ℕ) → x .week ≡ y .week → Holds t p x o → Dominates t p y q → Better x y
 held-better t p x y o q w h k = record {
   week = w;
   ended = omega (arith, h .ended, k .ended);
@@ -43,33 +43,33 @@ held-better t p x y o q w h k = record {
   regular = omega (arith, h .regular, k .regular);
 }
 
--- the debts of a stored state lie within those of one that it beats
+-- the reductions of a stored state lie within those of one that it is at least as good as
 held-matched : (k j : ℕ) (t : List ℕ) (p : ℕ) (x y : State) (o q : List ℕ) → length q ≡ k → ((i : ℕ) → j ≤ i → at o i ≡ 0) → ((i : ℕ) → j ≤ i → at q i ≡ 0)
-    → Holds t p x o → Beats t p y q → Matched k j o q
+    → Holds t p x o → Dominates t p y q → Matched k j o q
 held-matched k j t p x y o q long ends ends′ h b = record {
   long = long;
   to = to;
   below = λ i l. before o ends i l;
-  to-below = λ i l. before q ends′ (to i) (within i l .owes);
+  to-below = λ i l. before q ends′ (to i) (within i l .isOutstanding);
   within = within;
   apart = λ i m l l′ e. same i m l l′ e (less-or-not i m) (less-or-not m i);
 }
   where
     to : ℕ → ℕ
-    to i = b .debts .to (h .debts .place i)
+    to i = b .reductions .to (h .reductions .place i)
 
     before : (l : List ℕ) → ((i : ℕ) → j ≤ i → at l i ≡ 0) → (i : ℕ) → 0 < at l i → i < j
-    before l z i owes = go (less-or-not i j)
+    before l z i isOutstanding = go (less-or-not i j)
       where
         go : (i < j) ⊎ (j ≤ i) → i < j
         go (inl f) = f
-        go (inr f) = absurd (omega (arith, owes, z i f))
+        go (inr f) = absurd (omega (arith, isOutstanding, z i f))
 
     within : (i : ℕ) → 0 < at o i → Within (at o i) (at q (to i))
-    within i l = subst (λ (v : ℕ). Within v (at q (to i))) (h .debts .debt i l) (b .debts .within (h .debts .place i) (h .debts .below i l))
+    within i l = subst (λ (v : ℕ). Within v (at q (to i))) (h .reductions .reduction i l) (b .reductions .within (h .reductions .place i) (h .reductions .below i l))
 
     rising : (i m : ℕ) → i < m → 0 < at o i → 0 < at o m → to i < to m
-    rising i m f l l′ = b .debts .rises (h .debts .place i) (h .debts .place m) (h .debts .rises i m f l l′) (h .debts .below m l′)
+    rising i m f l l′ = b .reductions .rises (h .reductions .place i) (h .reductions .place m) (h .reductions .rises i m f l l′) (h .reductions .below m l′)
 
     same : (i m : ℕ) → 0 < at o i → 0 < at o m → to i ≡ to m → (i < m) ⊎ (m ≤ i) → (m < i) ⊎ (i ≤ m) → i ≡ m
     same i m l l′ e (inl f) g = absurd (omega (arith, rising i m f l l′, e))
@@ -87,14 +87,14 @@ module _ (c : Course) (lies : Lies c) where
 
   module _ (t t′ : List ℕ) (j : ℕ) (here : State) (o : List ℕ) (within : j < count c) (week : here .week ≡ weekOf (at (c .starts) j)) (long : length o ≡ count c)
       (unused : (x : ℕ) → j ≤ x → at o x ≡ 0) (sound : Sound c t) (kept : Remembered t t′ j here o) (nay : Tries c (Later c j) j here o → ⊥) where
-    few-on : (i e : ℕ) → i < count c → Entry t t′ j here o i e → debtsOf t′ (entryAt i e) ≤ debtsAtMost
+    few-on : (i e : ℕ) → i < count c → Entry t t′ j here o i e → reductionsOf t′ (entryAt i e) ≤ reductionsAtMost
     few-on i e l (old u s) = omega (arith, sound .few i e l u, s (entryAt i e + 6) (omega arith) (omega arith))
     few-on i e l (new q h) = h .few
 
     closed-on : (i e : ℕ) (st : State) (p : List ℕ) → i < count c → st .week ≡ weekOf (at (c .starts) i) → length p ≡ count c → ((x : ℕ) → i ≤ x → at p x ≡ 0) → Entry t t′ j here o i e
-        → Beats t′ (entryAt i e) st p → Tries c (Later c i) i st p → ⊥
+        → Dominates t′ (entryAt i e) st p → Tries c (Later c i) i st p → ⊥
     closed-on i e st p l w len z (old u s) b h =
-        sound .closed i st p l w len z (record { entry = e; used = u; beats = beats-back t t′ (entryAt i e) st p s (sound .few i e l u) b }) h
+        sound .closed i st p l w len z (record { entry = e; used = u; dominates = dominates-back t t′ (entryAt i e) st p s (sound .few i e l u) b }) h
     closed-on i e st p l w len z (new q k) b h =
         nay (tries-by c (matched-last c) (Later c j) j within (later-matched j within)
         (held-better t′ (entryAt i e) here st o p (week ∙ ap (λ (x : ℕ). weekOf (at (c .starts) x)) (sym q) ∙ sym w) k b) o p
@@ -105,7 +105,7 @@ module _ (c : Course) (lies : Lies c) where
     pub sound-on : Sound c t′
     sound-on = record {
       few = λ i e l u. few-on i e l (kept .entries i e u);
-      closed = λ i st p l w len z k h. closed-on i (k .entry) st p l w len z (kept .entries i (k .entry) (k .used)) (k .beats) h;
+      closed = λ i st p l w len z k h. closed-on i (k .entry) st p l w len z (kept .entries i (k .entry) (k .used)) (k .dominates) h;
     }
 
   none-used : {t : List ℕ} (i e : ℕ) → at t (levelAt i) ≡ 0 → InUse t i e → ⊥

@@ -54,11 +54,11 @@ module _ (c : Course) (lies : Lies c) where
   pub sized-too : {o p : List ℕ} → Sized c o → length p ≡ length o → Sized c p
   sized-too h e = record {
     lies = h .lies;
-    loads-too = h .loads-too;
-    owed-too = e ∙ h .owed-too;
+    compensations-too = h .compensations-too;
+    outstanding-too = e ∙ h .outstanding-too;
     few = h .few;
     judged = h .judged;
-    loads-low = h .loads-low;
+    compensations-low = h .compensations-low;
   }
 
   slots-of : {j n : ℕ} {o : List ℕ} (i m : ℕ) (p : List ℕ) → Slots c j n o → length p ≡ length o → m ≤ i → ((x : ℕ) → m ≤ x → at p x ≡ 0) → Slots c i m p
@@ -70,8 +70,8 @@ module _ (c : Course) (lies : Lies c) where
   pub slots-none : {o : List ℕ} (j : ℕ) → Lent c o → Slots c j 0 o
   slots-none {o} j h = slots-of j 0 o h refl zero-le (h .unused)
 
-  pub slot-paid : {j n : ℕ} {o : List ℕ} (d : ℕ) → d < n → Slots c j n o → Slots c j n (set o d 0)
-  slot-paid {j} {n} {o} d l h = slots-of j n (set o d 0) h (length-set o d 0) (h .below) (λ x f. getD-set-other o d x 0 0 (λ e. omega arith) ∙ h .unused x f)
+  pub slot-addedTo : {j n : ℕ} {o : List ℕ} (d : ℕ) → d < n → Slots c j n o → Slots c j n (set o d 0)
+  slot-addedTo {j} {n} {o} d l h = slots-of j n (set o d 0) h (length-set o d 0) (h .below) (λ x f. getD-set-other o d x 0 0 (λ e. omega arith) ∙ h .unused x f)
 
   pub slot-put : {j n : ℕ} {o : List ℕ} (a : ℕ) → Slots c j n o → Slots c (j + 1) (n + 1) (set o n a)
   slot-put {j} {n} {o} a h =
@@ -151,5 +151,5 @@ module _ (c : Course) (lies : Lies c) where
   before-start {st} b e = subst (Before c 0) (sym e) (record { within = zero-le; stands = start-stands b; small = start-small b; ended = zero-le; reached = λ l. absurd (omega arith) })
 
 -- what a step is lent
-pub given : {c : Course} {j m i n : ℕ} {owed nogoods front : List ℕ} → Slots c j m owed → Sound c nogoods → Front c i front n → Given c j m owed nogoods i front n
+pub given : {c : Course} {j m i n : ℕ} {outstanding nogoods front : List ℕ} → Slots c j m outstanding → Sound c nogoods → Front c i front n → Given c j m outstanding nogoods i front n
 given slots sound well = record { slots = slots; sound = sound; well = well }

@@ -1,4 +1,4 @@
-// What a state before a long rest leads to: which outstanding debts the rest compensates for, what kind of rest it is and in which week it counts.
+// What a state before a long rest leads to: which outstanding reductions the rest compensates for, what kind of rest it is and in which week it counts.
 // Each state that follows is put into the next front; what does not fit there is asked at once by the same steps with no front, depth first.
 use rules::Kind;
 use rules::Standing;
@@ -14,10 +14,10 @@ ghost use Rattle.rules.specs.Reading.{reductionOf};
 ghost use Rattle.rules.specs.ReadingRules.{leastNet};
 ghost use Rattle.rules.specs.declared.Kind.the-variants.{Daily, Weekly};
 ghost use Rattle.rules.specs.declared.Standing.the-variants.{Regular};
-ghost use Rattle.rules_reading.specs.Items.{loadAtMost};
-ghost use Rattle.verdict_completion.specs.Completable.{at, count, lengthAt, Pays, Closes, ReadDaily, ReadWeekly, Counted, Reads, Tries, Completable};
+ghost use Rattle.rules_reading.specs.Items.{standingFor, compensationAtMost};
+ghost use Rattle.verdict_completion.specs.Completable.{at, count, lengthAt, Compensates, Closes, ReadDaily, ReadWeekly, Counted, Reads, Tries, Completable};
 ghost use Rattle.verdict_completion.specs.Better.{AtRest};
-ghost use Rattle.verdict_steps.specs.Steps.{Says, standingFor, debtBy};
+ghost use Rattle.verdict_steps.specs.Steps.{Says, outstandingBy};
 ghost use Rattle.verdict_search.specs.Search.{courseNow, courseAt, Later, Slots, Before};
 ghost use Rattle.verdict_search.specs.Leading.{Given, Leads, ReadAs, TakenAs};
 
@@ -32,19 +32,19 @@ fn closes(
     starts: &[u32],
     ends: &[u32],
     nets: &[u32],
-    loads: &[u32],
+    compensations: &[u32],
     s: u32,
-    owed: &[u32],
+    outstanding: &[u32],
     st: State,
     n: usize,
 ) -> bool
-    requires { ⌜ (let c = courseNow starts ends nets loads s in Slots c (count c) n (now owed) × Before c (count c) st) ⌝ }
-    ensures { λ r. ⌜ (let c = courseAt starts ends nets loads s in Says (Closes c st (now (owed .entry))) r) ⌝ }
+    requires { ⌜ (let c = courseNow starts ends nets compensations s in Slots c (count c) n (now outstanding) × Before c (count c) st) ⌝ }
+    ensures { λ r. ⌜ (let c = courseAt starts ends nets compensations s in Says (Closes c st (now (outstanding .entry))) r) ⌝ }
 {
     if st.ended + rules_reading::WEEKLY_GAP < s {
         return false;
     }
-    if verdict_steps::overdue(owed, n, s + 1) {
+    if verdict_steps::overdue(outstanding, n, s + 1) {
         return false;
     }
     let Brought::To(_) = verdict_steps::advance(
@@ -65,9 +65,9 @@ pub fn place(
     starts: &[u32],
     ends: &[u32],
     nets: &[u32],
-    loads: &[u32],
+    compensations: &[u32],
     s: u32,
-    owed: &mut [u32],
+    outstanding: &mut [u32],
     nogoods: &mut [u32],
     next: &mut [u32],
     j: usize,
@@ -75,30 +75,30 @@ pub fn place(
     m: usize,
     n: usize,
 ) -> Went
-    requires { ⌜ (let c = courseNow starts ends nets loads s in Given c j m (now owed) (now nogoods) j (now next) n × AtRest c j here) ⌝ }
-    ensures { λ r. ⌜ (let c = courseAt starts ends nets loads s in Leads c (λ o. Tries c (Later c j) j here o) j n next owed nogoods r) ⌝ }
+    requires { ⌜ (let c = courseNow starts ends nets compensations s in Given c j m (now outstanding) (now nogoods) j (now next) n × AtRest c j here) ⌝ }
+    ensures { λ r. ⌜ (let c = courseAt starts ends nets compensations s in Leads c (λ o. Tries c (Later c j) j here o) j n next outstanding nogoods r) ⌝ }
 {
-    let put = verdict_fronts::put(next, n, owed, m, here);
+    let put = verdict_fronts::put(next, n, outstanding, m, here);
     let n = put.n;
     if put.fits {
         return Went { yes: false, n: n };
     }
-    if verdict_nogoods::known(nogoods, owed, m, j, here) {
+    if verdict_nogoods::known(nogoods, outstanding, m, j, here) {
         return Went { yes: false, n: n };
     }
     let mut none = [0u32; 0];
-    let went = pay(
+    let went = compensate(
         starts,
         ends,
         nets,
-        loads,
+        compensations,
         s,
-        owed,
+        outstanding,
         nogoods,
         &mut none,
         j,
         0,
-        loads[j],
+        compensations[j],
         here,
         m,
         0,
@@ -106,7 +106,7 @@ pub fn place(
     if went.yes {
         return Went { yes: true, n: n };
     }
-    verdict_nogoods::remember(nogoods, owed, m, j, here);
+    verdict_nogoods::remember(nogoods, outstanding, m, j, here);
     Went { yes: false, n: n }
 }
 
@@ -115,9 +115,9 @@ pub fn step(
     starts: &[u32],
     ends: &[u32],
     nets: &[u32],
-    loads: &[u32],
+    compensations: &[u32],
     s: u32,
-    owed: &mut [u32],
+    outstanding: &mut [u32],
     nogoods: &mut [u32],
     next: &mut [u32],
     j: usize,
@@ -125,17 +125,17 @@ pub fn step(
     m: usize,
     n: usize,
 ) -> Went
-    requires { ⌜ (let c = courseNow starts ends nets loads s in Given c j m (now owed) (now nogoods) j (now next) n × Before c j st) ⌝ }
-    ensures { λ r. ⌜ (let c = courseAt starts ends nets loads s in Leads c (λ o. Completable c (count c - j) j st o) j n next owed nogoods r) ⌝ }
+    requires { ⌜ (let c = courseNow starts ends nets compensations s in Given c j m (now outstanding) (now nogoods) j (now next) n × Before c j st) ⌝ }
+    ensures { λ r. ⌜ (let c = courseAt starts ends nets compensations s in Leads c (λ o. Completable c (count c - j) j st o) j n next outstanding nogoods r) ⌝ }
 {
     if j == starts.len() {
-        let yes = closes(starts, ends, nets, loads, s, owed, st, m);
+        let yes = closes(starts, ends, nets, compensations, s, outstanding, st, m);
         return Went { yes: yes, n: n };
     }
     if st.ended + rules_reading::WEEKLY_GAP < starts[j] {
         return Went { yes: false, n: n };
     }
-    if verdict_steps::overdue(owed, m, ends[j]) {
+    if verdict_steps::overdue(outstanding, m, ends[j]) {
         return Went { yes: false, n: n };
     }
     let Brought::To(here) = verdict_steps::advance(
@@ -151,9 +151,9 @@ pub fn step(
         starts,
         ends,
         nets,
-        loads,
+        compensations,
         s,
-        owed,
+        outstanding,
         nogoods,
         next,
         j,
@@ -163,27 +163,27 @@ pub fn step(
     )
 }
 
-// The rest of index j is daily, with a load.
+// The rest of index j is daily, with a compensation.
 fn daily(
     starts: &[u32],
     ends: &[u32],
     nets: &[u32],
-    loads: &[u32],
+    compensations: &[u32],
     s: u32,
-    owed: &mut [u32],
+    outstanding: &mut [u32],
     nogoods: &mut [u32],
     next: &mut [u32],
     j: usize,
-    load: u32,
+    compensation: u32,
     here: State,
     m: usize,
     n: usize,
 ) -> Went
-    requires { ⌜ (let c = courseNow starts ends nets loads s in
-        Given c j m (now owed) (now nogoods) (j + 1) (now next) n × AtRest c j here × (leastNet Daily + load ≤ lengthAt c j)) ⌝ }
-    ensures { λ r. ⌜ (let c = courseAt starts ends nets loads s in Leads c (λ o. ReadDaily c (Later c j) j here load o) (j + 1) n next owed nogoods r) ⌝ }
+    requires { ⌜ (let c = courseNow starts ends nets compensations s in
+        Given c j m (now outstanding) (now nogoods) (j + 1) (now next) n × AtRest c j here × (leastNet Daily + compensation ≤ lengthAt c j)) ⌝ }
+    ensures { λ r. ⌜ (let c = courseAt starts ends nets compensations s in Leads c (λ o. ReadDaily c (Later c j) j here compensation o) (j + 1) n next outstanding nogoods r) ⌝ }
 {
-    let short = verdict_steps::is_short(ends[j] - starts[j], nets[j], load);
+    let short = verdict_steps::is_short(ends[j] - starts[j], nets[j], compensation);
     let after = verdict_steps::after_daily(here, short);
     if rules_reading::SHORTENED_AT_MOST < after.short {
         return Went { yes: false, n: n };
@@ -192,9 +192,9 @@ fn daily(
         starts,
         ends,
         nets,
-        loads,
+        compensations,
         s,
-        owed,
+        outstanding,
         nogoods,
         next,
         j + 1,
@@ -204,14 +204,14 @@ fn daily(
     )
 }
 
-// It is weekly, counted in week w, and owes what it is reduced by; a debt that is due after s needs nothing.
+// It is weekly, counted in week w, and its reduction is outstanding from now on; one that is due after s needs nothing.
 fn count_in(
     starts: &[u32],
     ends: &[u32],
     nets: &[u32],
-    loads: &[u32],
+    compensations: &[u32],
     s: u32,
-    owed: &mut [u32],
+    outstanding: &mut [u32],
     nogoods: &mut [u32],
     next: &mut [u32],
     j: usize,
@@ -221,19 +221,19 @@ fn count_in(
     m: usize,
     n: usize,
 ) -> Went
-    requires { ⌜ (let c = courseNow starts ends nets loads s in
-        Given c j m (now owed) (now nogoods) (j + 1) (now next) n × (j < count c) × Before c (j + 1) after × (reductionOf (Weekly standing) ≤ loadAtMost) × (w < 255)) ⌝ }
-    ensures { λ r. ⌜ (let c = courseAt starts ends nets loads s in Leads c (λ o. Later c j after (set o j (debtBy standing w))) (j + 1) n next owed nogoods r) ⌝ }
+    requires { ⌜ (let c = courseNow starts ends nets compensations s in
+        Given c j m (now outstanding) (now nogoods) (j + 1) (now next) n × (j < count c) × Before c (j + 1) after × (reductionOf (Weekly standing) ≤ compensationAtMost) × (w < 255)) ⌝ }
+    ensures { λ r. ⌜ (let c = courseAt starts ends nets compensations s in Leads c (λ o. Later c j after (set o j (outstandingBy standing w))) (j + 1) n next outstanding nogoods r) ⌝ }
 {
-    let debt = owed[m];
-    owed[m] = verdict_steps::outstanding(verdict_steps::debt_of(standing, w), s);
+    let reduction = outstanding[m];
+    outstanding[m] = verdict_steps::needed(verdict_steps::outstanding_of(standing, w), s);
     let went = step(
         starts,
         ends,
         nets,
-        loads,
+        compensations,
         s,
-        owed,
+        outstanding,
         nogoods,
         next,
         j + 1,
@@ -241,7 +241,7 @@ fn count_in(
         m + 1,
         n,
     );
-    owed[m] = debt;
+    outstanding[m] = reduction;
     went
 }
 
@@ -250,23 +250,23 @@ fn in_week(
     starts: &[u32],
     ends: &[u32],
     nets: &[u32],
-    loads: &[u32],
+    compensations: &[u32],
     s: u32,
-    owed: &mut [u32],
+    outstanding: &mut [u32],
     nogoods: &mut [u32],
     next: &mut [u32],
     j: usize,
-    load: u32,
+    compensation: u32,
     standing: Standing,
     w: u32,
     here: State,
     m: usize,
     n: usize,
 ) -> Went
-    requires { ⌜ (let c = courseNow starts ends nets loads s in Given c j m (now owed) (now nogoods) (j + 1) (now next) n × AtRest c j here
-        × (standing ≡ standingFor (lengthAt c j) load) × (leastNet (Weekly Regular) + load ≤ lengthAt c j)
+    requires { ⌜ (let c = courseNow starts ends nets compensations s in Given c j m (now outstanding) (now nogoods) (j + 1) (now next) n × AtRest c j here
+        × (standing ≡ standingFor (lengthAt c j) compensation) × (leastNet (Weekly Regular) + compensation ≤ lengthAt c j)
         × (at (now starts) j < weekStart (w + 1)) × (weekStart w < at (now ends) j)) ⌝ }
-    ensures { λ r. ⌜ (let c = courseAt starts ends nets loads s in Leads c (λ o. Counted c (Later c j) j here w load o) (j + 1) n next owed nogoods r) ⌝ }
+    ensures { λ r. ⌜ (let c = courseAt starts ends nets compensations s in Leads c (λ o. Counted c (Later c j) j here w compensation o) (j + 1) n next outstanding nogoods r) ⌝ }
 {
     let Brought::To(there) = verdict_steps::advance(starts, ends, j + 1, here, w) else {
         return Went { yes: false, n: n };
@@ -282,9 +282,9 @@ fn in_week(
         starts,
         ends,
         nets,
-        loads,
+        compensations,
         s,
-        owed,
+        outstanding,
         nogoods,
         next,
         j,
@@ -301,21 +301,21 @@ fn weekly(
     starts: &[u32],
     ends: &[u32],
     nets: &[u32],
-    loads: &[u32],
+    compensations: &[u32],
     s: u32,
-    owed: &mut [u32],
+    outstanding: &mut [u32],
     nogoods: &mut [u32],
     next: &mut [u32],
     j: usize,
-    load: u32,
+    compensation: u32,
     standing: Standing,
     here: State,
     m: usize,
     n: usize,
 ) -> Went
-    requires { ⌜ (let c = courseNow starts ends nets loads s in Given c j m (now owed) (now nogoods) (j + 1) (now next) n × AtRest c j here
-        × (standing ≡ standingFor (lengthAt c j) load) × (leastNet (Weekly Regular) + load ≤ lengthAt c j)) ⌝ }
-    ensures { λ r. ⌜ (let c = courseAt starts ends nets loads s in Leads c (λ o. ReadWeekly c (Later c j) j here load o) (j + 1) n next owed nogoods r) ⌝ }
+    requires { ⌜ (let c = courseNow starts ends nets compensations s in Given c j m (now outstanding) (now nogoods) (j + 1) (now next) n × AtRest c j here
+        × (standing ≡ standingFor (lengthAt c j) compensation) × (leastNet (Weekly Regular) + compensation ≤ lengthAt c j)) ⌝ }
+    ensures { λ r. ⌜ (let c = courseAt starts ends nets compensations s in Leads c (λ o. ReadWeekly c (Later c j) j here compensation o) (j + 1) n next outstanding nogoods r) ⌝ }
 {
     let end = ends[j];
     let mut w = starts[j] / recording::WEEK_MINUTES;
@@ -325,13 +325,13 @@ fn weekly(
             starts,
             ends,
             nets,
-            loads,
+            compensations,
             s,
-            owed,
+            outstanding,
             nogoods,
             next,
             j,
-            load,
+            compensation,
             standing,
             w,
             here,
@@ -355,20 +355,20 @@ fn read_as(
     starts: &[u32],
     ends: &[u32],
     nets: &[u32],
-    loads: &[u32],
+    compensations: &[u32],
     s: u32,
-    owed: &mut [u32],
+    outstanding: &mut [u32],
     nogoods: &mut [u32],
     next: &mut [u32],
     j: usize,
-    load: u32,
+    compensation: u32,
     rest: LongRest,
     here: State,
     m: usize,
     n: usize,
 ) -> Went
-    requires { ⌜ (let c = courseNow starts ends nets loads s in Given c j m (now owed) (now nogoods) (j + 1) (now next) n × AtRest c j here × TakenAs c j load (rest .kind)) ⌝ }
-    ensures { λ r. ⌜ (let c = courseAt starts ends nets loads s in Leads c (λ o. ReadAs c (Later c j) j here load (rest .kind) o) (j + 1) n next owed nogoods r) ⌝ }
+    requires { ⌜ (let c = courseNow starts ends nets compensations s in Given c j m (now outstanding) (now nogoods) (j + 1) (now next) n × AtRest c j here × TakenAs c j compensation (rest .kind)) ⌝ }
+    ensures { λ r. ⌜ (let c = courseAt starts ends nets compensations s in Leads c (λ o. ReadAs c (Later c j) j here compensation (rest .kind) o) (j + 1) n next outstanding nogoods r) ⌝ }
 {
     let kind = rest.kind;
     match kind {
@@ -376,13 +376,13 @@ fn read_as(
             starts,
             ends,
             nets,
-            loads,
+            compensations,
             s,
-            owed,
+            outstanding,
             nogoods,
             next,
             j,
-            load,
+            compensation,
             here,
             m,
             n,
@@ -391,13 +391,13 @@ fn read_as(
             starts,
             ends,
             nets,
-            loads,
+            compensations,
             s,
-            owed,
+            outstanding,
             nogoods,
             next,
             j,
-            load,
+            compensation,
             standing,
             here,
             m,
@@ -406,43 +406,43 @@ fn read_as(
     }
 }
 
-// It is daily or weekly, with a load; where it can be a regular weekly rest it need not be daily.
+// It is daily or weekly, with a compensation; where it can be a regular weekly rest it need not be daily.
 fn choose(
     starts: &[u32],
     ends: &[u32],
     nets: &[u32],
-    loads: &[u32],
+    compensations: &[u32],
     s: u32,
-    owed: &mut [u32],
+    outstanding: &mut [u32],
     nogoods: &mut [u32],
     next: &mut [u32],
     j: usize,
-    load: u32,
+    compensation: u32,
     here: State,
     m: usize,
     n: usize,
 ) -> Went
-    requires { ⌜ (let c = courseNow starts ends nets loads s in Given c j m (now owed) (now nogoods) (j + 1) (now next) n × AtRest c j here × (load ≤ totalAtMost)) ⌝ }
-    ensures { λ r. ⌜ (let c = courseAt starts ends nets loads s in Leads c (λ o. Reads c (Later c j) j here load o) (j + 1) n next owed nogoods r) ⌝ }
+    requires { ⌜ (let c = courseNow starts ends nets compensations s in Given c j m (now outstanding) (now nogoods) (j + 1) (now next) n × AtRest c j here × (compensation ≤ totalAtMost)) ⌝ }
+    ensures { λ r. ⌜ (let c = courseAt starts ends nets compensations s in Leads c (λ o. Reads c (Later c j) j here compensation o) (j + 1) n next outstanding nogoods r) ⌝ }
 {
     let start = starts[j];
     let end = ends[j];
-    if end - start < rules_reading::DAILY_NET + load {
+    if end - start < rules_reading::DAILY_NET + compensation {
         return Went { yes: false, n: n };
     }
-    let weekly = verdict_steps::as_weekly(start, end, load);
-    if rules_reading::REGULAR + load <= end - start {
+    let weekly = verdict_steps::as_weekly(start, end, compensation);
+    if rules_reading::REGULAR + compensation <= end - start {
         return read_as(
             starts,
             ends,
             nets,
-            loads,
+            compensations,
             s,
-            owed,
+            outstanding,
             nogoods,
             next,
             j,
-            load,
+            compensation,
             weekly,
             here,
             m,
@@ -454,13 +454,13 @@ fn choose(
         starts,
         ends,
         nets,
-        loads,
+        compensations,
         s,
-        owed,
+        outstanding,
         nogoods,
         next,
         j,
-        load,
+        compensation,
         daily,
         here,
         m,
@@ -469,20 +469,20 @@ fn choose(
     if went.yes {
         return went;
     }
-    if end - start < rules_reading::WEEKLY_NET + load {
+    if end - start < rules_reading::WEEKLY_NET + compensation {
         return went;
     }
     read_as(
         starts,
         ends,
         nets,
-        loads,
+        compensations,
         s,
-        owed,
+        outstanding,
         nogoods,
         next,
         j,
-        load,
+        compensation,
         weekly,
         here,
         m,
@@ -490,79 +490,79 @@ fn choose(
     )
 }
 
-// It has a load, and compensates for some of the debts in the slots from i on.
-pub fn pay(
+// It has a compensation, and compensates for some of the reductions in the slots from i on.
+pub fn compensate(
     starts: &[u32],
     ends: &[u32],
     nets: &[u32],
-    loads: &[u32],
+    compensations: &[u32],
     s: u32,
-    owed: &mut [u32],
+    outstanding: &mut [u32],
     nogoods: &mut [u32],
     next: &mut [u32],
     j: usize,
     i: usize,
-    load: u32,
+    compensation: u32,
     here: State,
     m: usize,
     n: usize,
 ) -> Went
-    requires { ⌜ (let c = courseNow starts ends nets loads s in Given c j m (now owed) (now nogoods) (j + 1) (now next) n × AtRest c j here × (i ≤ m) × (load ≤ totalAtMost)) ⌝ }
-    ensures { λ r. ⌜ (let c = courseAt starts ends nets loads s in Leads c (λ o. Pays (Reads c (Later c j) j here) (lengthAt c j) (j - i) i load o) (j + 1) n
-        next owed nogoods r) ⌝ }
+    requires { ⌜ (let c = courseNow starts ends nets compensations s in Given c j m (now outstanding) (now nogoods) (j + 1) (now next) n × AtRest c j here × (i ≤ m) × (compensation ≤ totalAtMost)) ⌝ }
+    ensures { λ r. ⌜ (let c = courseAt starts ends nets compensations s in Leads c (λ o. Compensates (Reads c (Later c j) j here) (lengthAt c j) (j - i) i compensation o) (j + 1) n
+        next outstanding nogoods r) ⌝ }
 {
-    let d = verdict_steps::debtor(owed, m, i, load, ends[j] - starts[j]);
+    let d = verdict_steps::candidate(outstanding, m, i, compensation, ends[j] - starts[j]);
     if d == m {
         return choose(
             starts,
             ends,
             nets,
-            loads,
+            compensations,
             s,
-            owed,
+            outstanding,
             nogoods,
             next,
             j,
-            load,
+            compensation,
             here,
             m,
             n,
         );
     }
-    let debt = owed[d];
-    owed[d] = 0;
-    let went = pay(
+    let reduction = outstanding[d];
+    outstanding[d] = 0;
+    let went = compensate(
         starts,
         ends,
         nets,
-        loads,
+        compensations,
         s,
-        owed,
+        outstanding,
         nogoods,
         next,
         j,
         d + 1,
-        load + debt % verdict_steps::DEBT_UNIT,
+        compensation + reduction % verdict_steps::REDUCTION_UNIT,
         here,
         m,
         n,
     );
-    owed[d] = debt;
+    outstanding[d] = reduction;
     if went.yes {
         return went;
     }
-    pay(
+    compensate(
         starts,
         ends,
         nets,
-        loads,
+        compensations,
         s,
-        owed,
+        outstanding,
         nogoods,
         next,
         j,
         d + 1,
-        load,
+        compensation,
         here,
         m,
         went.n,

@@ -1,4 +1,4 @@
--- Laws of the steps of the search: when a debt is due, weeks one by one, and what holds of all indices. Assumes nothing.
+-- Laws of the steps of the search: when a reduction is due, weeks one by one, and what holds of all indices. Assumes nothing.
 use mathlib.Core.Path.{_≡_, refl, sym, ap, subst}
 use mathlib.Core.Logic.{⊎-elim}
 use mathlib.Core.Bool.{Bool, true, false, false≢true}
@@ -17,9 +17,10 @@ use Rattle.rules.specs.declared.Kind.the-variants.{Weekly}
 use Rattle.verdict_completion.specs.declared.State.{State}
 use Rattle.verdict_completion.specs.declared.Brought.the-variants.{Broken, To}
 use Rattle.verdict_completion.specs.States.{pairKept, nextWeek, advance, afterDaily}
-use Rattle.verdict_completion.specs.Completable.{at, debtUnit, dueOf, debtOf, Overdue}
+use Rattle.verdict_completion.specs.Completable.{at, reductionUnit, deadlineOf, outstandingOf, Overdue}
 use Rattle.verdict_completion.specs.Better.{Small}
-use Rattle.verdict_steps.specs.Steps.{Says, Fits, NoneFrom, standingFor, debtBy}
+use Rattle.rules_reading.specs.Items.{standingFor}
+use Rattle.verdict_steps.specs.Steps.{Says, Fits, NoneFrom, outstandingBy}
 
 pub no-more : (n : ℕ) → n ≤ regularAtLeast → n ≡ min regularAtLeast (n + 0)
 no-more n l = omega arith
@@ -30,18 +31,18 @@ same-after st =
     let e : st .short ≡ st .short + 0 = omega arith in
     ap (λ (x : ℕ). record { ended = st .ended; short = x; week = st .week; before = st .before; current = st .current }) e
 
--- ---- when a debt is due, by weeks
-pub due-after : (debt s : ℕ) → weekOf s < debt / debtUnit → s < dueOf debt
-due-after debt s l = omega arith
+-- ---- when a reduction is due, by weeks
+pub deadline-after : (reduction s : ℕ) → weekOf s < reduction / reductionUnit → s < deadlineOf reduction
+deadline-after reduction s l = omega arith
 
-pub due-by : (debt s : ℕ) → debt / debtUnit ≤ weekOf s → dueOf debt ≤ s
-due-by debt s l = omega arith
+pub deadline-by : (reduction s : ℕ) → reduction / reductionUnit ≤ weekOf s → deadlineOf reduction ≤ s
+deadline-by reduction s l = omega arith
 
-pub due-before : (debt t : ℕ) → (t ≡ 0 → ⊥) → debt / debtUnit ≤ weekOf (t - 1) → dueOf debt < t
-due-before debt t n l = omega arith
+pub deadline-before : (reduction t : ℕ) → (t ≡ 0 → ⊥) → reduction / reductionUnit ≤ weekOf (t - 1) → deadlineOf reduction < t
+deadline-before reduction t n l = omega arith
 
-pub not-before : (debt t : ℕ) → weekOf (t - 1) < debt / debtUnit → dueOf debt < t → ⊥
-not-before debt t l h = omega arith
+pub not-before : (reduction t : ℕ) → weekOf (t - 1) < reduction / reductionUnit → deadlineOf reduction < t → ⊥
+not-before reduction t l h = omega arith
 
 pub not-le : {a b : ℕ} → b < a → a ≤ b → ⊥
 not-le l h = omega arith
@@ -97,62 +98,63 @@ up-to P n x l here below = ⊎-elim below (λ k. subst P (let e : n ≡ x = omeg
 pub down-to : (P : ℕ → Type 0) (n x : ℕ) → n - 1 ≤ x → 0 < n → P (n - 1) → (n ≤ x → P x) → P x
 down-to P n x l p here above = ⊎-elim (λ k. subst P (let e : n - 1 ≡ x = omega arith in e) here) above (less-or-not x n)
 
--- no debt of index i on was due before t
-pub record InTime (owed : List ℕ) (t i : ℕ) : Type 0 where
-  pub each : (x : ℕ) → i ≤ x → 0 < at owed x → dueOf (at owed x) < t → ⊥
+-- no reduction of index i on was due before t
+pub record InTime (outstanding : List ℕ) (t i : ℕ) : Type 0 where
+  pub each : (x : ℕ) → i ≤ x → 0 < at outstanding x → deadlineOf (at outstanding x) < t → ⊥
 
-pub in-time-start : (owed : List ℕ) (n t : ℕ) → NoneFrom owed n → InTime owed t n
-in-time-start owed n t none = record { each = λ x l p h. omega (arith, p, none x l) }
+pub in-time-start : (outstanding : List ℕ) (n t : ℕ) → NoneFrom outstanding n → InTime outstanding t n
+in-time-start outstanding n t none = record { each = λ x l p h. omega (arith, p, none x l) }
 
-pub in-time-on : {owed : List ℕ} {t i : ℕ} → 0 < i → ((0 < at owed (i - 1)) × (dueOf (at owed (i - 1)) < t) → ⊥) → InTime owed t i → InTime owed t (i - 1)
-in-time-on {owed} {t} {i} p n old = record {
-  each = λ x l. down-to (λ y. 0 < at owed y → dueOf (at owed y) < t → ⊥) i x l p (λ a b. n (a, b)) (old .each x);
+pub in-time-on : {outstanding : List ℕ} {t i : ℕ} → 0 < i → ((0 < at outstanding (i - 1)) × (deadlineOf (at outstanding (i - 1)) < t) → ⊥) → InTime outstanding t i → InTime outstanding t (i - 1)
+in-time-on {outstanding} {t} {i} p n old = record {
+  each = λ x l. down-to (λ y. 0 < at outstanding y → deadlineOf (at outstanding y) < t → ⊥) i x l p (λ a b. n (a, b)) (old .each x);
 }
 
-pub is-overdue : (owed : List ℕ) (t i : ℕ) → (0 < at owed i) × (dueOf (at owed i) < t) → Overdue owed t
+pub is-overdue : (outstanding : List ℕ) (t i : ℕ) → (0 < at outstanding i) × (deadlineOf (at outstanding i) < t) → Overdue outstanding t
 unfolding Overdue
-is-overdue owed t i h = (i, h .0, h .1)
+is-overdue outstanding t i h = (i, h .0, h .1)
 
-pub none-overdue : {owed : List ℕ} {t i : ℕ} → i ≤ 0 → InTime owed t i → Overdue owed t → ⊥
+pub none-overdue : {outstanding : List ℕ} {t i : ℕ} → i ≤ 0 → InTime outstanding t i → Overdue outstanding t → ⊥
 unfolding Overdue
 none-overdue z old h = old .each (h .0) (omega (arith, z)) (h .1) (h .2)
 
--- no debt from i on, below d, fits
-pub record Passed (owed : List ℕ) (i load minutes d : ℕ) : Type 0 where
-  pub each : (x : ℕ) → i ≤ x → x < d → Fits (at owed x) load minutes → ⊥
+-- no reduction from i on, below d, fits
+pub record Passed (outstanding : List ℕ) (i compensation minutes d : ℕ) : Type 0 where
+  pub each : (x : ℕ) → i ≤ x → x < d → Fits (at outstanding x) compensation minutes → ⊥
 
-pub passed-start : (owed : List ℕ) (i load minutes : ℕ) → Passed owed i load minutes i
-passed-start owed i load minutes = record { each = λ x a b. absurd (omega arith) }
+pub passed-start : (outstanding : List ℕ) (i compensation minutes : ℕ) → Passed outstanding i compensation minutes i
+passed-start outstanding i compensation minutes = record { each = λ x a b. absurd (omega arith) }
 
-pub passed-on : {owed : List ℕ} {i load minutes d : ℕ} → (Fits (at owed d) load minutes → ⊥) → Passed owed i load minutes d → Passed owed i load minutes (d + 1)
-passed-on {owed} {i} {load} {minutes} {d} n old = record {
-  each = λ x a b. up-to (λ y. Fits (at owed y) load minutes → ⊥) d x b n (old .each x a);
+pub passed-on : {outstanding : List ℕ} {i compensation minutes d : ℕ} → (Fits (at outstanding d) compensation minutes → ⊥) → Passed outstanding i compensation minutes d
+    → Passed outstanding i compensation minutes (d + 1)
+passed-on {outstanding} {i} {compensation} {minutes} {d} n old = record {
+  each = λ x a b. up-to (λ y. Fits (at outstanding y) compensation minutes → ⊥) d x b n (old .each x a);
 }
 
 -- ---- the standing of a weekly rest
-pub standing-regular : (minutes load : ℕ) → isRegular (Weekly (standingFor minutes load)) ≡ leb (regularMinutes + load) minutes
-standing-regular minutes load = by (ltb minutes (regularMinutes + load)) refl
+pub standing-regular : (minutes compensation : ℕ) → isRegular (Weekly (standingFor minutes compensation)) ≡ leb (regularMinutes + compensation) minutes
+standing-regular minutes compensation = by (ltb minutes (regularMinutes + compensation)) refl
   where
-    by : (b : Bool) → ltb minutes (regularMinutes + load) ≡ b
-        → isRegular (Weekly (standingOf b (regularMinutes + load - minutes))) ≡ leb (regularMinutes + load) minutes
-    by true e = sym (lt-leb (regularMinutes + load) minutes (ltb-true minutes (regularMinutes + load) e))
-    by false e = sym (le-leb (regularMinutes + load) minutes (ltb-false minutes (regularMinutes + load) e))
+    by : (b : Bool) → ltb minutes (regularMinutes + compensation) ≡ b
+        → isRegular (Weekly (standingOf b (regularMinutes + compensation - minutes))) ≡ leb (regularMinutes + compensation) minutes
+    by true e = sym (lt-leb (regularMinutes + compensation) minutes (ltb-true minutes (regularMinutes + compensation) e))
+    by false e = sym (le-leb (regularMinutes + compensation) minutes (ltb-false minutes (regularMinutes + compensation) e))
 
-pub standing-debt : (minutes load w : ℕ) → debtBy (standingFor minutes load) w ≡ debtOf minutes load w
-unfolding debtOf
-standing-debt minutes load w = by (ltb minutes (regularMinutes + load)) refl
+pub standing-reduction : (minutes compensation w : ℕ) → outstandingBy (standingFor minutes compensation) w ≡ outstandingOf minutes compensation w
+unfolding outstandingOf
+standing-reduction minutes compensation w = by (ltb minutes (regularMinutes + compensation)) refl
   where
-    owed : ℕ
-    owed = (w + weeksToCompensate) * debtUnit + (regularMinutes + load - minutes)
+    outstanding : ℕ
+    outstanding = (w + weeksToCompensate) * reductionUnit + (regularMinutes + compensation - minutes)
 
-    by : (b : Bool) → ltb minutes (regularMinutes + load) ≡ b
-        → debtBy (standingOf b (regularMinutes + load - minutes)) w ≡ pick (leb (regularMinutes + load) minutes) 0 owed
-    by true e = rw (lt-leb (regularMinutes + load) minutes (ltb-true minutes (regularMinutes + load) e)) refl
-    by false e = rw (le-leb (regularMinutes + load) minutes (ltb-false minutes (regularMinutes + load) e)) refl
+    by : (b : Bool) → ltb minutes (regularMinutes + compensation) ≡ b
+        → outstandingBy (standingOf b (regularMinutes + compensation - minutes)) w ≡ pick (leb (regularMinutes + compensation) minutes) 0 outstanding
+    by true e = rw (lt-leb (regularMinutes + compensation) minutes (ltb-true minutes (regularMinutes + compensation) e)) refl
+    by false e = rw (le-leb (regularMinutes + compensation) minutes (ltb-false minutes (regularMinutes + compensation) e)) refl
 
-pub standing-low : (minutes load : ℕ) → reductionOf (Weekly (standingFor minutes load)) ≤ regularMinutes + load
-standing-low minutes load = by (ltb minutes (regularMinutes + load))
+pub standing-low : (minutes compensation : ℕ) → reductionOf (Weekly (standingFor minutes compensation)) ≤ regularMinutes + compensation
+standing-low minutes compensation = by (ltb minutes (regularMinutes + compensation))
   where
-    by : (b : Bool) → reductionOf (Weekly (standingOf b (regularMinutes + load - minutes))) ≤ regularMinutes + load
+    by : (b : Bool) → reductionOf (Weekly (standingOf b (regularMinutes + compensation - minutes))) ≤ regularMinutes + compensation
     by true = omega arith
     by false = zero-le

@@ -1,4 +1,4 @@
-// The steps of the search for a lawful reading: from rest to rest and from week to week, and what is owed.
+// The steps of the search for a lawful reading: from rest to rest and from week to week, and what is outstanding.
 use rules::Kind;
 use rules::Standing;
 use rules_reading::LongRest;
@@ -14,14 +14,14 @@ ghost use Rattle.recording.specs.Weeks.{week, weekOf, inside};
 ghost use Rattle.rules.specs.Reading.{isRegular, reductionOf};
 ghost use Rattle.rules.specs.ReadingRules.{shortenedAtMost, weeklyAtLeast, regularAtLeast};
 ghost use Rattle.rules.specs.declared.Kind.the-variants.{Daily, Weekly};
-ghost use Rattle.rules_reading.specs.Items.{loadAtMost, spanAt, spansIn, restWeeks};
+ghost use Rattle.rules_reading.specs.Items.{compensationAtMost, standingFor, spanAt, spansIn, restWeeks};
 ghost use Rattle.verdict_completion.specs.States.{freshCounts, countedMore, startState, pairKept, nextWeek, advance as advanced, afterDaily, afterWeekly};
-ghost use Rattle.verdict_completion.specs.Completable.{at, dueOf, Overdue};
+ghost use Rattle.verdict_completion.specs.Completable.{at, deadlineOf, Overdue};
 ghost use Rattle.verdict_completion.specs.Better.{Small, bestState};
-ghost use Rattle.verdict_steps.specs.Steps.{Says, Ordered, Fits, Debtor, NoneFrom, standingFor, debtBy};
+ghost use Rattle.verdict_steps.specs.Steps.{Says, Ordered, Fits, Candidate, NoneFrom, outstandingBy};
 
-// A debt is a word: so many units of the week at whose start it is due, and the minutes. 0 is none.
-pub const DEBT_UNIT: u32 = 2048;
+// An outstanding reduction is a word: so many units of the week at whose start it is due, and the minutes. 0 is none.
+pub const REDUCTION_UNIT: u32 = 2048;
 
 // A week before any rest is counted in it.
 fn fresh_counts(rest: bool) -> Counts
@@ -217,53 +217,53 @@ pub fn after_weekly(st: State, rest: bool, regular: bool, end: u32) -> State
     }
 }
 
-// Whether there is a debt that was due before t.
-fn due_before(debt: u32, t: u32) -> bool
-    ensures { λ r. ⌜ Says ((0 < debt) × (dueOf debt < t)) r ⌝ }
+// Whether there is a reduction that was due before t.
+fn deadline_before(reduction: u32, t: u32) -> bool
+    ensures { λ r. ⌜ Says ((0 < reduction) × (deadlineOf reduction < t)) r ⌝ }
 {
-    if debt == 0 {
+    if reduction == 0 {
         return false;
     }
     if t == 0 {
         return false;
     }
-    debt / DEBT_UNIT <= (t - 1) / recording::WEEK_MINUTES
+    reduction / REDUCTION_UNIT <= (t - 1) / recording::WEEK_MINUTES
 }
 
-// Whether a debt is outstanding that was due before t. The debts stand in the first n slots.
-pub fn overdue(owed: &[u32], n: usize, t: u32) -> bool
-    requires { ⌜ (n ≤ length (now owed)) × NoneFrom (now owed) n ⌝ }
-    ensures { λ r. ⌜ Says (Overdue (now (owed .entry)) t) r ⌝ }
+// Whether a reduction is outstanding that was due before t. The reductions stand in the first n slots.
+pub fn overdue(outstanding: &[u32], n: usize, t: u32) -> bool
+    requires { ⌜ (n ≤ length (now outstanding)) × NoneFrom (now outstanding) n ⌝ }
+    ensures { λ r. ⌜ Says (Overdue (now (outstanding .entry)) t) r ⌝ }
 {
     let mut i = n;
     while 0 < i {
         i -= 1;
-        if due_before(owed[i], t) {
+        if deadline_before(outstanding[i], t) {
             return true;
         }
     }
     false
 }
 
-// Whether there is a debt that fits into a rest of so many minutes, beside a load and what the rest needs itself.
-fn payable(debt: u32, load: u32, minutes: u32) -> bool
-    requires { ⌜ load ≤ loadAtMost ⌝ }
-    ensures { λ r. ⌜ Says (Fits debt load minutes) r ⌝ }
+// Whether there is a reduction that fits into a rest of so many minutes, beside a compensation and what the rest needs itself.
+fn compensable(reduction: u32, compensation: u32, minutes: u32) -> bool
+    requires { ⌜ compensation ≤ compensationAtMost ⌝ }
+    ensures { λ r. ⌜ Says (Fits reduction compensation minutes) r ⌝ }
 {
-    if debt == 0 {
+    if reduction == 0 {
         return false;
     }
-    rules_reading::DAILY_NET + (load + debt % DEBT_UNIT) <= minutes
+    rules_reading::DAILY_NET + (compensation + reduction % REDUCTION_UNIT) <= minutes
 }
 
-// The first slot from i on, below n, whose debt fits, or n.
-pub fn debtor(owed: &[u32], n: usize, i: usize, load: u32, minutes: u32) -> usize
-    requires { ⌜ (i ≤ n) × (n ≤ length (now owed)) × (load ≤ loadAtMost) ⌝ }
-    ensures { λ r. ⌜ Debtor (now (owed .entry)) i n load minutes r ⌝ }
+// The first slot from i on, below n, whose reduction fits, or n.
+pub fn candidate(outstanding: &[u32], n: usize, i: usize, compensation: u32, minutes: u32) -> usize
+    requires { ⌜ (i ≤ n) × (n ≤ length (now outstanding)) × (compensation ≤ compensationAtMost) ⌝ }
+    ensures { λ r. ⌜ Candidate (now (outstanding .entry)) i n compensation minutes r ⌝ }
 {
     let mut d = i;
     while d < n {
-        if payable(owed[d], load, minutes) {
+        if compensable(outstanding[d], compensation, minutes) {
             return d;
         }
         d += 1;
@@ -271,12 +271,12 @@ pub fn debtor(owed: &[u32], n: usize, i: usize, load: u32, minutes: u32) -> usiz
     n
 }
 
-// Whether a daily rest of so many minutes, with a load, is shortened: `net` is the least net length at which it is not.
-pub fn is_short(minutes: u32, net: u32, load: u32) -> bool
-    requires { ⌜ (net ≤ loadAtMost) × (load ≤ loadAtMost) ⌝ }
-    ensures { λ r. ⌜ r ≡ ltb minutes (net + load) ⌝ }
+// Whether a daily rest of so many minutes, with a compensation, is shortened: `net` is the least net length at which it is not.
+pub fn is_short(minutes: u32, net: u32, compensation: u32) -> bool
+    requires { ⌜ (net ≤ compensationAtMost) × (compensation ≤ compensationAtMost) ⌝ }
+    ensures { λ r. ⌜ r ≡ ltb minutes (net + compensation) ⌝ }
 {
-    minutes < net + load
+    minutes < net + compensation
 }
 
 // A long rest taken as daily.
@@ -290,23 +290,16 @@ pub fn as_daily(start: u32, end: u32) -> LongRest
     }
 }
 
-// A long rest with a load taken as weekly: regular, or reduced by what it lacks.
-pub fn as_weekly(start: u32, end: u32, load: u32) -> LongRest
-    requires { ⌜ (start ≤ end) × (load ≤ loadAtMost) ⌝ }
-    ensures { λ r. ⌜ r .kind ≡ Weekly (standingFor (end - start) load) ⌝ }
+// A long rest with a compensation taken as weekly: regular, or reduced by what it lacks.
+pub fn as_weekly(start: u32, end: u32, compensation: u32) -> LongRest
+    requires { ⌜ (start ≤ end) × (compensation ≤ compensationAtMost) ⌝ }
+    ensures { λ r. ⌜ r .kind ≡ Weekly (standingFor (end - start) compensation) ⌝ }
 {
-    let full = rules_reading::REGULAR + load;
-    if end - start < full {
-        return LongRest {
-            start: start,
-            end: end,
-            kind: Kind::Weekly(Standing::Reduced(full - (end - start))),
-        };
-    }
+    let standing = rules_reading::standing_of(end - start, compensation);
     LongRest {
         start: start,
         end: end,
-        kind: Kind::Weekly(Standing::Regular),
+        kind: Kind::Weekly(standing),
     }
 }
 
@@ -320,24 +313,24 @@ pub fn is_regular(standing: Standing) -> bool
     }
 }
 
-// The debt of a weekly rest that is counted in week w.
-pub fn debt_of(standing: Standing, w: u32) -> u32
-    requires { ⌜ (reductionOf (Weekly standing) ≤ loadAtMost) × (w < 255) ⌝ }
-    ensures { λ r. ⌜ r ≡ debtBy standing w ⌝ }
+// The reduction of a weekly rest that is counted in week w.
+pub fn outstanding_of(standing: Standing, w: u32) -> u32
+    requires { ⌜ (reductionOf (Weekly standing) ≤ compensationAtMost) × (w < 255) ⌝ }
+    ensures { λ r. ⌜ r ≡ outstandingBy standing w ⌝ }
 {
     match standing {
         Standing::Regular => 0,
-        Standing::Reduced(minutes) => (w + rules_reading::WEEKS_TO_COMPENSATE) * DEBT_UNIT
+        Standing::Reduced(minutes) => (w + rules_reading::WEEKS_TO_COMPENSATE) * REDUCTION_UNIT
             + minutes,
     }
 }
 
-// The debt, or 0 where it is due after s and needs nothing.
-pub fn outstanding(debt: u32, s: u32) -> u32
-    ensures { λ r. ⌜ r ≡ pick (ltb s (dueOf debt)) 0 debt ⌝ }
+// The reduction, or 0 where it is due after s and needs nothing.
+pub fn needed(reduction: u32, s: u32) -> u32
+    ensures { λ r. ⌜ r ≡ pick (ltb s (deadlineOf reduction)) 0 reduction ⌝ }
 {
-    if s / recording::WEEK_MINUTES < debt / DEBT_UNIT {
+    if s / recording::WEEK_MINUTES < reduction / REDUCTION_UNIT {
         return 0;
     }
-    debt
+    reduction
 }

@@ -11,18 +11,18 @@ use Rattle.recording.specs.Weeks.{weekOf}
 use Rattle.rules_reading.specs.Items.{Zeros}
 use Rattle.rules_reading.proofs.LaterLaws.{zeros-at}
 use Rattle.verdict_completion.specs.declared.State.{State}
-use Rattle.verdict_completion.specs.Completable.{Course, at, count, restWeek, lengthAt, Pays, Reads, Tries, Completable, Lies}
+use Rattle.verdict_completion.specs.Completable.{Course, at, count, restWeek, lengthAt, Compensates, Reads, Tries, Completable, Lies}
 use Rattle.verdict_completion.specs.States.{startState}
 use Rattle.verdict_completion.specs.Better.{AtRest}
-use Rattle.verdict_nogoods.specs.Table.{debtsOf}
-use Rattle.verdict_fronts.specs.Front.{stateIn, owedIn}
+use Rattle.verdict_nogoods.specs.Table.{reductionsOf}
+use Rattle.verdict_fronts.specs.Front.{stateIn, outstandingIn}
 use Rattle.verdict_search.specs.Search.{Found, Later, Sized, Slots}
 use Rattle.verdict_search.specs.Leading.{Can, Any, Well, Front, Led}
 use Rattle.verdict_sweep.specs.Sweep.{Passed, Told}
 use Rattle.verdict_search.proofs.Leading.{Equal, equal-then}
 use Rattle.verdict_search.proofs.Slots.{sized-too}
-use Rattle.verdict_search.proofs.Fronts.{owed-length, owed-none}
-use Rattle.verdict_search.proofs.Chain.{all-debts}
+use Rattle.verdict_search.proofs.Fronts.{outstanding-length, outstanding-none}
+use Rattle.verdict_search.proofs.Chain.{all-reductions}
 
 module _ (c : Course) where
   -- after the last rest no entry is in use
@@ -31,22 +31,22 @@ module _ (c : Course) where
 
   -- ---- an entry read
   module _ (j : ℕ) {f : List ℕ} {p : ℕ} (w : Well c j f p) where
-    pub slots-read : {o o′ : List ℕ} {m : ℕ} → Sized c o → m ≡ debtsOf f p → o′ ≡ owedIn f p (length o) → Slots c j m o′
+    pub slots-read : {o o′ : List ℕ} {m : ℕ} → Sized c o → m ≡ reductionsOf f p → o′ ≡ outstandingIn f p (length o) → Slots c j m o′
     slots-read {o} {o′} {m} h e q = record {
-      sized = sized-too c (h .lies) h (ap length q ∙ owed-length f p (length o));
+      sized = sized-too c (h .lies) h (ap length q ∙ outstanding-length f p (length o));
       below = omega (arith, w .below);
-      unused = λ x l. ap (λ (z : List ℕ). at z x) q ∙ owed-none f p (length o) x (omega (arith, w .below, w .rest .within, h .owed-too)) (omega arith);
+      unused = λ x l. ap (λ (z : List ℕ). at z x) q ∙ outstanding-none f p (length o) x (omega (arith, w .below, w .rest .within, h .outstanding-too)) (omega arith);
     }
 
     pub rest-read : {here : State} → here ≡ stateIn f p (weekOf (at (c .starts) j)) → AtRest c j here
     rest-read e = subst (AtRest c j) (sym e) (w .rest)
 
-    pub can-read : (o : List ℕ) {o′ : List ℕ} {here : State} → length o ≡ count c → here ≡ stateIn f p (weekOf (at (c .starts) j)) → o′ ≡ owedIn f p (length o)
-        → Equal (Pays (Reads c (Later c j) j here) (lengthAt c j) (j - 0) 0 (at (c .loads) j) o′) (Can c j f p)
+    pub can-read : (o : List ℕ) {o′ : List ℕ} {here : State} → length o ≡ count c → here ≡ stateIn f p (weekOf (at (c .starts) j)) → o′ ≡ outstandingIn f p (length o)
+        → Equal (Compensates (Reads c (Later c j) j here) (lengthAt c j) (j - 0) 0 (at (c .compensations) j) o′) (Can c j f p)
     can-read o {o′} {here} long e q =
-        equal-then (all-debts (Reads c (Later c j) j here) (lengthAt c j) (at (c .loads) j) o′ j)
-        (subst (λ (z : List ℕ). Equal (Tries c (Later c j) j here z) (Can c j f p)) (sym (q ∙ ap (owedIn f p) long))
-        (subst (λ (x : State). Equal (Tries c (Later c j) j x (owedIn f p (count c))) (Can c j f p)) (sym e) (record { to = λ h. h; from = λ h. h })))
+        equal-then (all-reductions (Reads c (Later c j) j here) (lengthAt c j) (at (c .compensations) j) o′ j)
+        (subst (λ (z : List ℕ). Equal (Tries c (Later c j) j here z) (Can c j f p)) (sym (q ∙ ap (outstandingIn f p) long))
+        (subst (λ (x : State). Equal (Tries c (Later c j) j x (outstandingIn f p (count c))) (Can c j f p)) (sym e) (record { to = λ h. h; from = λ h. h })))
 
   -- two rests on
   pub two-on : {A S : Type 0} {r : Bool} {t : List ℕ} {n : ℕ} (j : ℕ) → Passed A (Any c (j + 1 + 1) t n) r S (Front c (j + 1 + 1) t n) → Passed A (Any c (j + 2) t n) r S (Front c (j + 2) t n)
@@ -91,7 +91,7 @@ whole {P} {A} none e f g same s = record { yes = λ y. go (f .from e (g .yes y))
     go (inl a) = absurd (none a)
     go (inr p) = p
 
--- ---- slots where nothing is owed
+-- ---- slots where nothing is outstanding
 -- as many as there are rests, of the most there can be
 abbrev pub noneOf : ℕ → List ℕ
 noneOf k = take k (replicate longRestsAtMost 0)

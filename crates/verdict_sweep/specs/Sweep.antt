@@ -1,8 +1,7 @@
--- What the sweep from front to front answers. Nobody has to believe it: proofs/ shows that its answers are those of the question.
+-- Inner: what the sweep from front to front answers. Nobody has to believe it: proofs/ shows that its answers are those of the question.
 -- Assumes nothing.
 use mathlib.Core.Path.{_≡_}
 use mathlib.Core.Bool.{Bool, true, false}
-use mathlib.Core.List.{List}
 use Prim.Native.Nat.{ℕ}
 use denote.Ref.{now}
 use Rattle.verdict_completion.specs.Completable.{Course}

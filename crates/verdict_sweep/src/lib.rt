@@ -2,7 +2,6 @@
 // the search puts what follows into the next front.
 use verdict_completion::State;
 use verdict_search::Went;
-ghost use mathlib.Core.Path.{_≡_};
 ghost use Prim.Native.Nat.{_+_, _-_, _*_, _<_, _≤_};
 ghost use lib.ListN.{length};
 ghost use Rattle.verdict_completion.specs.States.{startState};
@@ -23,9 +22,9 @@ fn visit(
     starts: &[u32],
     ends: &[u32],
     nets: &[u32],
-    loads: &[u32],
+    compensations: &[u32],
     s: u32,
-    owed: &mut [u32],
+    outstanding: &mut [u32],
     nogoods: &mut [u32],
     next: &mut [u32],
     front: &[u32],
@@ -33,26 +32,26 @@ fn visit(
     e: usize,
     n: usize,
 ) -> Went
-    requires { ⌜ (let c = courseNow starts ends nets loads s in Sized c (now owed) × Sound c (now nogoods) × (j < count c) × (entryAt (e + 1) ≤ length (now front))
+    requires { ⌜ (let c = courseNow starts ends nets compensations s in Sized c (now outstanding) × Sound c (now nogoods) × (j < count c) × (entryAt (e + 1) ≤ length (now front))
         × Well c j (now front) (entryAt e) × Front c (j + 1) (now next) n) ⌝ }
-    ensures { λ r. ⌜ (let c = courseAt starts ends nets loads s in Leads c (λ o. Can c j (now (front .entry)) (entryAt e)) (j + 1) n next (left owed) nogoods r) ⌝ }
+    ensures { λ r. ⌜ (let c = courseAt starts ends nets compensations s in Leads c (λ o. Can c j (now (front .entry)) (entryAt e)) (j + 1) n next (left outstanding) nogoods r) ⌝ }
 {
     let p = verdict_nogoods::ENTRY_WORDS * e;
-    verdict_fronts::owed_in(front, p, owed);
+    verdict_fronts::outstanding_in(front, p, outstanding);
     let here = verdict_fronts::state_in(front, p, starts[j] / recording::WEEK_MINUTES);
-    let m = verdict_fronts::debts_in(front, p);
-    verdict_search::pay(
+    let m = verdict_fronts::reductions_in(front, p);
+    verdict_search::compensate(
         starts,
         ends,
         nets,
-        loads,
+        compensations,
         s,
-        owed,
+        outstanding,
         nogoods,
         next,
         j,
         0,
-        loads[j],
+        compensations[j],
         here,
         m,
         n,
@@ -64,17 +63,17 @@ pub fn sweep_rest(
     starts: &[u32],
     ends: &[u32],
     nets: &[u32],
-    loads: &[u32],
+    compensations: &[u32],
     s: u32,
-    owed: &mut [u32],
+    outstanding: &mut [u32],
     nogoods: &mut [u32],
     next: &mut [u32],
     front: &[u32],
     j: usize,
     f: usize,
 ) -> Went
-    requires { ⌜ (let c = courseNow starts ends nets loads s in Sized c (now owed) × Sound c (now nogoods) × (j < count c) × Front c j (now front) f) ⌝ }
-    ensures { λ r. ⌜ (let c = courseAt starts ends nets loads s in Passes c j front f (j + 1) next nogoods r) ⌝ }
+    requires { ⌜ (let c = courseNow starts ends nets compensations s in Sized c (now outstanding) × Sound c (now nogoods) × (j < count c) × Front c j (now front) f) ⌝ }
+    ensures { λ r. ⌜ (let c = courseAt starts ends nets compensations s in Passes c j front f (j + 1) next nogoods r) ⌝ }
 {
     let mut n = 0;
     let mut e = 0;
@@ -83,9 +82,9 @@ pub fn sweep_rest(
             starts,
             ends,
             nets,
-            loads,
+            compensations,
             s,
-            owed,
+            outstanding,
             nogoods,
             next,
             front,
@@ -107,25 +106,25 @@ fn sweep_two(
     starts: &[u32],
     ends: &[u32],
     nets: &[u32],
-    loads: &[u32],
+    compensations: &[u32],
     s: u32,
-    owed: &mut [u32],
+    outstanding: &mut [u32],
     nogoods: &mut [u32],
     front: &mut [u32],
     other: &mut [u32],
     j: usize,
     f: usize,
 ) -> Went
-    requires { ⌜ (let c = courseNow starts ends nets loads s in Sized c (now owed) × Sound c (now nogoods) × (j < count c) × Front c j (now front) f) ⌝ }
-    ensures { λ r. ⌜ (let c = courseAt starts ends nets loads s in Passes c j front f (j + 2) front nogoods r) ⌝ }
+    requires { ⌜ (let c = courseNow starts ends nets compensations s in Sized c (now outstanding) × Sound c (now nogoods) × (j < count c) × Front c j (now front) f) ⌝ }
+    ensures { λ r. ⌜ (let c = courseAt starts ends nets compensations s in Passes c j front f (j + 2) front nogoods r) ⌝ }
 {
     let there = sweep_rest(
         starts,
         ends,
         nets,
-        loads,
+        compensations,
         s,
-        owed,
+        outstanding,
         nogoods,
         other,
         front,
@@ -142,9 +141,9 @@ fn sweep_two(
         starts,
         ends,
         nets,
-        loads,
+        compensations,
         s,
-        owed,
+        outstanding,
         nogoods,
         front,
         other,
@@ -158,17 +157,17 @@ pub fn sweep_on(
     starts: &[u32],
     ends: &[u32],
     nets: &[u32],
-    loads: &[u32],
+    compensations: &[u32],
     s: u32,
-    owed: &mut [u32],
+    outstanding: &mut [u32],
     nogoods: &mut [u32],
     front: &mut [u32],
     other: &mut [u32],
     j: usize,
     f: usize,
 ) -> Swept
-    requires { ⌜ (let c = courseNow starts ends nets loads s in Sized c (now owed) × Sound c (now nogoods) × (j ≤ count c + 1) × Front c j (now front) f) ⌝ }
-    ensures { λ r. ⌜ (let c = courseAt starts ends nets loads s in Told (Any c j (now (front .entry)) f) (r .yes) (Sound c (now (nogoods .exit)))) ⌝ }
+    requires { ⌜ (let c = courseNow starts ends nets compensations s in Sized c (now outstanding) × Sound c (now nogoods) × (j ≤ count c + 1) × Front c j (now front) f) ⌝ }
+    ensures { λ r. ⌜ (let c = courseAt starts ends nets compensations s in Told (Any c j (now (front .entry)) f) (r .yes) (Sound c (now (nogoods .exit)))) ⌝ }
 {
     let mut i = j;
     let mut n = f;
@@ -177,9 +176,9 @@ pub fn sweep_on(
             starts,
             ends,
             nets,
-            loads,
+            compensations,
             s,
-            owed,
+            outstanding,
             nogoods,
             front,
             other,
@@ -203,9 +202,9 @@ pub fn sweep_pairs(
     starts: &[u32],
     ends: &[u32],
     nets: &[u32],
-    loads: &[u32],
+    compensations: &[u32],
     s: u32,
-    owed: &mut [u32],
+    outstanding: &mut [u32],
     nogoods: &mut [u32],
     front: &mut [u32],
     other: &mut [u32],
@@ -213,8 +212,8 @@ pub fn sweep_pairs(
     f: usize,
     p: usize,
 ) -> Went
-    requires { ⌜ (let c = courseNow starts ends nets loads s in Sized c (now owed) × Sound c (now nogoods) × (j + 2 * p ≤ count c + 1) × Front c j (now front) f) ⌝ }
-    ensures { λ r. ⌜ (let c = courseAt starts ends nets loads s in Passes c j front f (j + 2 * p) front nogoods r) ⌝ }
+    requires { ⌜ (let c = courseNow starts ends nets compensations s in Sized c (now outstanding) × Sound c (now nogoods) × (j + 2 * p ≤ count c + 1) × Front c j (now front) f) ⌝ }
+    ensures { λ r. ⌜ (let c = courseAt starts ends nets compensations s in Passes c j front f (j + 2 * p) front nogoods r) ⌝ }
 {
     let mut i = j;
     let mut n = f;
@@ -224,9 +223,9 @@ pub fn sweep_pairs(
             starts,
             ends,
             nets,
-            loads,
+            compensations,
             s,
-            owed,
+            outstanding,
             nogoods,
             front,
             other,
@@ -243,15 +242,15 @@ pub fn sweep_pairs(
     Went { yes: false, n: n }
 }
 
-// Whether the rests from that of index j on can be read, from a state before it, with what is owed in the first n slots. Two fronts change roles;
+// Whether the rests from that of index j on can be read, from a state before it, with what is outstanding in the first n slots. Two fronts change roles;
 // their room is any, none too.
 fn solve(
     starts: &[u32],
     ends: &[u32],
     nets: &[u32],
-    loads: &[u32],
+    compensations: &[u32],
     s: u32,
-    owed: &mut [u32],
+    outstanding: &mut [u32],
     nogoods: &mut [u32],
     front: &mut [u32],
     other: &mut [u32],
@@ -259,16 +258,16 @@ fn solve(
     st: State,
     n: usize,
 ) -> Swept
-    requires { ⌜ (let c = courseNow starts ends nets loads s in Slots c j n (now owed) × Sound c (now nogoods) × Before c j st) ⌝ }
-    ensures { λ r. ⌜ (let c = courseAt starts ends nets loads s in Finds c (Completable c (count c - j) j st (now (owed .entry))) (r .yes) owed nogoods) ⌝ }
+    requires { ⌜ (let c = courseNow starts ends nets compensations s in Slots c j n (now outstanding) × Sound c (now nogoods) × Before c j st) ⌝ }
+    ensures { λ r. ⌜ (let c = courseAt starts ends nets compensations s in Finds c (Completable c (count c - j) j st (now (outstanding .entry))) (r .yes) outstanding nogoods) ⌝ }
 {
     let went = verdict_search::step(
         starts,
         ends,
         nets,
-        loads,
+        compensations,
         s,
-        owed,
+        outstanding,
         nogoods,
         front,
         j,
@@ -285,7 +284,7 @@ fn solve(
         starts,
         ends,
         nets,
-        loads,
+        compensations,
         s,
         &mut slots[..k],
         nogoods,
@@ -296,31 +295,31 @@ fn solve(
     )
 }
 
-// The same where nothing is owed, with nogoods that are emptied first.
+// The same where nothing is outstanding, with nogoods that are emptied first.
 fn completes(
     starts: &[u32],
     ends: &[u32],
     nets: &[u32],
-    loads: &[u32],
+    compensations: &[u32],
     s: u32,
-    owed: &mut [u32],
+    outstanding: &mut [u32],
     nogoods: &mut [u32],
     front: &mut [u32],
     other: &mut [u32],
     j: usize,
     st: State,
 ) -> Swept
-    requires { ⌜ (let c = courseNow starts ends nets loads s in Lent c (now owed) × Before c j st) ⌝ }
-    ensures { λ r. ⌜ (let c = courseAt starts ends nets loads s in Finds c (Completable c (count c - j) j st (now (owed .entry))) (r .yes) owed nogoods) ⌝ }
+    requires { ⌜ (let c = courseNow starts ends nets compensations s in Lent c (now outstanding) × Before c j st) ⌝ }
+    ensures { λ r. ⌜ (let c = courseAt starts ends nets compensations s in Finds c (Completable c (count c - j) j st (now (outstanding .entry))) (r .yes) outstanding nogoods) ⌝ }
 {
     verdict_nogoods::clear(nogoods, starts.len());
     solve(
         starts,
         ends,
         nets,
-        loads,
+        compensations,
         s,
-        owed,
+        outstanding,
         nogoods,
         front,
         other,
@@ -330,29 +329,29 @@ fn completes(
     )
 }
 
-// Whether the long rests can be read at all, where nothing is owed before the first.
+// Whether the long rests can be read at all, where nothing is outstanding before the first.
 pub fn possible(
     starts: &[u32],
     ends: &[u32],
     nets: &[u32],
-    loads: &[u32],
+    compensations: &[u32],
     s: u32,
-    owed: &mut [u32],
+    outstanding: &mut [u32],
     nogoods: &mut [u32],
     front: &mut [u32],
     other: &mut [u32],
 ) -> Swept
-    requires { ⌜ (let c = courseNow starts ends nets loads s in Lent c (now owed)) ⌝ }
-    ensures { λ r. ⌜ (let c = courseAt starts ends nets loads s in Finds c (Completable c (count c) 0 (startState (restWeek c 0)) (now (owed .entry))) (r .yes) owed nogoods) ⌝ }
+    requires { ⌜ (let c = courseNow starts ends nets compensations s in Lent c (now outstanding)) ⌝ }
+    ensures { λ r. ⌜ (let c = courseAt starts ends nets compensations s in Finds c (Completable c (count c) 0 (startState (restWeek c 0)) (now (outstanding .entry))) (r .yes) outstanding nogoods) ⌝ }
 {
     let rest = rules_reading::rest_week(starts, ends, starts.len(), 0);
     completes(
         starts,
         ends,
         nets,
-        loads,
+        compensations,
         s,
-        owed,
+        outstanding,
         nogoods,
         front,
         other,

@@ -1,7 +1,5 @@
 -- `cases_verdict::show_entries` is safe and ends. Assumes nothing.
-use mathlib.Core.Path.{_≡_}
 use Prim.Native.Nat.{_-_, _≤_}
-use lib.ListN.{length}
 use borrow.Author.Needs.{needs}
 use Rattle.cases_verdict.proofs.show_entries.Statement.{statement}
 use Rattle.cases_verdict.proofs.show_entries.Tie as tie

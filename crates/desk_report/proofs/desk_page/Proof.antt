@@ -37,10 +37,11 @@ returns-2 c =
 
 returns-3 : tie.Need-returns-3
 returns-3 c =
-    let read = c .before .before .before .before .before .before .before .before .before in
+    let at-answer2 = c .before .before .before .before .before .before in
+    let read = at-answer2 .before .before .before in
     let small = read .before .before in
     let start = small .before .before .before in
-    let told = sym (ap written (c .before .before .before .before .before .before .answer2 .given .1)) ∙ read .read-text .ensures .0 in
+    let told = sym (ap written (at-answer2 .answer2 .given .1)) ∙ read .read-text .ensures .0 in
     rw (read-words (start .args .text .now) textWords (small .if1 .left) (omega arith) told (read .read-text .ensures .1) .text) (c .before .before .verdict-page .ensures)
 
 pub desk-page-spec : {M : Type 1} → statement M

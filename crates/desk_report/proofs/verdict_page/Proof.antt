@@ -45,8 +45,9 @@ returns c =
 
 returns-2 : tie.Need-returns-2
 returns-2 c =
-    let judged = c .before .before .before .before .before .before .before .before .before in
-    let told = sym (ap outcomeBy (c .before .before .before .before .before .before .outcome2 .given .1)) ∙ judged .verdict .ensures .0 in
+    let at-outcome2 = c .before .before .before .before .before .before in
+    let judged = at-outcome2 .before .before .before in
+    let told = sym (ap outcomeBy (at-outcome2 .outcome2 .given .1)) ∙ judged .verdict .ensures .0 in
     let start = judged .before .before .before .before in
     rw (passed-text (start .args .words .now) readingRoom (omega arith) told (judged .verdict .ensures .1) .text) (c .before .before .pass-page .ensures)
 

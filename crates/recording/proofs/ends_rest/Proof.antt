@@ -1,5 +1,4 @@
 -- `recording::ends_rest` meets its contract. Assumes nothing.
-use mathlib.Core.Path.{_≡_, refl}
 use borrow.Author.Needs.{needs}
 use borrow.Author.Tests.{eq-eqb, ne-eqb}
 use Rattle.recording.specs.Scan.{endsRest}

@@ -1,5 +1,5 @@
 -- `recording::put_if` meets its contract. Assumes nothing.
-use mathlib.Core.Path.{_≡_, refl, sym}
+use mathlib.Core.Path.{sym}
 use borrow.Author.Needs.{needs}
 use lib.Seq.{set-out}
 use Rattle.recording.proofs.put_if.Statement.{statement}

@@ -19,23 +19,26 @@ abbrev μ-loop : tie.MeasureT-loop
 μ-loop words starts₀ ends₀ p₀ i₀ starts ends p i = length words - i
 
 after-run-requires : tie.Need-after-run-requires Inv-loop μ-loop
-after-run-requires c κs = (
-  c .before .before .before .before .before .before .before .before .before .before .before .loop .inv .0 .from,
-  c .before .before .before .before .before .before
-      .before .before .before .before .before .loop .inv .0 .count,
-  run-room (c .before .before .before .before .before .before .before .before .before .before .before .loop .inv .0) (omega arith),
-)
+after-run-requires c κs =
+    let turn = c .before .before .before .before .before .before .before .before .before .before .before in (
+      turn .loop .inv .0 .from,
+      turn .loop .inv .0 .count,
+      run-room (turn .loop .inv .0) (omega arith),
+    )
 
 loop-again : tie.Need-loop-again Inv-loop μ-loop
-loop-again c = (
-  rw (c .after-run .ensures) (walk-on (c .before .before .before .before .before .before .before .before .before .before .before .before .loop .inv .0) (omega arith)),
-  c .before .before .before .before .before .before .before .before .before .before .before .before .loop .inv .1 ∙ write-on
-      (c .before .before .before .before .before .before .before .before .before .before .before .before .loop .inv .0) (omega arith) (λ s. s .start) _ (c .after-run .ensures)
-      (c .before .before .before .before .before .before .before .before .before .ends-rest .ensures) (c .before .before .before .before .before .before .before .put-if .ensures),
-  c .before .before .before .before .before .before .before .before .before .before .before .before .loop .inv .2 ∙ write-on
-      (c .before .before .before .before .before .before .before .before .before .before .before .before .loop .inv .0) (omega arith) (λ s. s .end) _ (c .after-run .ensures)
-      (c .before .before .before .before .before .before .before .before .before .ends-rest .ensures) (c .before .before .before .put-if2 .ensures),
-)
+loop-again c =
+    let at-put-if = c .before .before .before .before .before .before .before in
+    let at-ends-rest = at-put-if .before .before in
+    let turn = at-ends-rest .before .before .before in (
+      rw (c .after-run .ensures) (walk-on (turn .loop .inv .0) (omega arith)),
+      turn .loop .inv .1 ∙ write-on
+          (turn .loop .inv .0) (omega arith) (λ s. s .start) _ (c .after-run .ensures)
+          (at-ends-rest .ends-rest .ensures) (at-put-if .put-if .ensures),
+      turn .loop .inv .2 ∙ write-on
+          (turn .loop .inv .0) (omega arith) (λ s. s .end) _ (c .after-run .ensures)
+          (at-ends-rest .ends-rest .ensures) (c .before .before .before .put-if2 .ensures),
+    )
 
 kept : tie.Need-same-length Inv-loop μ-loop
 kept c = same-length (λ s. s .start) _ _ _ _ _ _ (c .before .loop .inv .1)

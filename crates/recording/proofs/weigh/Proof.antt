@@ -1,5 +1,4 @@
 -- `recording::weigh` meets its contract. Assumes nothing.
-use mathlib.Core.Path.{_≡_}
 use borrow.Author.Needs.{needs}
 use Rattle.recording.proofs.Listing.{total-room, weigh-refused, total-there, weigh-done}
 use Rattle.recording.proofs.weigh.Statement.{statement}

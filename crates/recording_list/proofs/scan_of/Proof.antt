@@ -18,8 +18,10 @@ scan-requires c κs = measured-is _ (measured-there _ (c .before .before .before
     (c .before .before .before .before .before .weighing .given .1)) .within
 
 returns-3 : tie.Need-returns-3
-returns-3 c = scan-done _ _ _ _ _ (measured-there _ (c .before .before .before .before .before .before .before .before .before .before .weigh .ensures)
-    (c .before .before .before .before .before .before .before .before .weighing .given .1)) (omega arith) (omega arith) (le-refl _) (le-refl _) (c .before .before .scan .ensures)
+returns-3 c =
+    let at-weighing = c .before .before .before .before .before .before .before .before in
+    scan-done _ _ _ _ _ (measured-there _ (at-weighing .before .before .weigh .ensures)
+    (at-weighing .weighing .given .1)) (omega arith) (omega arith) (le-refl _) (le-refl _) (c .before .before .scan .ensures)
 
 pub scan-of-spec : {M : Type 1} → statement M
 scan-of-spec =

@@ -2,7 +2,6 @@
 use borrow.Author.Tests.{eq-eqb, ne-eqb, le-ltb, lt-ltb}
 use Rattle.recording.specs.Tests.{_or_}
 use Rattle.rules.specs.Operations.{entryAt}
-use Prim.Native.Nat.{_-_}
 use Rattle.rules_entries.proofs.entry_refusal.Statement.{statement}
 use Rattle.rules_entries.proofs.entry_refusal.Tie as tie
 

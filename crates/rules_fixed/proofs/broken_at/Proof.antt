@@ -30,40 +30,48 @@ returns-4 c = simp (
 
 returns-5 : tie.Need-returns-5
 unfolding brokenAt _and_
-returns-5 c = simp (
-  le-leb _ _ (c .before .before .before .before .before .before .before .before .if1 .left),
-  le-leb _ _
-      (c .before .before .before .before .before .before .if2 .left),
-  le-leb _ _ (c .before .before .before .before .if3 .left),
-  le-leb _ _ (c .before .before .if4 .left),
-  lt-leb _ _ (c .if5 .taken),
-)
+returns-5 c =
+    let at-if2 = c .before .before .before .before .before .before in
+    simp (
+      le-leb _ _ (at-if2 .before .before .if1 .left),
+      le-leb _ _
+          (at-if2 .if2 .left),
+      le-leb _ _ (c .before .before .before .before .if3 .left),
+      le-leb _ _ (c .before .before .if4 .left),
+      lt-leb _ _ (c .if5 .taken),
+    )
 
 returns-6 : tie.Need-returns-6
 unfolding brokenAt _and_
-returns-6 c = simp (
-  le-leb _ _ (c .before .before .before .before .before .before .before .before .before .before .if1 .left),
-  le-leb _ _
-      (c .before .before .before .before .before .before .before .before .if2 .left),
-  le-leb _ _ (c .before .before .before .before .before .before .if3 .left),
-  le-leb _ _
-      (c .before .before .before .before .if4 .left),
-  le-leb _ _ (c .before .before .if5 .left),
-  lt-leb _ _ (c .if6 .taken),
-)
+returns-6 c =
+    let at-if3 = c .before .before .before .before .before .before in
+    let at-if2 = at-if3 .before .before in
+    simp (
+      le-leb _ _ (at-if2 .before .before .if1 .left),
+      le-leb _ _
+          (at-if2 .if2 .left),
+      le-leb _ _ (at-if3 .if3 .left),
+      le-leb _ _
+          (c .before .before .before .before .if4 .left),
+      le-leb _ _ (c .before .before .if5 .left),
+      lt-leb _ _ (c .if6 .taken),
+    )
 
 returns-7 : tie.Need-returns-7
 unfolding brokenAt _and_
-returns-7 c = simp (
-  le-leb _ _ (c .before .before .before .before .before .before .before .before .before .before .if1 .left),
-  le-leb _ _
-      (c .before .before .before .before .before .before .before .before .if2 .left),
-  le-leb _ _ (c .before .before .before .before .before .before .if3 .left),
-  le-leb _ _
-      (c .before .before .before .before .if4 .left),
-  le-leb _ _ (c .before .before .if5 .left),
-  le-leb _ _ (c .if6 .left),
-)
+returns-7 c =
+    let at-if3 = c .before .before .before .before .before .before in
+    let at-if2 = at-if3 .before .before in
+    simp (
+      le-leb _ _ (at-if2 .before .before .if1 .left),
+      le-leb _ _
+          (at-if2 .if2 .left),
+      le-leb _ _ (at-if3 .if3 .left),
+      le-leb _ _
+          (c .before .before .before .before .if4 .left),
+      le-leb _ _ (c .before .before .if5 .left),
+      le-leb _ _ (c .if6 .left),
+    )
 
 pub broken-at-spec : {M : Type 1} → statement M
 broken-at-spec =

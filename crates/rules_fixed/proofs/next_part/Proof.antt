@@ -20,17 +20,21 @@ part-after-requires : tie.Need-part-after-requires Inv-loop μ-loop
 part-after-requires c κs = ((c .before .before .before .before) .pre .0, omega (arith, (c .before .before .before .before) .pre .1, c .before .loop .inv .1))
 
 returns : tie.Need-returns Inv-loop μ-loop
-returns c = record {
-  some = c .before .before .before .before .loop .inv .0;
-  within = c .before .before .before .before .loop .inv .1;
-  ran = part-ran
-      ((c .before .before .before .before .before .before .before) .pre .0) (c .before .before .before .before .loop .inv .0) (omega
-      (arith, c .before .before .before .before .loop .inv .2, c .before .before .before .loop-test .taken)) (c .before .before .part-after .ensures) (sym (c .before .same-breaches .ensures)
-      ∙ c .if1 .taken);
-}
+returns c =
+    let turn = c .before .before .before .before in
+    record {
+      some = turn .loop .inv .0;
+      within = turn .loop .inv .1;
+      ran = part-ran
+          ((turn .before .before .before) .pre .0) (turn .loop .inv .0) (omega
+          (arith, turn .loop .inv .2, c .before .before .before .loop-test .taken)) (c .before .before .part-after .ensures) (sym (c .before .same-breaches .ensures)
+          ∙ c .if1 .taken);
+    }
 
 part-after-requires-2 : tie.Need-part-after-requires-2 Inv-loop μ-loop
-part-after-requires-2 c κs = ((c .before .before .before .before) .pre .0, omega (arith, (c .before .before .before .before) .pre .1, (c .before .before .before .before) .pre .2))
+part-after-requires-2 c κs =
+    let start = c .before .before .before .before in
+    (start .pre .0, omega (arith, start .pre .1, start .pre .2))
 
 returns-2 : tie.Need-returns-2 Inv-loop μ-loop
 returns-2 c = record {

@@ -9,9 +9,9 @@ use Rattle.rules_fixed.proofs.PartRight.{driving-most, day-start}
 use Rattle.rules_fixed.proofs.part_after.Statement.{statement}
 use Rattle.rules_fixed.proofs.part_after.Tie as tie
 
-driven-more-requires : tie.Need-driven-more-requires
-driven-more-requires c κs = let z = (c .before .before .before .before .before .before .before .before .before) in rw (c .rested-for .ensures, c .before .driving-of .ensures) (omega
-    (arith, driving-most (z .args .activity) (z .args .n), rested-bounded (z .args .s .now - z .args .s .from) (z .args .s .driven) _ (z .pre .0 .sum)))
+accumulated-more-requires : tie.Need-accumulated-more-requires
+accumulated-more-requires c κs = let z = (c .before .before .before .before .before .before .before .before .before) in rw (c .rested-for .ensures, c .before .driving-of .ensures) (omega
+    (arith, driving-most (z .args .activity) (z .args .n), rested-bounded (z .args .s .now - z .args .s .from) (z .args .s .accumulated) _ (z .pre .0 .sum)))
 
 day-more-requires : tie.Need-day-more-requires
 day-more-requires c κs = let z = (c .before .before .before .before .before .before .before .before .before .before .before) in let k = day-after-bounded (z .args .s .now - z .args .s .from)
@@ -42,22 +42,26 @@ returns c = simp (c .before .match .keys1, c .week-next .ensures)
 
 returns-2 : tie.Need-returns-2
 unfolding partAfter busyPart
-returns-2 c = simp (
-  ne-eqb _ _ (c .before .before .before .before .before .before .before .before .before .before .before .match .rest .1),
-  c .first-break .ensures,
-  c .before .smaller-of
-      .ensures,
-  c .before .before .week-next2 .ensures,
-  c .before .before .before .broken-at .ensures,
-  c .before .before .before .before .week-more .ensures,
-  c .before .before .before .before
-      .before .day-more .ensures,
-  c .before .before .before .before .before .before .day-after .ensures,
-  c .before .before .before .before .before .before .before .driven-more .ensures,
-  c
-      .before .before .before .before .before .before .before .before .rested-for .ensures,
-  c .before .before .before .before .before .before .before .before .before .driving-of .ensures,
-)
+returns-2 c =
+    let at-day-after = c .before .before .before .before .before .before in
+    let at-accumulated-more = at-day-after .before in
+    let at-rested-for = at-accumulated-more .before in
+    let at-driving-of = at-rested-for .before in
+    simp (
+      ne-eqb _ _ (at-driving-of .before .before .match .rest .1),
+      c .first-break .ensures,
+      c .before .smaller-of
+          .ensures,
+      c .before .before .week-next2 .ensures,
+      c .before .before .before .broken-at .ensures,
+      c .before .before .before .before .week-more .ensures,
+      c .before .before .before .before
+          .before .day-more .ensures,
+      at-day-after .day-after .ensures,
+      at-accumulated-more .accumulated-more .ensures,
+      at-rested-for .rested-for .ensures,
+      at-driving-of .driving-of .ensures,
+    )
 
 pub part-after-spec : {M : Type 1} → statement M
 part-after-spec =
@@ -68,7 +72,7 @@ part-after-spec =
     (λ c. search needs)
     (λ c κs. search needs)
     (λ c κs. search needs)
-    driven-more-requires
+    accumulated-more-requires
     (λ c κs. search needs)
     day-more-requires
     week-more-requires

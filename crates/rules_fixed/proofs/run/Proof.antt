@@ -2,7 +2,7 @@
 use mathlib.Core.Path.{refl}
 use native.Mathlib.Omega.{arith}
 use borrow.Author.Needs.{needs}
-use Prim.Native.Nat.{_+_, _-_}
+use Prim.Native.Nat.{_+_}
 use lib.ListN.{replicate}
 use Rattle.rules_fixed.specs.Account.{accountFrom}
 use Rattle.rules_fixed.proofs.Surveying.{Running, run-on, run-done}

@@ -1,6 +1,6 @@
 -- `rules_reading::as_read` meets its contract. Assumes nothing.
 use borrow.Author.Needs.{needs}
-use borrow.Author.Tests.{eq-eqb, ne-eqb, le-ltb, lt-ltb}
+use borrow.Author.Tests.{eq-eqb, ne-eqb}
 use Rattle.rules.specs.Reading.{asRead}
 use Rattle.rules_reading.proofs.as_read.Statement.{statement}
 use Rattle.rules_reading.proofs.as_read.Tie as tie
@@ -11,11 +11,7 @@ returns c = simp (ne-eqb _ _ (c .if1 .taken))
 
 returns-2 : tie.Need-returns-2
 unfolding asRead
-returns-2 c = simp (eq-eqb _ _ (c .before .before .before .if1 .left), lt-ltb _ _ (c .if2 .taken))
-
-returns-3 : tie.Need-returns-3
-unfolding asRead
-returns-3 c = simp (eq-eqb _ _ (c .before .before .before .if1 .left), le-ltb _ _ (c .if2 .left))
+returns-2 c = simp (eq-eqb _ _ (c .before .before .if1 .left), c .standing-of .ensures)
 
 pub as-read-spec : {M : Type 1} → statement M
 as-read-spec =
@@ -23,7 +19,5 @@ as-read-spec =
     (tie.spec
     returns
     (λ c. search needs)
-    (λ c. search needs)
-    (λ c. search needs)
-    returns-2
-    returns-3)
+    (λ c κs. search needs)
+    returns-2)

@@ -1,6 +1,5 @@
 -- `rules_reading::broken_by` meets its contract. Assumes nothing.
 use borrow.Author.Tests.{le-leb, lt-leb}
-use Prim.Native.Nat.{_-_}
 use Rattle.rules_reading.proofs.broken_by.Statement.{statement}
 use Rattle.rules_reading.proofs.broken_by.Tie as tie
 

@@ -1,6 +1,5 @@
 -- `rules_reading::counted_in` meets its contract. Assumes nothing.
 use borrow.Author.Needs.{needs}
-use Prim.Native.Nat.{_-_}
 use Rattle.rules_reading.proofs.counted_in.Statement.{statement}
 use Rattle.rules_reading.proofs.counted_in.Tie as tie
 

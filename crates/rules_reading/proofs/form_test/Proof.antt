@@ -9,10 +9,10 @@ use Rattle.rules_reading.proofs.form_test.Statement.{statement}
 use Rattle.rules_reading.proofs.form_test.Tie as tie
 
 abbrev Inv-loop : tie.InvT-loop
-Inv-loop starts ends nets reading loads k i₀ i = (i ≤ k) × Forming starts ends reading k i
+Inv-loop starts ends nets reading compensations k i₀ i = (i ≤ k) × Forming starts ends reading k i
 
 abbrev μ-loop : tie.MeasureT-loop
-μ-loop starts ends nets reading loads k i₀ i = k - i
+μ-loop starts ends nets reading compensations k i₀ i = k - i
 
 loop-holds : tie.Need-loop-holds Inv-loop μ-loop
 loop-holds c = (omega arith, form-start _ _ _ _)
@@ -21,7 +21,7 @@ item-at-requires : tie.Need-item-at-requires Inv-loop μ-loop
 item-at-requires c κs =
     let start = c .before .before .before .before .before .before .before in
     let l = start .pre .0 in
-    (omega (arith, l .few), omega (arith, l .starts-in), omega (arith, l .ends-in), omega (arith, l .nets-in), omega (arith, l .reading-in), omega (arith, l .loads-in))
+    (omega (arith, l .few), omega (arith, l .starts-in), omega (arith, l .ends-in), omega (arith, l .nets-in), omega (arith, l .reading-in), omega (arith, l .compensations-in))
 
 cast-formed-item : tie.Need-cast-formed-item Inv-loop μ-loop
 cast-formed-item c =
@@ -41,7 +41,7 @@ returns c =
     let a = start .args in
     let f = c .before .before .before .before .loop .inv .1 in
     let e = c .before .before .item-at .ensures in
-    form-broken _ _ _ _ f (a .nets .now) (a .loads .now) (omega arith) (sym (rw e at (c .before .formed-item .ensures)) ∙ not-true _ (c .if1 .taken))
+    form-broken _ _ _ _ f (a .nets .now) (a .compensations .now) (omega arith) (sym (rw e at (c .before .formed-item .ensures)) ∙ not-true _ (c .if1 .taken))
 
 loop-again : tie.Need-loop-again Inv-loop μ-loop
 loop-again c =
@@ -49,7 +49,7 @@ loop-again c =
     let a = start .args in
     let f = c .before .before .before .before .loop .inv .1 in
     let e = c .before .before .item-at .ensures in
-    (omega arith, form-on _ _ _ _ f (a .nets .now) (a .loads .now) (omega arith) (sym (rw e at (c .before .formed-item .ensures)) ∙ not-false _ (c .if1 .left)))
+    (omega arith, form-on _ _ _ _ f (a .nets .now) (a .compensations .now) (omega arith) (sym (rw e at (c .before .formed-item .ensures)) ∙ not-false _ (c .if1 .left)))
 
 returns-2 : tie.Need-returns-2 Inv-loop μ-loop
 returns-2 c = form-done _ _ _ _ (c .before .loop .inv .1) (omega arith)

@@ -31,39 +31,46 @@ returns-5 c = simp (c .before .before .before .before .before .if3 .left, le-leb
 
 returns-6 : tie.Need-returns-6
 unfolding formed formedDaily formedWeekly touches _and_ _or_
-returns-6 c = simp (
-  c .before .before .before .before .before .before .before .before .if3 .left,
-  le-leb _ _ (c .before .before .before .before .before .before .if4 .left),
-  lt-ltb _ _
-      (c .before .before .before .if5 .left),
-  le-ltb _ _ (c .if6 .taken),
-)
+returns-6 c =
+    let at-if4 = c .before .before .before .before .before .before in
+    simp (
+      at-if4 .before .before .if3 .left,
+      le-leb _ _ (at-if4 .if4 .left),
+      lt-ltb _ _
+          (c .before .before .before .if5 .left),
+      le-ltb _ _ (c .if6 .taken),
+    )
 
 returns-7 : tie.Need-returns-7
 unfolding formed formedDaily formedWeekly touches _and_ _or_
-returns-7 c = simp (
-  c .before .before .before .before .before .before .before .before .before .before .if3 .left,
-  le-leb _ _
-      (c .before .before .before .before .before .before .before .before .if4 .left),
-  lt-ltb _ _ (c .before .before .before .before .before .if5 .left),
-  lt-ltb _ _
-      (c .before .before .if6 .left),
-  eq-eqb _ _ (c .if7 .taken),
-)
+returns-7 c =
+    let at-if4 = c .before .before .before .before .before .before .before .before in
+    simp (
+      at-if4 .before .before .if3 .left,
+      le-leb _ _
+          (at-if4 .if4 .left),
+      lt-ltb _ _ (c .before .before .before .before .before .if5 .left),
+      lt-ltb _ _
+          (c .before .before .if6 .left),
+      eq-eqb _ _ (c .if7 .taken),
+    )
 
 returns-8 : tie.Need-returns-8
 unfolding formed formedDaily formedWeekly touches _and_ _or_
-returns-8 c = simp (
-  c .before .before .before .before .before .before .before .before .before .before .before .before .if3 .left,
-  le-leb _ _
-      (c .before .before .before .before .before .before .before .before .before .before .if4 .left),
-  lt-ltb _ _
-      (c .before .before .before .before .before .before .before .if5 .left),
-  lt-ltb _ _ (c .before .before .before .before .if6 .left),
-  ne-eqb _ _ (c .before .before .if7 .left),
-  le-ltb _ _
-      (c .if8 .taken),
-)
+returns-8 c =
+    let at-if5 = c .before .before .before .before .before .before .before in
+    let at-if4 = at-if5 .before .before .before in
+    simp (
+      at-if4 .before .before .if3 .left,
+      le-leb _ _
+          (at-if4 .if4 .left),
+      lt-ltb _ _
+          (at-if5 .if5 .left),
+      lt-ltb _ _ (c .before .before .before .before .if6 .left),
+      ne-eqb _ _ (c .before .before .if7 .left),
+      le-ltb _ _
+          (c .if8 .taken),
+    )
 
 returns-9 : tie.Need-returns-9
 returns-9 c =

@@ -1,6 +1,5 @@
 -- `rules_reading::holds_week` meets its contract. Assumes nothing.
 use borrow.Author.Needs.{needs}
-use Prim.Native.Nat.{_-_}
 use borrow.Author.Tests.{le-leb, lt-leb}
 use Rattle.recording.specs.Tests.{_and_}
 use Rattle.recording.specs.Weeks.{inside}

@@ -1,7 +1,6 @@
 -- `rules_reading::in_gap` meets its contract. Assumes nothing.
 use borrow.Author.Needs.{needs}
 use Rattle.recording.specs.Tests.{_or_}
-use Prim.Native.Nat.{_-_}
 use Rattle.rules_reading.proofs.in_gap.Statement.{statement}
 use Rattle.rules_reading.proofs.in_gap.Tie as tie
 

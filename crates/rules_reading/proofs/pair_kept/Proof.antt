@@ -1,6 +1,5 @@
 -- `rules_reading::pair_kept` meets its contract. Assumes nothing.
 use borrow.Author.Needs.{needs}
-use Prim.Native.Nat.{_-_}
 use borrow.Author.Tests.{le-leb, lt-leb}
 use Rattle.recording.specs.Tests.{_or_}
 use Rattle.rules_reading.proofs.pair_kept.Statement.{statement}

@@ -2,7 +2,7 @@
 use mathlib.Core.Path.{refl, sym, _∙_}
 use native.Mathlib.Omega.{arith}
 use borrow.Author.Needs.{needs}
-use Prim.Native.Nat.{_-_, _≤_, _+_}
+use Prim.Native.Nat.{_≤_, _+_}
 use borrow.Author.Tests.{not-true, not-false}
 use Rattle.recording.specs.Tests.{_or_}
 use Rattle.recording.specs.Weeks.{weekOf}
@@ -24,18 +24,19 @@ loop-holds : tie.Need-loop-holds Inv-loop μ-loop
 loop-holds c = (omega arith, record { same = refl })
 
 pair-kept-requires : tie.Need-pair-kept-requires Inv-loop μ-loop
-pair-kept-requires c κs = (
-  (c .before .before .before .before .before .before) .pre .0,
-  (c .before .before .before .before .before .before) .pre .1,
-  omega (
-    arith,
-    (c .before .before .before .before .before .before) .pre .2,
-  ),
-  (c .before .before .before .before .before .before) .pre .3,
-  (c .before .before .before .before .before .before) .pre .4,
-  (c .before .before .before .before .before .before) .pre .5,
-  (c .before .before .before .before .before .before) .pre .6,
-)
+pair-kept-requires c κs =
+    let start = c .before .before .before .before .before .before in (
+      start .pre .0,
+      start .pre .1,
+      omega (
+        arith,
+        start .pre .2,
+      ),
+      start .pre .3,
+      start .pre .4,
+      start .pre .5,
+      start .pre .6,
+    )
 
 returns : tie.Need-returns Inv-loop μ-loop
 unfolding rule11With

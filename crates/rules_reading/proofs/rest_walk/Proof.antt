@@ -5,17 +5,17 @@ use borrow.Author.Needs.{needs}
 use Prim.Native.Nat.{_-_, _≤_}
 use lib.ListN.{length}
 use borrow.Author.Tests.{not-true, not-false}
-use Rattle.rules_reading.proofs.WalkLaws.{Walking, walk-start, item-sane, too-short, walk-on, walk-through, pay-room}
-use Rattle.rules_reading.proofs.TallyLaws.{paid-length}
+use Rattle.rules_reading.proofs.WalkLaws.{Walking, walk-start, item-sane, too-short, walk-on, walk-through, compensate-room}
+use Rattle.rules_reading.proofs.TallyLaws.{addedTo-length}
 use Rattle.rules_reading.proofs.rest_walk.Statement.{statement}
 use Rattle.rules_reading.proofs.rest_walk.Tie as tie
 
 abbrev Inv-loop : tie.InvT-loop
-Inv-loop starts ends nets reading loads₀ weekly₀ regular₀ k s t₀ i₀ loads weekly regular t i =
-    (i ≤ k) × (length loads ≡ length loads₀) × Walking starts ends nets reading k s i t loads weekly regular
+Inv-loop starts ends nets reading compensations₀ weekly₀ regular₀ k s t₀ i₀ compensations weekly regular t i =
+    (i ≤ k) × (length compensations ≡ length compensations₀) × Walking starts ends nets reading k s i t compensations weekly regular
 
 abbrev μ-loop : tie.MeasureT-loop
-μ-loop starts ends nets reading loads₀ weekly₀ regular₀ k s t₀ i₀ loads weekly regular t i = k - i
+μ-loop starts ends nets reading compensations₀ weekly₀ regular₀ k s t₀ i₀ compensations weekly regular t i = k - i
 
 loop-holds : tie.Need-loop-holds Inv-loop μ-loop
 loop-holds c =
@@ -26,7 +26,7 @@ loop-holds c =
 item-at-requires : tie.Need-item-at-requires Inv-loop μ-loop
 item-at-requires c κs =
     let l = c .before .before .loop .inv .2 .laid in
-    (omega (arith, l .few), omega (arith, l .starts-in), omega (arith, l .ends-in), omega (arith, l .nets-in), omega (arith, l .reading-in), omega (arith, l .loads-in))
+    (omega (arith, l .few), omega (arith, l .starts-in), omega (arith, l .ends-in), omega (arith, l .nets-in), omega (arith, l .reading-in), omega (arith, l .compensations-in))
 
 as-read-requires : tie.Need-as-read-requires Inv-loop μ-loop
 as-read-requires c κs =
@@ -41,7 +41,7 @@ long-enough-requires c κs =
     let v = c .before .before .before .before .loop .inv .2 in
     let h = c .before .before .before .loop-test .taken in
     let z = item-sane _ _ _ _ _ _ v h (λ j. omega (arith, at-known .shared-slice-known4 .given j)) in
-    rw (c .as-read .ensures, c .before .item-at .ensures) (z .ordered, z .load)
+    rw (c .as-read .ensures, c .before .item-at .ensures) (z .ordered, z .compensation)
 
 same-length : tie.Need-same-length Inv-loop μ-loop
 same-length c =
@@ -90,24 +90,24 @@ tally-after-requires c κs =
       v .last,
     )
 
-bump-requires : tie.Need-bump-requires Inv-loop μ-loop
-bump-requires c κs =
+increment-requires : tie.Need-increment-requires Inv-loop μ-loop
+increment-requires c κs =
     let at-test = c .before .before .before .before .before .before .before .before .before in
     let at-loop = at-test .before in
     let v = at-loop .loop .inv .2 in
     let h = at-test .loop-test .taken in
     λ j. omega (arith, v .few-weeklies j, v .laid .few, h)
 
-bump-requires-2 : tie.Need-bump-requires-2 Inv-loop μ-loop
-bump-requires-2 c κs =
+increment-requires-2 : tie.Need-increment-requires-2 Inv-loop μ-loop
+increment-requires-2 c κs =
     let at-test = c .before .before .before .before .before .before .before .before .before .before .before .before .before .before in
     let at-loop = at-test .before in
     let v = at-loop .loop .inv .2 in
     let h = at-test .loop-test .taken in
     λ j. omega (arith, v .few-regulars j, v .laid .few, h)
 
-pay-requires : tie.Need-pay-requires Inv-loop μ-loop
-pay-requires c κs =
+compensate-requires : tie.Need-compensate-requires Inv-loop μ-loop
+compensate-requires c κs =
     let at-if1 = c .before .before .before .before .before .before .before .before .before .before .before .before .before .before in
     let at-long-enough = at-if1 .before in
     let at-as-read = at-long-enough .before in
@@ -120,7 +120,7 @@ pay-requires c κs =
     let a = at-as-read .as-read .ensures in
     let l = at-long-enough .long-enough .ensures in
     let f = not-false _ (at-if1 .if1 .left) in
-    pay-room _ _ _ _ _ _ v h (rw e at a) (rw e at l) f (c .reduction .ensures)
+    compensate-room _ _ _ _ _ _ v h (rw e at a) (rw e at l) f (c .reduction .ensures)
 
 loop-less : tie.Need-loop-less Inv-loop μ-loop
 loop-less c =
@@ -130,10 +130,10 @@ loop-less c =
 
 loop-again : tie.Need-loop-again Inv-loop μ-loop
 loop-again c =
-    let at-bump2 = c .before .before .before .before .before .before .before in
-    let at-is-regular = at-bump2 .before .before in
-    let at-bump = at-is-regular .before .before .before in
-    let at-is-weekly = at-bump .before .before in
+    let at-increment2 = c .before .before .before .before .before .before .before in
+    let at-is-regular = at-increment2 .before .before in
+    let at-increment = at-is-regular .before .before .before in
+    let at-is-weekly = at-increment .before .before in
     let at-tally-after = at-is-weekly .before in
     let at-end-of = at-tally-after .before in
     let at-if1 = at-end-of .before in
@@ -152,12 +152,12 @@ loop-again c =
     let t = at-tally-after .tally-after .ensures in
     let w = at-is-weekly .is-weekly .ensures in
     let g = at-is-regular .is-regular .ensures in
-    let bw = at-bump .bump .ensures in
-    let bg = at-bump2 .bump2 .ensures in
+    let bw = at-increment .increment .ensures in
+    let bg = at-increment2 .increment2 .ensures in
     let d = c .before .before .before .reduction .ensures in
-    let p = c .before .before .pay .ensures in (
+    let p = c .before .before .compensate .ensures in (
       omega (arith, h),
-      ap length p ∙ simp paid-length (v .1),
+      ap length p ∙ simp addedTo-length (v .1),
       walk-on _ _ _ _ _ _ (v .2) h (rw e at a) (rw e at l) f (rw e at o) (rw e at t) (rw (w, e) at bw) (rw (g, e) at bg) d (rw e at p),
     )
 
@@ -195,11 +195,11 @@ rest-walk-spec =
     end-of-requires
     tally-after-requires
     (λ c κs. search needs)
-    bump-requires
+    increment-requires
     (λ c κs. search needs)
-    bump-requires-2
+    increment-requires-2
     (λ c κs. search needs)
-    pay-requires
+    compensate-requires
     loop-less
     loop-again
     same-length-4

@@ -32,11 +32,12 @@ loop-less : tie.Need-loop-less Inv-loop μ-loop
 loop-less c = omega (arith, c .before .before .before .before .loop-test .taken)
 
 loop-again : tie.Need-loop-again Inv-loop μ-loop
-loop-again c = (
-  omega (arith, c .before .before .before .before .loop-test .taken),
-  look-on _ _ _ _ (c .before .before .before .before .before .loop .inv .1)
-      (c .before .before .before .before .loop-test .taken) (sym (c .before .holds-week .ensures) ∙ c .if1 .left),
-)
+loop-again c =
+    let at-loop-test = c .before .before .before .before in (
+      omega (arith, at-loop-test .loop-test .taken),
+      look-on _ _ _ _ (at-loop-test .before .loop .inv .1)
+          (at-loop-test .loop-test .taken) (sym (c .before .holds-week .ensures) ∙ c .if1 .left),
+    )
 
 returns-2 : tie.Need-returns-2 Inv-loop μ-loop
 returns-2 c = look-none _ _ _ _ (c .before .loop .inv .1) (omega arith)

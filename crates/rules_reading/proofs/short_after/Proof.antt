@@ -1,7 +1,6 @@
 -- `rules_reading::short_after` meets its contract. Assumes nothing.
 use mathlib.Core.Path.{refl, sym, _∙_}
 use borrow.Author.Needs.{needs}
-use Prim.Native.Nat.{_-_}
 use Rattle.rules_reading.proofs.ItemLaws.{kind-is}
 use Rattle.rules_reading.specs.Items.{shortAfter}
 use native.Mathlib.Nat.{add-zero}
@@ -10,19 +9,23 @@ use Rattle.rules_reading.proofs.short_after.Tie as tie
 
 returns : tie.Need-returns
 unfolding shortAfter
-returns c = rw (
-  kind-is ((c .before .before .before .before) .args .x) ((c .before .before .before .before) .pre .1) (c .before .enum-told .given .1),
-  sym
-      (c .before .before .before .shortened-item .ensures) ∙ c .if1 .taken,
-) refl
+returns c =
+    let start = c .before .before .before .before in
+    rw (
+      kind-is (start .args .x) (start .pre .1) (c .before .enum-told .given .1),
+      sym
+          (c .before .before .before .shortened-item .ensures) ∙ c .if1 .taken,
+    ) refl
 
 returns-2 : tie.Need-returns-2
 unfolding shortAfter
-returns-2 c = rw (
-  kind-is ((c .before .before .before .before) .args .x) ((c .before .before .before .before) .pre .1) (c .before .enum-told .given .1),
-  sym
-      (c .before .before .before .shortened-item .ensures) ∙ c .if1 .left,
-) (sym (add-zero _))
+returns-2 c =
+    let start = c .before .before .before .before in
+    rw (
+      kind-is (start .args .x) (start .pre .1) (c .before .enum-told .given .1),
+      sym
+          (c .before .before .before .shortened-item .ensures) ∙ c .if1 .left,
+    ) (sym (add-zero _))
 
 returns-3 : tie.Need-returns-3
 unfolding shortAfter

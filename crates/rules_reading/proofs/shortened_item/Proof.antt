@@ -12,7 +12,7 @@ use Rattle.rules_reading.proofs.shortened_item.Tie as tie
 add-result : tie.Need-add-result
 add-result c =
     let p = (c .before .before .before .before) .pre .0 in
-    omega (arith, item-net _ p, p .load, p .end)
+    omega (arith, item-net _ p, p .compensation, p .end)
 
 returns : tie.Need-returns
 returns c =

@@ -1,7 +1,6 @@
 -- `rules_reading::tally_after` meets its contract. Assumes nothing.
 use mathlib.Core.Path.{refl}
 use borrow.Author.Needs.{needs}
-use Prim.Native.Nat.{_-_}
 use Rattle.rules_reading.specs.Items.{brokenBy, tallyBy}
 use Rattle.rules_reading.proofs.tally_after.Statement.{statement}
 use Rattle.rules_reading.proofs.tally_after.Tie as tie

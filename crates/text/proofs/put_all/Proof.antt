@@ -19,24 +19,30 @@ loop-holds : tie.Need-loop-holds Inv-loop μ-loop
 loop-holds c = (omega arith, put-first ((c .before .before) .args .text .now) ((c .before .before) .args .bytes .now) ((c .before .before) .args .at))
 
 loop-again : tie.Need-loop-again Inv-loop μ-loop
-loop-again c = (
-  omega arith,
-  c .before .before .before .before .before .before .loop .inv .1 ∙ put-on (c .before .before .before .before .before .before .loop .text)
-      ((c .before .before .before .before .before .before .before .before .before) .args .bytes .now) ((c .before .before .before .before .before .before .before .before .before) .args .at)
-      (c .before .before .before .before .before .before .loop .i) (omega arith) (c .before .before .put .ensures),
-)
+loop-again c =
+    let turn = c .before .before .before .before .before .before in
+    let start = turn .before .before .before in (
+      omega arith,
+      turn .loop .inv .1 ∙ put-on (turn .loop .text)
+          (start .args .bytes .now) (start .args .at)
+          (turn .loop .i) (omega arith) (c .before .before .put .ensures),
+    )
 
 same-length : tie.Need-same-length Inv-loop μ-loop
-same-length c = put-same-length ((c .before .before .before .before) .args .text .now) (c .before .loop .text) ((c .before .before .before .before) .args .at)
-    ((c .before .before .before .before) .args .at + c .before .loop .i) ((c .before .before .before .before) .args .bytes .now) (drop (c .before .loop .i)
-    ((c .before .before .before .before) .args .bytes .now)) (c .before .loop .inv .1)
+same-length c =
+    let start = c .before .before .before .before in
+    put-same-length (start .args .text .now) (c .before .loop .text) (start .args .at)
+    (start .args .at + c .before .loop .i) (start .args .bytes .now) (drop (c .before .loop .i)
+    (start .args .bytes .now)) (c .before .loop .inv .1)
 
 returns : tie.Need-returns Inv-loop μ-loop
-returns c = record {
-  next-is = omega arith;
-  text-is = sym (c .before .loop .inv .1 ∙ put-done (c .before .loop .text) ((c .before .before .before .before) .args .bytes .now)
-      ((c .before .before .before .before) .args .at + c .before .loop .i) (c .before .loop .i) (omega arith));
-}
+returns c =
+    let start = c .before .before .before .before in
+    record {
+      next-is = omega arith;
+      text-is = sym (c .before .loop .inv .1 ∙ put-done (c .before .loop .text) (start .args .bytes .now)
+          (start .args .at + c .before .loop .i) (c .before .loop .i) (omega arith));
+    }
 
 pub put-all-spec : {M : Type 1} → statement M
 put-all-spec =

@@ -22,50 +22,57 @@ loop-holds c = (omega arith, omega arith, omega arith)
 
 returns : tie.Need-returns Inv-loop μ-loop
 returns c =
+    let turn = c .before .before .before .before in
+    let start = turn .before .before in
     record {
       words = omega (
         arith,
-        c .before .before .before .before .loop .inv .1,
-        words-other ((c .before .before .before .before .before .before) .args .activity) ((c .before .before .before .before .before .before) .args .words .now)
-            (c .before .before .before .before .loop .i) (omega arith) (other-code (c .before .has-activity .ensures) (not-true _ (c .if1 .taken))),
+        turn .loop .inv .1,
+        words-other (start .args .activity) (start .args .words .now)
+            (turn .loop .i) (omega arith) (other-code (c .before .has-activity .ensures) (not-true _ (c .if1 .taken))),
       );
       minutes = omega (
         arith,
-        c .before .before .before .before .loop .inv .2,
-        minutes-other ((c .before .before .before .before .before .before) .args .activity)
-            ((c .before .before .before .before .before .before) .args .words .now) (c .before .before .before .before .loop .i) (omega arith) (other-code (c .before .has-activity .ensures)
+        turn .loop .inv .2,
+        minutes-other (start .args .activity)
+            (start .args .words .now) (turn .loop .i) (omega arith) (other-code (c .before .has-activity .ensures)
             (not-true _ (c .if1 .taken))),
       );
     }
 
 add-minutes : tie.Need-add-minutes Inv-loop μ-loop
-add-minutes c = omega (
-  arith,
-  c .before .before .before .before .loop .inv .2,
-  minutes-on ((c .before .before .before .before .before .before) .args .activity)
-      ((c .before .before .before .before .before .before) .args .words .now) (c .before .before .before .before .loop .i) (omega arith) (same-code (c .before .has-activity .ensures)
-      (not-false _ (c .if1 .left))),
-  minutes-within
-      ((c .before .before .before .before .before .before) .args .activity) ((c .before .before .before .before .before .before) .args .words .now),
-  (c .before .before .before .before .before .before) .pre,
-)
+add-minutes c =
+    let turn = c .before .before .before .before in
+    let start = turn .before .before in
+    omega (
+      arith,
+      turn .loop .inv .2,
+      minutes-on (start .args .activity)
+          (start .args .words .now) (turn .loop .i) (omega arith) (same-code (c .before .has-activity .ensures)
+          (not-false _ (c .if1 .left))),
+      minutes-within
+          (start .args .activity) (start .args .words .now),
+      start .pre,
+    )
 
 loop-again : tie.Need-loop-again Inv-loop μ-loop
-loop-again c = (
-  omega arith,
-  omega (
-    arith,
-    c .before .before .before .before .loop .inv .1,
-    words-on ((c .before .before .before .before .before .before) .args .activity) ((c .before .before .before .before .before .before) .args .words .now)
-        (c .before .before .before .before .loop .i) (omega arith) (same-code (c .before .has-activity .ensures) (not-false _ (c .if1 .left))),
-  ),
-  omega (
-    arith,
-    c .before .before .before .before .loop .inv .2,
-    minutes-on ((c .before .before .before .before .before .before) .args .activity) ((c .before .before .before .before .before .before) .args .words .now)
-        (c .before .before .before .before .loop .i) (omega arith) (same-code (c .before .has-activity .ensures) (not-false _ (c .if1 .left))),
-  ),
-)
+loop-again c =
+    let turn = c .before .before .before .before in
+    let start = turn .before .before in (
+      omega arith,
+      omega (
+        arith,
+        turn .loop .inv .1,
+        words-on (start .args .activity) (start .args .words .now)
+            (turn .loop .i) (omega arith) (same-code (c .before .has-activity .ensures) (not-false _ (c .if1 .left))),
+      ),
+      omega (
+        arith,
+        turn .loop .inv .2,
+        minutes-on (start .args .activity) (start .args .words .now)
+            (turn .loop .i) (omega arith) (same-code (c .before .has-activity .ensures) (not-false _ (c .if1 .left))),
+      ),
+    )
 
 returns-2 : tie.Need-returns-2 Inv-loop μ-loop
 returns-2 c =

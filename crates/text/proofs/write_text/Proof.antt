@@ -6,31 +6,46 @@ use Rattle.text.proofs.write_text.Statement.{statement}
 use Rattle.text.proofs.write_text.Tie as tie
 
 returns : tie.Need-returns
-returns c = let k = not-measured ((c .before .before .before .before .before .before) .args .words .now) ((c .before .before .before .before .before .before) .args .text .now) (refused-there
-    ((c .before .before .before .before .before .before) .args .words .now) (c .before .before .before .weigh .ensures) (c .before .enum-told2 .given .1) (c .refusal-of .ensures)) in
+returns c =
+    let start = c .before .before .before .before .before .before in
+    let k = not-measured (start .args .words .now) (start .args .text .now) (refused-there
+    (start .args .words .now) (c .before .before .before .weigh .ensures) (c .before .enum-told2 .given .1) (c .refusal-of .ensures)) in
     (k .answer, k .content)
 
 put-recording-requires : tie.Need-put-recording-requires
-put-recording-requires c κs = measured-writable ((c .before .before .before .before .before .before) .args .words .now) (measured-there
-    ((c .before .before .before .before .before .before) .args .words .now) (c .before .before .before .weigh .ensures) (c .before .enum-told .given .1))
+put-recording-requires c κs =
+    let start = c .before .before .before .before .before .before in
+    measured-writable (start .args .words .now) (measured-there
+    (start .args .words .now) (c .before .before .before .weigh .ensures) (c .before .enum-told .given .1))
 
 returns-2 : tie.Need-returns-2
-returns-2 c = let k = few-bytes ((c .before .before .before .before .before .before .before .before .before) .args .words .now)
-    ((c .before .before .before .before .before .before .before .before .before) .args .text .now) (measured-there
-    ((c .before .before .before .before .before .before .before .before .before) .args .words .now) (c .before .before .before .before .before .before .weigh .ensures)
+returns-2 c =
+    let at-weigh = c .before .before .before .before .before .before in
+    let start = at-weigh .before .before .before in
+    let k = few-bytes (start .args .words .now)
+    (start .args .text .now) (measured-there
+    (start .args .words .now) (at-weigh .weigh .ensures)
     (c .before .before .before .before .enum-told .given .1)) (c .before .before .put-recording .ensures .0) (c .if1 .taken) in (k .answer, k .content)
 
 put-recording-requires-2 : tie.Need-put-recording-requires-2
-put-recording-requires-2 c κs = measured-writable ((c .before .before .before .before .before .before .before .before .before .before) .args .words .now) (measured-there
-    ((c .before .before .before .before .before .before .before .before .before .before) .args .words .now) (c .before .before .before .before .before .before .before .weigh .ensures)
+put-recording-requires-2 c κs =
+    let at-weigh = c .before .before .before .before .before .before .before in
+    let start = at-weigh .before .before .before in
+    measured-writable (start .args .words .now) (measured-there
+    (start .args .words .now) (at-weigh .weigh .ensures)
     (c .before .before .before .before .before .enum-told .given .1))
 
 returns-3 : tie.Need-returns-3
-returns-3 c = let k = all-written ((c .before .before .before .before .before .before .before .before .before .before .before .before .before) .args .words .now)
-    ((c .before .before .before .before .before .before .before .before .before .before .before .before .before) .args .text .now) (measured-there
-    ((c .before .before .before .before .before .before .before .before .before .before .before .before .before) .args .words .now)
-    (c .before .before .before .before .before .before .before .before .before .before .weigh .ensures)
-    (c .before .before .before .before .before .before .before .before .enum-told .given .1)) (c .before .before .before .before .before .before .put-recording .ensures .0)
+returns-3 c =
+    let at-put-recording = c .before .before .before .before .before .before in
+    let at-enum-told = at-put-recording .before .before in
+    let at-weigh = at-enum-told .before .before in
+    let start = at-weigh .before .before .before in
+    let k = all-written (start .args .words .now)
+    (start .args .text .now) (measured-there
+    (start .args .words .now)
+    (at-weigh .weigh .ensures)
+    (at-enum-told .enum-told .given .1)) (at-put-recording .put-recording .ensures .0)
     (c .before .before .before .before .if1 .left) (c .before .before .put-recording2 .ensures .0) in (k .answer, k .content)
 
 pub write-text-spec : {M : Type 1} → statement M

@@ -9,8 +9,10 @@ add-runs : tie.Need-add-runs
 add-runs c = omega (arith, c .words-in .ensures, few-words (c .before .before .before .first-line .result .line))
 
 returns : tie.Need-returns
-returns c = line-read ((c .before .before .before .before .before .before) .args .text .now) ((c .before .before .before .before .before .before) .args .at)
-    ((c .before .before .before .before .before .before) .args .p) (c .before .before .before .first-line .ensures) ((c .before .before .before .before .before .before) .pre .0)
+returns c =
+    let start = c .before .before .before .before .before .before in
+    line-read (start .args .text .now) (start .args .at)
+    (start .args .p) (c .before .before .before .first-line .ensures) (start .pre .0)
     (c .before .stage-after .ensures) (c .words-in .ensures)
 
 pub line-at-spec : {M : Type 1} → statement M

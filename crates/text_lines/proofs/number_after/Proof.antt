@@ -20,29 +20,37 @@ loop-holds : tie.Need-loop-holds Inv-loop μ-loop
 loop-holds c = (omega arith, omega arith, refl)
 
 returns : tie.Need-returns Inv-loop μ-loop
-returns c = sym (c .before .before .loop .inv .2 ∙ after-short ((c .before .before .before .before .before) .args .name .now) ((c .before .before .before .before .before) .args .line .now)
+returns c =
+    let start = c .before .before .before .before .before in
+    sym (c .before .before .loop .inv .2 ∙ after-short (start .args .name .now) (start .args .line .now)
     (c .before .before .loop .i) (omega arith) (c .if1 .taken))
 
 returns-2 : tie.Need-returns-2 Inv-loop μ-loop
-returns-2 c = sym (c .before .before .before .before .before .loop .inv .2 ∙ after-other ((c .before .before .before .before .before .before .before .before) .args .name .now)
-    ((c .before .before .before .before .before .before .before .before) .args .line .now) (c .before .before .before .before .before .loop .i) (omega arith) (omega arith) (c .if2 .taken))
+returns-2 c =
+    let turn = c .before .before .before .before .before in
+    let start = turn .before .before .before in
+    sym (turn .loop .inv .2 ∙ after-other (start .args .name .now)
+    (start .args .line .now) (turn .loop .i) (omega arith) (omega arith) (c .if2 .taken))
 
 loop-again : tie.Need-loop-again Inv-loop μ-loop
-loop-again c = (
-  omega arith,
-  omega arith,
-  c .before .before .before .before .before .loop .inv .2 ∙ after-on
-      ((c .before .before .before .before .before .before .before .before) .args .name .now) ((c .before .before .before .before .before .before .before .before) .args .line .now)
-      (c .before .before .before .before .before .loop .i) (omega arith) (omega arith) (c .if2 .left),
-)
+loop-again c =
+    let turn = c .before .before .before .before .before in
+    let start = turn .before .before .before in (
+      omega arith,
+      omega arith,
+      turn .loop .inv .2 ∙ after-on
+          (start .args .name .now) (start .args .line .now)
+          (turn .loop .i) (omega arith) (omega arith) (c .if2 .left),
+    )
 
 returns-3 : tie.Need-returns-3 Inv-loop μ-loop
 returns-3 c =
-    let k : c .number-in .result ≡ numberFrom 0 (take (length ((c .before .before .before .before .before .before) .args .line .now) - c .before .before .before .loop .i) (drop
-    (c .before .before .before .loop .i) ((c .before .before .before .before .before .before) .args .line .now))) = c .number-in .ensures in
-    k ∙ ap (numberFrom 0) (part-rest ((c .before .before .before .before .before .before) .args .line .now) (c .before .before .before .loop .i)) ∙ sym
-    (c .before .before .before .loop .inv .2 ∙ after-done ((c .before .before .before .before .before .before) .args .name .now)
-    ((c .before .before .before .before .before .before) .args .line .now) (c .before .before .before .loop .i) (omega arith))
+    let start = c .before .before .before .before .before .before in
+    let k : c .number-in .result ≡ numberFrom 0 (take (length (start .args .line .now) - c .before .before .before .loop .i) (drop
+    (c .before .before .before .loop .i) (start .args .line .now))) = c .number-in .ensures in
+    k ∙ ap (numberFrom 0) (part-rest (start .args .line .now) (c .before .before .before .loop .i)) ∙ sym
+    (c .before .before .before .loop .inv .2 ∙ after-done (start .args .name .now)
+    (start .args .line .now) (c .before .before .before .loop .i) (omega arith))
 
 pub number-after-spec : {M : Type 1} → statement M
 number-after-spec =

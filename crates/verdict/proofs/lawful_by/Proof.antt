@@ -8,11 +8,13 @@ returns : tie.Need-returns
 returns c = record { unfixed = λ e. absurd (c .if1 .taken e); fixed = λ f. refl }
 
 returns-2 : tie.Need-returns-2
-returns-2 c = record {
-  unfixed = λ e. c .before .before .before .before .before .before .some-reading .ensures;
-  fixed = λ f. absurd
-      (f (c .before .before .before .before .before .before .before .before .before .before .if1 .left));
-}
+returns-2 c =
+    let at-some-reading = c .before .before .before .before .before .before in
+    record {
+      unfixed = λ e. at-some-reading .some-reading .ensures;
+      fixed = λ f. absurd
+          (f (at-some-reading .before .before .before .before .if1 .left));
+    }
 
 pub lawful-by-spec : {M : Type 1} → statement M
 lawful-by-spec =

@@ -26,12 +26,16 @@ loop-again : tie.Need-loop-again Inv-loop μ-loop
 loop-again c = rest-on (c .before .before .before .before .loop .inv) (c .before .before .before .loop-test .taken) (c .match .keys1)
 
 returns : tie.Need-returns Inv-loop μ-loop
-returns c = active-there (c .before .before .before .before .before .before .loop .inv) (c .before .before .before .before .before .loop-test .taken) (c .before .before .before .later-of .ensures)
-    ((c .before .before .before .before .before .before .before .before) .pre .1) (c .before .before .match .rest .1) (c .before .if1 .taken) (omega arith)
+returns c =
+    let turn = c .before .before .before .before .before .before in
+    active-there (turn .loop .inv) (c .before .before .before .before .before .loop-test .taken) (c .before .before .before .later-of .ensures)
+    ((turn .before .before) .pre .1) (c .before .before .match .rest .1) (c .before .if1 .taken) (omega arith)
 
 returns-2 : tie.Need-returns-2 Inv-loop μ-loop
-returns-2 c = active-there (c .before .before .before .before .before .before .loop .inv) (c .before .before .before .before .before .loop-test .taken)
-    (c .before .before .before .later-of .ensures) ((c .before .before .before .before .before .before .before .before) .pre .1) (c .before .before .match .rest .1) (c .before .if1 .taken)
+returns-2 c =
+    let turn = c .before .before .before .before .before .before in
+    active-there (turn .loop .inv) (c .before .before .before .before .before .loop-test .taken)
+    (c .before .before .before .later-of .ensures) ((turn .before .before) .pre .1) (c .before .before .match .rest .1) (c .before .if1 .taken)
     (omega arith)
 
 loop-again-2 : tie.Need-loop-again-2 Inv-loop μ-loop

@@ -27,11 +27,12 @@ possible-requires c κs =
 
 returns : tie.Need-returns
 returns c =
-    let s = (c .before .before .before .before .before .before .before .before .before .before .before .before .before .before .before .before .before .before .before) in
+    let at-possible = c .before .before .before .before .before .before .before in
+    let s = (at-possible .before .before .before .before .before .before .before .before .before .before .before .before) in
     let none = none-zeros (length (now (s .args .starts))) in
     let size = none-size (length (now (s .args .starts))) (s .pre .1) in
     some-reading (now (s .args .starts)) (now (s .args .ends)) (now (s .args .nets)) _ _ (s .args .s) (s .pre .0) (s .pre .1) (s .pre .2) none size none
-    (c .before .before .before .before .before .before .before .possible .ensures)
+    (at-possible .possible .ensures)
 
 pub some-reading-spec : {M : Type 1} → statement M
 some-reading-spec =

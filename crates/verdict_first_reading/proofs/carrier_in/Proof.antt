@@ -20,7 +20,7 @@ add-advance c = let s = (c .before .before .before .before .before .before .befo
 advance-requires : tie.Need-advance-requires
 advance-requires c κs =
     let s = (c .before .before .before .before .before .before .before .before .before .before) in
-    let k = courseOf (now (s .args .starts)) (now (s .args .ends)) (now (s .args .nets)) (now (s .args .loads)) (s .args .s) in
+    let k = courseOf (now (s .args .starts)) (now (s .args .ends)) (now (s .args .nets)) (now (s .args .compensations)) (s .args .s) in
     to-counted k (s .pre .0 .sized .lies) (s .args .j) (s .args .w) (s .args .here) (s .pre .0 .sized .judged) (s .pre .1) (s .pre .4)
 
 add-result : tie.Need-add-result
@@ -29,11 +29,11 @@ add-result c = let s = (c .before .before .before .before .before .before .befor
 returns : tie.Need-returns
 returns c =
     let s = (c .before .before .before .before .before .before .before .before .before .before .before .before .before) in
-    let k = courseOf (now (s .args .starts)) (now (s .args .ends)) (now (s .args .nets)) (now (s .args .loads)) (s .args .s) in (
+    let k = courseOf (now (s .args .starts)) (now (s .args .ends)) (now (s .args .nets)) (now (s .args .compensations)) (s .args .s) in (
       record {
         goes = λ l. absurd (omega (arith, l));
         fits = λ l. absurd (omega (arith, l));
-        first = λ y g. absurd (not-counted k (s .args .j) (s .args .w) (s .args .here) (now (s .args .owed)) y (sym (c .before .before .advance .ensures) ∙ c .enum-told .given .1) g);
+        first = λ y g. absurd (not-counted k (s .args .j) (s .args .w) (s .args .here) (now (s .args .outstanding)) y (sym (c .before .before .advance .ensures) ∙ c .enum-told .given .1) g);
       },
       refl,
       refl,
@@ -57,12 +57,12 @@ mul-regular c =
 slice-read-regular : tie.Need-slice-read-regular
 slice-read-regular c =
     let s = c .before .before .before .before .before .before .before .before .before .before .before .before .before .before .before .before in
-    omega (arith, s .pre .1 .within, s .pre .0 .sized .loads-too)
+    omega (arith, s .pre .1 .within, s .pre .0 .sized .compensations-too)
 
 add-regular : tie.Need-add-regular
 add-regular c =
     let s = c .before .before .before .before .before .before .before .before .before .before .before .before .before .before .before .before in
-    omega (arith, s .pre .0 .sized .loads-low (s .args .j))
+    omega (arith, s .pre .0 .sized .compensations-low (s .args .j))
 
 mul-regular-2 : tie.Need-mul-regular-2
 mul-regular-2 c =
@@ -104,7 +104,7 @@ after-weekly-requires c κs =
     let at-there = c .before .before .before .before .before .before in
     let at-advance = at-there .before .before in
     let s = at-advance .before .before .before .before .before .before .before .before .before .before .before in
-    let k = courseOf (now (s .args .starts)) (now (s .args .ends)) (now (s .args .nets)) (now (s .args .loads)) (s .args .s) in
+    let k = courseOf (now (s .args .starts)) (now (s .args .ends)) (now (s .args .nets)) (now (s .args .compensations)) (s .args .s) in
     brought (restWeek k) (s .args .w - s .args .here .week) (s .pre .1 .small) (at-advance .advance .ensures) (at-there .there .given .1) .small
 
 first-carrier-requires : tie.Need-first-carrier-requires
@@ -114,11 +114,11 @@ first-carrier-requires c κs =
     let at-there = at-rest-week .before .before in
     let at-advance = at-there .before .before in
     let s = at-advance .before .before .before .before .before .before .before .before .before .before .before in
-    let k = courseOf (now (s .args .starts)) (now (s .args .ends)) (now (s .args .nets)) (now (s .args .loads)) (s .args .s) in
-    let load = at (now (s .args .loads)) (s .args .j) in (
+    let k = courseOf (now (s .args .starts)) (now (s .args .ends)) (now (s .args .nets)) (now (s .args .compensations)) (s .args .s) in
+    let compensation = at (now (s .args .compensations)) (s .args .j) in (
       s .pre .0,
       s .pre .1,
-      before-weekly k (s .pre .0 .sized .lies) (s .args .j) (s .args .w) (s .args .here) (at-rest-week .rest-week .result) (leb (regularMinutes + load) (lengthAt k (s .args .j)))
+      before-weekly k (s .pre .0 .sized .lies) (s .args .j) (s .args .w) (s .args .here) (at-rest-week .rest-week .result) (leb (regularMinutes + compensation) (lengthAt k (s .args .j)))
           (at-advance .advance .ensures) (at-there .there .given .1) (at-after-weekly .after-weekly .ensures) (s .pre .1) (s .pre .3) (s .pre .4),
       s .pre .4,
       s .pre .5,
@@ -132,7 +132,7 @@ returns-2 c =
     let at-there = at-rest-week .before .before in
     let at-advance = at-there .before .before in
     let s = at-advance .before .before .before .before .before .before .before .before .before .before .before in
-    let k = courseOf (now (s .args .starts)) (now (s .args .ends)) (now (s .args .nets)) (now (s .args .loads)) (s .args .s) in
+    let k = courseOf (now (s .args .starts)) (now (s .args .ends)) (now (s .args .nets)) (now (s .args .compensations)) (s .args .s) in
     let there = at-there .there .given .0 .0 in
     let next = at-after-weekly .after-weekly .result in
     let f = at-first-carrier .first-carrier .ensures in
@@ -140,10 +140,10 @@ returns-2 c =
     let e = counted-state k (s .args .j) (s .args .w) (at-rest-week .rest-week .result) there next (at-after-weekly .after-weekly .ensures) (at-rest-week .rest-week .ensures) in (
       record {
         goes = λ l can.
-            from-with k (s .args .j) (s .args .w) (s .args .here) there next (now (s .args .owed)) counted e (at-first-carrier .first-carrier .result)
+            from-with k (s .args .j) (s .args .w) (s .args .here) there next (now (s .args .outstanding)) counted e (at-first-carrier .first-carrier .result)
             (s .pre .2) (s .pre .3) (s .pre .4) (f .0 .goes l can);
         fits = f .0 .fits;
-        first = λ y g. f .0 .first y (to-with k (s .args .j) (s .args .w) (s .args .here) there next (now (s .args .owed)) counted e y g);
+        first = λ y g. f .0 .first y (to-with k (s .args .j) (s .args .w) (s .args .here) there next (now (s .args .outstanding)) counted e y g);
       },
       f .1,
       f .2,

@@ -7,96 +7,98 @@ use lib.ListN.{length}
 use denote.Ref.{now}
 use Rattle.recording.proofs.TestLaws.{less-or-not}
 use Rattle.verdict_search.specs.Search.{courseOf, Sound}
-use Rattle.verdict_first_reading.specs.Choices.{GoesWith}
+use Rattle.verdict_first_reading.specs.Choices.{CanHave}
 use Rattle.verdict_first_reading.proofs.Placing.{sound-with, lent-same, before-with, at-rest-with, found-same, room-same, none-below}
 use Rattle.verdict_first_reading.proofs.first_carrier.Statement.{statement}
 use Rattle.verdict_first_reading.proofs.first_carrier.Tie as tie
 
 abbrev Inv-loop : tie.InvT-loop
-Inv-loop starts ends nets loads₀ s owed₀ nogoods₀ front₀ other₀ known₀ beside₀ j here w next x₀ loads owed nogoods front other known beside x =
-    (loads ≡ loads₀) × (owed ≡ owed₀) × (length nogoods ≡ length nogoods₀) × (length front ≡ length front₀) × (length other ≡ length other₀)
+Inv-loop starts ends nets compensations₀ s outstanding₀ nogoods₀ front₀ other₀ known₀ beside₀ j here w next x₀ compensations outstanding nogoods front other known beside x =
+    (compensations ≡ compensations₀) × (outstanding ≡ outstanding₀) × (length nogoods ≡ length nogoods₀) × (length front ≡ length front₀) × (length other ≡ length other₀)
     × (length known ≡ length known₀) × (length beside ≡ length beside₀) × (x ≤ length starts + 1) × (0 < x → j + 1 < x)
-    × ((y : ℕ) → y < x → GoesWith (courseOf starts ends nets loads₀ s) j w next owed₀ y → ⊥) × Sound (courseOf starts ends nets loads₀ s) nogoods
+    × ((y : ℕ) → y < x → CanHave (courseOf starts ends nets compensations₀ s) j w next outstanding₀ y → ⊥) × Sound (courseOf starts ends nets compensations₀ s) nogoods
 
 abbrev μ-loop : tie.MeasureT-loop
-μ-loop starts ends nets loads₀ s owed₀ nogoods₀ front₀ other₀ known₀ beside₀ j here w next x₀ loads owed nogoods front other known beside x = length starts + 1 - x
+μ-loop starts ends nets compensations₀ s outstanding₀ nogoods₀ front₀ other₀ known₀ beside₀ j here w next x₀ compensations outstanding nogoods front other known beside x = length starts + 1 - x
 
 loop-holds : tie.Need-loop-holds Inv-loop μ-loop
 loop-holds c =
     let at-entry = c .before .before .before .before .before .before .before .before .before .before in
     (refl, refl, refl, refl, refl, refl, refl, zero-le, λ p. absurd (omega arith), λ y l. absurd (omega arith), at-entry .pre .4)
 
-goes-with-requires : tie.Need-goes-with-requires Inv-loop μ-loop
-goes-with-requires c κs =
-    let s = (c .before .before .before .before .before .before .before .before .before .before .before .before .before .before .before .before .before .before .before) in
-    let k = courseOf (now (s .args .starts)) (now (s .args .ends)) (now (s .args .nets)) (now (s .args .loads)) (s .args .s) in
-    let i = c .before .before .before .before .before .before .before .before .loop .inv in (
+can-have-requires : tie.Need-can-have-requires Inv-loop μ-loop
+can-have-requires c κs =
+    let at-loop-test = c .before .before .before .before .before .before .before in
+    let turn = at-loop-test .before in
+    let s = (turn .before .before .before .before .before .before .before .before .before .before .before) in
+    let k = courseOf (now (s .args .starts)) (now (s .args .ends)) (now (s .args .nets)) (now (s .args .compensations)) (s .args .s) in
+    let i = turn .loop .inv in (
       lent-same {c = k} (i .0) (i .1) (s .pre .0),
-      at-rest-with k (c .before .before .before .before .before .before .before .before .loop .loads) (s .pre .1),
-      before-with k (c .before .before .before .before .before .before .before .before .loop .loads) (s .pre .2),
+      at-rest-with k (turn .loop .compensations) (s .pre .1),
+      before-with k (turn .loop .compensations) (s .pre .2),
       s .pre .3,
-      c .before .before .before .before .before .before .before .loop-test .taken,
+      at-loop-test .loop-test .taken,
       i .8,
       sound-with {c = k} (i .0) (i .10),
     )
 
 same-length : tie.Need-same-length Inv-loop μ-loop
 same-length c =
-    let at-goes-with = c .before .before .before .before .before .before .before .before .before .before .before .before .before .before .before in
-    let at-loop = at-goes-with .before .before .before .before .before .before .before .before .before in
-    ap length (at-goes-with .goes-with .ensures .2 ∙ at-loop .loop .inv .0)
+    let at-can-have = c .before .before .before .before .before .before .before .before .before .before .before .before .before .before .before in
+    let at-loop = at-can-have .before .before .before .before .before .before .before .before .before in
+    ap length (at-can-have .can-have .ensures .2 ∙ at-loop .loop .inv .0)
 
 same-length-2 : tie.Need-same-length-2 Inv-loop μ-loop
 same-length-2 c =
-    let at-goes-with = c .before .before .before .before .before .before .before .before .before .before .before .before .before .before .before in
-    let at-loop = at-goes-with .before .before .before .before .before .before .before .before .before in
-    ap length (at-goes-with .goes-with .ensures .0 .same ∙ at-loop .loop .inv .1)
+    let at-can-have = c .before .before .before .before .before .before .before .before .before .before .before .before .before .before .before in
+    let at-loop = at-can-have .before .before .before .before .before .before .before .before .before in
+    ap length (at-can-have .can-have .ensures .0 .same ∙ at-loop .loop .inv .1)
 
 same-length-3 : tie.Need-same-length-3 Inv-loop μ-loop
 same-length-3 c =
-    let at-goes-with = c .before .before .before .before .before .before .before .before .before .before .before .before .before .before .before in
-    let at-loop = at-goes-with .before .before .before .before .before .before .before .before .before in
-    at-goes-with .goes-with .kept .1 .1 .1 .1 .1 .1 .0 ∙ at-loop .loop .inv .2
+    let at-can-have = c .before .before .before .before .before .before .before .before .before .before .before .before .before .before .before in
+    let at-loop = at-can-have .before .before .before .before .before .before .before .before .before in
+    at-can-have .can-have .kept .1 .1 .1 .1 .1 .1 .0 ∙ at-loop .loop .inv .2
 
 same-length-4 : tie.Need-same-length-4 Inv-loop μ-loop
 same-length-4 c =
-    let at-goes-with = c .before .before .before .before .before .before .before .before .before .before .before .before .before .before .before in
-    let at-loop = at-goes-with .before .before .before .before .before .before .before .before .before in
-    at-goes-with .goes-with .kept .1 .1 .1 .1 .1 .1 .1 .0 ∙ at-loop .loop .inv .3
+    let at-can-have = c .before .before .before .before .before .before .before .before .before .before .before .before .before .before .before in
+    let at-loop = at-can-have .before .before .before .before .before .before .before .before .before in
+    at-can-have .can-have .kept .1 .1 .1 .1 .1 .1 .1 .0 ∙ at-loop .loop .inv .3
 
 same-length-5 : tie.Need-same-length-5 Inv-loop μ-loop
 same-length-5 c =
-    let at-goes-with = c .before .before .before .before .before .before .before .before .before .before .before .before .before .before .before in
-    let at-loop = at-goes-with .before .before .before .before .before .before .before .before .before in
-    at-goes-with .goes-with .kept .1 .1 .1 .1 .1 .1 .1 .1 .0 ∙ at-loop .loop .inv .4
+    let at-can-have = c .before .before .before .before .before .before .before .before .before .before .before .before .before .before .before in
+    let at-loop = at-can-have .before .before .before .before .before .before .before .before .before in
+    at-can-have .can-have .kept .1 .1 .1 .1 .1 .1 .1 .1 .0 ∙ at-loop .loop .inv .4
 
 same-length-6 : tie.Need-same-length-6 Inv-loop μ-loop
 same-length-6 c =
-    let at-goes-with = c .before .before .before .before .before .before .before .before .before .before .before .before .before .before .before in
-    let at-loop = at-goes-with .before .before .before .before .before .before .before .before .before in
-    at-goes-with .goes-with .kept .1 .1 .1 .1 .1 .1 .1 .1 .1 .0 ∙ at-loop .loop .inv .5
+    let at-can-have = c .before .before .before .before .before .before .before .before .before .before .before .before .before .before .before in
+    let at-loop = at-can-have .before .before .before .before .before .before .before .before .before in
+    at-can-have .can-have .kept .1 .1 .1 .1 .1 .1 .1 .1 .1 .0 ∙ at-loop .loop .inv .5
 
 same-length-7 : tie.Need-same-length-7 Inv-loop μ-loop
 same-length-7 c =
-    let at-goes-with = c .before .before .before .before .before .before .before .before .before .before .before .before .before .before .before in
-    let at-loop = at-goes-with .before .before .before .before .before .before .before .before .before in
-    at-goes-with .goes-with .kept .1 .1 .1 .1 .1 .1 .1 .1 .1 .1 .0 ∙ at-loop .loop .inv .6
+    let at-can-have = c .before .before .before .before .before .before .before .before .before .before .before .before .before .before .before in
+    let at-loop = at-can-have .before .before .before .before .before .before .before .before .before in
+    at-can-have .can-have .kept .1 .1 .1 .1 .1 .1 .1 .1 .1 .1 .0 ∙ at-loop .loop .inv .6
 
 returns : tie.Need-returns Inv-loop μ-loop
 returns c =
-    let at-goes-with = c .before .before .before .before .before .before .before .before .before .before .before .before .before .before .before in
-    let at-loop = at-goes-with .before .before .before .before .before .before .before .before .before in
+    let at-can-have = c .before .before .before .before .before .before .before .before .before .before .before .before .before .before .before in
+    let at-loop = at-can-have .before .before .before .before .before .before .before .before .before in
     let s = at-loop .before .before .before .before .before .before .before .before .before .before .before in
-    let k = courseOf (now (s .args .starts)) (now (s .args .ends)) (now (s .args .nets)) (now (s .args .loads)) (s .args .s) in
+    let k = courseOf (now (s .args .starts)) (now (s .args .ends)) (now (s .args .nets)) (now (s .args .compensations)) (s .args .s) in
     let i = at-loop .loop .inv in
-    let g = found-same {c = k} (i .0) (s .args .here) (i .1) (at-goes-with .goes-with .ensures .0) in (
+    let g = found-same {c = k} (i .0) (s .args .here) (i .1) (at-can-have .can-have .ensures .0) in (
       record {
         goes = λ _. g .yes (c .if1 .taken);
-        fits = λ _. room-same {c = k} (i .0) (at-goes-with .goes-with .ensures .1 (c .if1 .taken));
+        fits = λ _. room-same {c = k} (i .0) (at-can-have .can-have .ensures .1 (c .if1 .taken));
         first = λ y h. ⊎-elim (λ l. absurd (i .9 y l h)) (λ l. l) (less-or-not y (at-loop .loop .x));
       },
-      at-goes-with .goes-with .ensures .0 .same ∙ i .1,
-      at-goes-with .goes-with .ensures .2 ∙ i .0,
+      at-can-have .can-have .ensures .0 .same ∙ i .1,
+      at-can-have .can-have .ensures .2 ∙ i .0,
       g .sound,
     )
 
@@ -116,20 +118,20 @@ loop-less c =
 
 loop-again : tie.Need-loop-again Inv-loop μ-loop
 loop-again c =
-    let at-goes-with = c .before .before .before .before .before .before .before .before .before .before .before .before .before .before .before .before in
-    let at-loop-test = at-goes-with .before .before .before .before .before .before .before .before in
+    let at-can-have = c .before .before .before .before .before .before .before .before .before .before .before .before .before .before .before .before in
+    let at-loop-test = at-can-have .before .before .before .before .before .before .before .before in
     let at-loop = at-loop-test .before in
     let s = at-loop .before .before .before .before .before .before .before .before .before .before .before in
-    let k = courseOf (now (s .args .starts)) (now (s .args .ends)) (now (s .args .nets)) (now (s .args .loads)) (s .args .s) in
+    let k = courseOf (now (s .args .starts)) (now (s .args .ends)) (now (s .args .nets)) (now (s .args .compensations)) (s .args .s) in
     let i = at-loop .loop .inv in
-    let g = found-same {c = k} (i .0) (s .args .here) (i .1) (at-goes-with .goes-with .ensures .0) in (
-      at-goes-with .goes-with .ensures .2 ∙ i .0,
-      at-goes-with .goes-with .ensures .0 .same ∙ i .1,
-      at-goes-with .goes-with .kept .1 .1 .1 .1 .1 .1 .0 ∙ i .2,
-      at-goes-with .goes-with .kept .1 .1 .1 .1 .1 .1 .1 .0 ∙ i .3,
-      at-goes-with .goes-with .kept .1 .1 .1 .1 .1 .1 .1 .1 .0 ∙ i .4,
-      at-goes-with .goes-with .kept .1 .1 .1 .1 .1 .1 .1 .1 .1 .0 ∙ i .5,
-      at-goes-with .goes-with .kept .1 .1 .1 .1 .1 .1 .1 .1 .1 .1 .0 ∙ i .6,
+    let g = found-same {c = k} (i .0) (s .args .here) (i .1) (at-can-have .can-have .ensures .0) in (
+      at-can-have .can-have .ensures .2 ∙ i .0,
+      at-can-have .can-have .ensures .0 .same ∙ i .1,
+      at-can-have .can-have .kept .1 .1 .1 .1 .1 .1 .0 ∙ i .2,
+      at-can-have .can-have .kept .1 .1 .1 .1 .1 .1 .1 .0 ∙ i .3,
+      at-can-have .can-have .kept .1 .1 .1 .1 .1 .1 .1 .1 .0 ∙ i .4,
+      at-can-have .can-have .kept .1 .1 .1 .1 .1 .1 .1 .1 .1 .0 ∙ i .5,
+      at-can-have .can-have .kept .1 .1 .1 .1 .1 .1 .1 .1 .1 .1 .0 ∙ i .6,
       ⊎-elim (λ q. omega (arith, q .0, q .1, s .pre .1 .within)) (λ q. omega (arith, q .0, q .1, at-loop-test .loop-test .taken)) (c .next-carrier .ensures),
       λ p. ⊎-elim (λ q. omega (arith, q .1)) (λ q. omega (arith, q .1, i .8 (q .0))) (c .next-carrier .ensures),
       none-below k (s .args .j) (at-loop .loop .x) (c .next-carrier .result) (c .next-carrier .ensures) (g .no (c .before .if1 .left)) (i .9),
@@ -177,7 +179,7 @@ first-carrier-spec =
     Inv-loop
     μ-loop
     loop-holds
-    goes-with-requires
+    can-have-requires
     same-length
     same-length-2
     same-length-3

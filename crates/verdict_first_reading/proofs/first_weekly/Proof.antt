@@ -13,19 +13,19 @@ use Rattle.rules.specs.declared.Kind.the-variants.{Weekly}
 use Rattle.rules.specs.declared.Standing.the-variants.{Regular}
 use Rattle.verdict_completion.specs.Completable.{at, lengthAt}
 use Rattle.verdict_search.specs.Search.{courseOf, Sound}
-use Rattle.verdict_first_reading.specs.Choices.{GoesWeekly}
+use Rattle.verdict_first_reading.specs.Choices.{CanBeWeekly}
 use Rattle.verdict_first_reading.proofs.Placing.{sound-with, with-sound, lent-same, at-rest-with, first-same, first-here, none-before, none-at-all}
 use Rattle.verdict_first_reading.proofs.first_weekly.Statement.{statement}
 use Rattle.verdict_first_reading.proofs.first_weekly.Tie as tie
 
 abbrev Inv-loop : tie.InvT-loop
-Inv-loop starts ends nets loads₀ s owed₀ nogoods₀ front₀ other₀ known₀ beside₀ j here end w₀ loads owed nogoods front other known beside w =
-    (loads ≡ loads₀) × (owed ≡ owed₀) × (length nogoods ≡ length nogoods₀) × (length front ≡ length front₀) × (length other ≡ length other₀)
+Inv-loop starts ends nets compensations₀ s outstanding₀ nogoods₀ front₀ other₀ known₀ beside₀ j here end w₀ compensations outstanding nogoods front other known beside w =
+    (compensations ≡ compensations₀) × (outstanding ≡ outstanding₀) × (length nogoods ≡ length nogoods₀) × (length front ≡ length front₀) × (length other ≡ length other₀)
     × (length known ≡ length known₀) × (length beside ≡ length beside₀) × (weekOf (at starts j) ≤ w) × (weekStart w ≤ at ends j + weekMinutes)
-    × ((v y : ℕ) → v < w → GoesWeekly (courseOf starts ends nets loads₀ s) j here owed₀ v y → ⊥) × Sound (courseOf starts ends nets loads₀ s) nogoods
+    × ((v y : ℕ) → v < w → CanBeWeekly (courseOf starts ends nets compensations₀ s) j here outstanding₀ v y → ⊥) × Sound (courseOf starts ends nets compensations₀ s) nogoods
 
 abbrev μ-loop : tie.MeasureT-loop
-μ-loop starts ends nets loads₀ s owed₀ nogoods₀ front₀ other₀ known₀ beside₀ j here end w₀ loads owed nogoods front other known beside w = at ends j - w
+μ-loop starts ends nets compensations₀ s outstanding₀ nogoods₀ front₀ other₀ known₀ beside₀ j here end w₀ compensations outstanding nogoods front other known beside w = at ends j - w
 
 mul-end : tie.Need-mul-end Inv-loop μ-loop
 mul-end c = let s = (c .before .before .before .before .before .before .before .before .before .before) in omega (arith, s .pre .1 .within, s .pre .0 .sized .few)
@@ -62,14 +62,16 @@ mul-loop c =
 
 carrier-in-requires : tie.Need-carrier-in-requires Inv-loop μ-loop
 carrier-in-requires c κs =
-    let s = (c .before .before .before .before .before .before .before .before .before .before .before .before .before .before .before .before .before .before .before .before .before) in
-    let k = courseOf (now (s .args .starts)) (now (s .args .ends)) (now (s .args .nets)) (now (s .args .loads)) (s .args .s) in
-    let i = c .before .before .before .before .before .before .before .before .loop .inv in (
+    let at-loop-test = c .before .before .before .before .before .before .before in
+    let turn = at-loop-test .before in
+    let s = (turn .before .before .before .before .before .before .before .before .before .before .before .before .before) in
+    let k = courseOf (now (s .args .starts)) (now (s .args .ends)) (now (s .args .nets)) (now (s .args .compensations)) (s .args .s) in
+    let i = turn .loop .inv in (
       lent-same {c = k} (i .0) (i .1) (s .pre .0),
-      at-rest-with k (c .before .before .before .before .before .before .before .before .loop .loads) (s .pre .1),
+      at-rest-with k (turn .loop .compensations) (s .pre .1),
       subst (λ (p : List ℕ). leastNet (Weekly Regular) + at p (s .args .j) ≤ lengthAt k (s .args .j)) (sym (i .0)) (s .pre .2),
       omega (arith, i .7),
-      c .before .before .before .before .before .before .before .loop-test .taken,
+      at-loop-test .loop-test .taken,
       sound-with {c = k} (i .0) (i .10),
     )
 
@@ -121,7 +123,7 @@ returns c =
     let at-loop-test = at-carrier-in .before .before .before .before .before .before .before .before in
     let at-loop = at-loop-test .before in
     let s = at-loop .before .before .before .before .before .before .before .before .before .before .before .before .before in
-    let k = courseOf (now (s .args .starts)) (now (s .args .ends)) (now (s .args .nets)) (now (s .args .loads)) (s .args .s) in
+    let k = courseOf (now (s .args .starts)) (now (s .args .ends)) (now (s .args .nets)) (now (s .args .compensations)) (s .args .s) in
     let i = at-loop .loop .inv in (
       first-here k (s .args .j) (at-loop .loop .w) (at-carrier-in .carrier-in .result) (first-same {c = k} (i .0) (i .1) (at-carrier-in .carrier-in .ensures .0)) (c .if1 .taken)
           (omega (arith, i .7)) (at-loop-test .loop-test .taken) (i .9),
@@ -149,7 +151,7 @@ loop-again c =
     let at-loop-test = at-carrier-in .before .before .before .before .before .before .before .before in
     let at-loop = at-loop-test .before in
     let s = at-loop .before .before .before .before .before .before .before .before .before .before .before .before .before in
-    let k = courseOf (now (s .args .starts)) (now (s .args .ends)) (now (s .args .nets)) (now (s .args .loads)) (s .args .s) in
+    let k = courseOf (now (s .args .starts)) (now (s .args .ends)) (now (s .args .nets)) (now (s .args .compensations)) (s .args .s) in
     let i = at-loop .loop .inv in (
       at-carrier-in .carrier-in .ensures .2 ∙ i .0,
       at-carrier-in .carrier-in .ensures .1 ∙ i .1,
@@ -188,7 +190,7 @@ same-length-14 c = c .before .loop .inv .6
 returns-2 : tie.Need-returns-2 Inv-loop μ-loop
 returns-2 c =
     let s = (c .before .before .before .before .before .before .before .before .before .before .before .before .before .before) in
-    let k = courseOf (now (s .args .starts)) (now (s .args .ends)) (now (s .args .nets)) (now (s .args .loads)) (s .args .s) in
+    let k = courseOf (now (s .args .starts)) (now (s .args .ends)) (now (s .args .nets)) (now (s .args .compensations)) (s .args .s) in
     let i = c .before .loop .inv in (none-at-all k (s .args .j) (c .before .loop .w) (c .loop-test .left) (i .9), i .1, i .0, i .10)
 
 pub first-weekly-spec : {M : Type 1} → statement M

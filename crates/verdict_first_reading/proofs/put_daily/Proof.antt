@@ -18,28 +18,30 @@ sub-is-short c = let s = (c .before .before .before .before .before .before .bef
 is-short-requires : tie.Need-is-short-requires
 is-short-requires c κs =
     let s = (c .before .before .before .before .before .before .before .before .before .before .before .before .before) in
-    let k = courseOf (now (s .args .starts)) (now (s .args .ends)) (now (s .args .nets)) (now (s .args .loads)) (s .args .s) in
+    let k = courseOf (now (s .args .starts)) (now (s .args .ends)) (now (s .args .nets)) (now (s .args .compensations)) (s .args .s) in
     let h = s .pre .0 in
-    (omega (arith, net-low k (h .lies) (s .args .j) (s .pre .1 .within), h .lies .judged (s .args .j) (s .pre .1 .within), h .judged), omega (arith, h .loads-low (s .args .j)))
+    (omega (arith, net-low k (h .lies) (s .args .j) (s .pre .1 .within), h .lies .judged (s .args .j) (s .pre .1 .within), h .judged), omega (arith, h .compensations-low (s .args .j)))
 
 returns : tie.Need-returns
 returns c =
-    let s = (c .before .before .before .before .before .before .before .before .before .before .before .before .before .before .before .before .before) in
-    let k = courseOf (now (s .args .starts)) (now (s .args .ends)) (now (s .args .nets)) (now (s .args .loads)) (s .args .s) in
+    let at-put-entry = c .before .before .before .before .before .before .before .before .before .before in
+    let s = (at-put-entry .before .before .before .before .before .before .before) in
+    let k = courseOf (now (s .args .starts)) (now (s .args .ends)) (now (s .args .nets)) (now (s .args .compensations)) (s .args .s) in
     let short = ap (λ (x : State). x .short) (c .before .before .after-daily .ensures ∙ ap (λ (b : Bool). afterDaily b (s .args .here)) (c .before .before .before .is-short .ensures)) in
     record {
       before = before-here k (s .pre .0 .lies) (s .args .j) (s .args .here) (s .pre .1);
-      written = c .before .before .before .before .before .before .before .before .before .before .put-entry .ensures;
+      written = at-put-entry .put-entry .ensures;
       done = λ few. absurd (omega (arith, few, short, c .if1 .taken));
     }
 
 returns-2 : tie.Need-returns-2
 returns-2 c =
-    let s = (c .before .before .before .before .before .before .before .before .before .before .before .before .before .before .before .before .before) in
-    let k = courseOf (now (s .args .starts)) (now (s .args .ends)) (now (s .args .nets)) (now (s .args .loads)) (s .args .s) in
+    let at-put-entry = c .before .before .before .before .before .before .before .before .before .before in
+    let s = (at-put-entry .before .before .before .before .before .before .before) in
+    let k = courseOf (now (s .args .starts)) (now (s .args .ends)) (now (s .args .nets)) (now (s .args .compensations)) (s .args .s) in
     record {
       before = before-daily k (s .pre .0 .lies) (s .args .j) (s .args .here) (c .before .before .before .is-short .result) (c .before .before .after-daily .ensures) (s .pre .1) (c .if1 .left);
-      written = c .before .before .before .before .before .before .before .before .before .before .put-entry .ensures;
+      written = at-put-entry .put-entry .ensures;
       done = λ _. c .before .before .after-daily .ensures ∙ ap (λ (b : Bool). afterDaily b (s .args .here)) (c .before .before .before .is-short .ensures);
     }
 

@@ -10,7 +10,7 @@ use denote.Ref.{now}
 use Rattle.rules.specs.Reading.{entryBytes}
 use Rattle.rules_reading.specs.Items.{Zeros}
 use Rattle.verdict_completion.specs.States.{startState}
-use Rattle.verdict_search.specs.Search.{courseOf, Sound, Lent, Before, withLoads}
+use Rattle.verdict_search.specs.Search.{courseOf, Sound, Lent, Before, withCompensations}
 use Rattle.verdict_search.proofs.Slots.{before-start}
 use Rattle.verdict_first_reading.specs.First.{Least, restsOnly}
 use Rattle.verdict_first_reading.proofs.Placing.{Progress, progress-start, progress-on, progress-end}
@@ -18,15 +18,15 @@ use Rattle.verdict_first_reading.proofs.write_entries.Statement.{statem
 use Rattle.verdict_first_reading.proofs.write_entries.Tie as tie
 
 abbrev Inv-loop : tie.InvT-loop
-Inv-loop starts ends nets loads₀ s owed₀ nogoods₀ front₀ other₀ known₀ beside₀ reading₀ st₀ j₀ loads owed nogoods front other known beside reading st j =
-    Lent (courseOf starts ends nets loads s) owed × (owed ≡ owed₀) × (length nogoods ≡ length nogoods₀) × (length front ≡ length front₀)
-    × (length other ≡ length other₀) × (length known ≡ length known₀) × (length beside ≡ length beside₀) × Before (courseOf starts ends nets loads s) j st
+Inv-loop starts ends nets compensations₀ s outstanding₀ nogoods₀ front₀ other₀ known₀ beside₀ reading₀ st₀ j₀ compensations outstanding nogoods front other known beside reading st j =
+    Lent (courseOf starts ends nets compensations s) outstanding × (outstanding ≡ outstanding₀) × (length nogoods ≡ length nogoods₀) × (length front ≡ length front₀)
+    × (length other ≡ length other₀) × (length known ≡ length known₀) × (length beside ≡ length beside₀) × Before (courseOf starts ends nets compensations s) j st
     × (length reading ≡ entryBytes * length starts)
-    × ((f : List ℕ) → Least (restsOnly starts ends nets s) f → Progress (courseOf starts ends nets loads s) f reading j st)
-    × Sound (courseOf starts ends nets loads s) nogoods
+    × ((f : List ℕ) → Least (restsOnly starts ends nets s) f → Progress (courseOf starts ends nets compensations s) f reading j st)
+    × Sound (courseOf starts ends nets compensations s) nogoods
 
 abbrev μ-loop : tie.MeasureT-loop
-μ-loop starts ends nets loads₀ s owed₀ nogoods₀ front₀ other₀ known₀ beside₀ reading₀ st₀ j₀ loads owed nogoods front other known beside reading st j = length starts - j
+μ-loop starts ends nets compensations₀ s outstanding₀ nogoods₀ front₀ other₀ known₀ beside₀ reading₀ st₀ j₀ compensations outstanding nogoods front other known beside reading st j = length starts - j
 
 rest-week-requires : tie.Need-rest-week-requires Inv-loop μ-loop
 rest-week-requires c κs =
@@ -36,7 +36,7 @@ rest-week-requires c κs =
 loop-holds : tie.Need-loop-holds Inv-loop μ-loop
 loop-holds c =
     let s = (c .before .before .before .before .before .before .before .before .before .before .before .before .before) in
-    let k = courseOf (now (s .args .starts)) (now (s .args .ends)) (now (s .args .nets)) (now (s .args .loads)) (s .args .s) in (
+    let k = courseOf (now (s .args .starts)) (now (s .args .ends)) (now (s .args .nets)) (now (s .args .compensations)) (s .args .s) in (
       s .pre .0,
       refl,
       refl,
@@ -76,7 +76,7 @@ loop-again c =
     let at-loop-test = at-place .before .before .before .before .before .before .before .before .before in
     let at-loop = at-loop-test .before in
     let s = at-loop .before .before .before .before .before .before .before .before .before .before .before .before .before .before in
-    let k = courseOf (now (s .args .starts)) (now (s .args .ends)) (now (s .args .nets)) (now (s .args .loads)) (s .args .s) in
+    let k = courseOf (now (s .args .starts)) (now (s .args .ends)) (now (s .args .nets)) (now (s .args .compensations)) (s .args .s) in
     let i = at-loop .loop .inv in
     let e = at-place .place .ensures in (
       e .lent,
@@ -89,7 +89,7 @@ loop-again c =
       e .before,
       at-place .place .kept .1 .1 .1 .1 .1 .1 .1 .1 .1 .1 .1 .0 ∙ i .8,
       λ f l.
-          progress-on (withLoads k (at-loop .loop .loads)) (withLoads k (at-place .place .last .1 .1 .1 .0)) f
+          progress-on (withCompensations k (at-loop .loop .compensations)) (withCompensations k (at-place .place .last .1 .1 .1 .0)) f
           (at-loop .loop .reading) (at-place .place .last .1 .1 .1 .1 .1 .1 .1 .1 .1 .1 .1 .0) (at-loop .loop .j) (at-loop .loop .st) (at-place .place .result)
           (i .8) (at-loop-test .loop-test .taken) (e .placed) (i .9 f l),
       e .sound,
@@ -98,7 +98,7 @@ loop-again c =
 same-length : tie.Need-same-length Inv-loop μ-loop
 same-length c =
     let s = c .before .before .before .before .before .before .before .before .before .before .before .before .before .before .before in
-    c .before .loop .inv .0 .sized .loads-too ∙ sym (s .pre .0 .sized .loads-too)
+    c .before .loop .inv .0 .sized .compensations-too ∙ sym (s .pre .0 .sized .compensations-too)
 
 same-length-2 : tie.Need-same-length-2 Inv-loop μ-loop
 same-length-2 c = ap length (c .before .loop .inv .1)
@@ -124,9 +124,9 @@ same-length-8 c = let s = (c .before .before .before .before .before .before .be
 returns : tie.Need-returns Inv-loop μ-loop
 returns c =
     let s = (c .before .before .before .before .before .before .before .before .before .before .before .before .before .before .before) in
-    let k = courseOf (now (s .args .starts)) (now (s .args .ends)) (now (s .args .nets)) (now (s .args .loads)) (s .args .s) in
+    let k = courseOf (now (s .args .starts)) (now (s .args .ends)) (now (s .args .nets)) (now (s .args .compensations)) (s .args .s) in
     let i = c .before .loop .inv in
-    λ f l. progress-end (withLoads k (c .before .loop .loads)) f (c .before .loop .reading) (c .before .loop .j) (c .before .loop .st) (i .8) (c .loop-test .left) (i .9 f l)
+    λ f l. progress-end (withCompensations k (c .before .loop .compensations)) f (c .before .loop .reading) (c .before .loop .j) (c .before .loop .st) (i .8) (c .loop-test .left) (i .9 f l)
 
 pub write-entries-spec : {M : Type 1} → statement M
 write-entries-spec =

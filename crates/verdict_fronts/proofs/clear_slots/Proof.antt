@@ -9,10 +9,10 @@ use Rattle.verdict_fronts.proofs.clear_slots.Statement.{statement}
 use Rattle.verdict_fronts.proofs.clear_slots.Tie as tie
 
 abbrev Inv-loop : tie.InvT-loop
-Inv-loop owed₀ k i₀ owed i = (i ≤ k) × (length owed ≡ length owed₀) × Cleared owed i
+Inv-loop outstanding₀ k i₀ outstanding i = (i ≤ k) × (length outstanding ≡ length outstanding₀) × Cleared outstanding i
 
 abbrev μ-loop : tie.MeasureT-loop
-μ-loop owed₀ k i₀ owed i = k - i
+μ-loop outstanding₀ k i₀ outstanding i = k - i
 
 loop-holds : tie.Need-loop-holds Inv-loop μ-loop
 loop-holds c = (omega arith, refl, cleared-start _)
@@ -21,7 +21,7 @@ loop-again : tie.Need-loop-again Inv-loop μ-loop
 loop-again c =
     let of-loop = c .before .loop in
     let more = c .loop-test .taken in
-    (omega (arith, more), length-set (of-loop .owed) _ _ ∙ of-loop .inv .1, cleared-on (omega (arith, of-loop .inv .1, more)) (of-loop .inv .2))
+    (omega (arith, more), length-set (of-loop .outstanding) _ _ ∙ of-loop .inv .1, cleared-on (omega (arith, of-loop .inv .1, more)) (of-loop .inv .2))
 
 same-length : tie.Need-same-length Inv-loop μ-loop
 same-length c = c .before .loop .inv .1

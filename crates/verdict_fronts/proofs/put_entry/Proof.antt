@@ -6,12 +6,12 @@ use Rattle.verdict_fronts.proofs.put_entry.Statement.{statement}
 use Rattle.verdict_fronts.proofs.put_entry.Tie as tie
 
 returns : tie.Need-returns
-returns c = dropped ((c .before .before .before .before .before) .pre .0) (c .before .beaten .ensures (c .if1 .taken))
+returns c = dropped ((c .before .before .before .before .before) .pre .0) (c .before .dominated .ensures (c .if1 .taken))
 
 returns-2 : tie.Need-returns-2
 returns-2 c =
     let s = (c .before .before .before .before .before .before .before .before .before .before) in
-    let of-removal = c .before .before .before .remove-beaten in
+    let of-removal = c .before .before .before .remove-dominated in
     no-room
     (of-removal .ensures)
     (omega (arith, s .pre .0, c .if2 .taken, of-removal .kept .0))
@@ -20,7 +20,7 @@ returns-2 c =
 returns-3 : tie.Need-returns-3
 returns-3 c =
     let of-copy = c .before .before .copy in
-    let of-removal = c .before .before .before .before .before .before .before .remove-beaten in
+    let of-removal = c .before .before .before .before .before .before .before .remove-dominated in
     appended (of-removal .ensures) (omega (arith, c .before .before .before .before .if2 .left, of-copy .kept .1 .1 .0)) (of-copy .ensures)
 
 pub put-entry-spec : {M : Type 1} → statement M

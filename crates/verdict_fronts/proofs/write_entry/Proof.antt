@@ -16,23 +16,26 @@ returns c = λ h. absurd (false≢true h)
 
 returns-2 : tie.Need-returns-2
 returns-2 c =
-    let s = (c .before .before .before .before .before .before .before .before .before .before .before .before) in
-    let of-put-debts = c .before .before .before .before .before .before .put-debts in
-    let few = c .before .before .before .before .before .before .before .before .if1 .left in
-    let owed = now (s .args .owed) in
+    let at-put-reductions = c .before .before .before .before .before .before in
+    let at-if1 = at-put-reductions .before .before in
+    let at-reductions = at-if1 .before in
+    let s = (at-reductions .before .before .before) in
+    let of-put-reductions = at-put-reductions .put-reductions in
+    let few = at-if1 .if1 .left in
+    let outstanding = now (s .args .outstanding) in
     λ _. subst
-    (λ (t : List ℕ). Held t 0 (s .args .st) owed (s .args .m))
+    (λ (t : List ℕ). Held t 0 (s .args .st) outstanding (s .args .m))
     (sym (c .before .before .put-state .ensures))
     (held
     (now (s .args .new))
-    (of-put-debts .last .0)
-    owed
+    (of-put-reductions .last .0)
+    outstanding
     (s .args .m)
-    (of-put-debts .result)
+    (of-put-reductions .result)
     (s .args .st)
-    (omega (arith, s .pre .0, of-put-debts .kept .0))
-    (omega (arith, of-put-debts .ensures .count, few, c .before .before .before .before .before .before .before .before .before .debts .ensures))
-    (of-put-debts .ensures))
+    (omega (arith, s .pre .0, of-put-reductions .kept .0))
+    (omega (arith, of-put-reductions .ensures .count, few, at-reductions .reductions .ensures))
+    (of-put-reductions .ensures))
 
 pub write-entry-spec : {M : Type 1} → statement M
 write-entry-spec =

@@ -13,35 +13,38 @@ use Rattle.verdict_merging.proofs.ask_to.Tie as tie
 step-requires : tie.Need-step-requires
 step-requires c κs =
     let s = (c .before .before .before .before .before .before .before .before .before .before .before .before) in
-    let k = courseOf (now (s .args .starts)) (now (s .args .ends)) (now (s .args .nets)) (now (s .args .loads)) (s .args .s) in
+    let k = courseOf (now (s .args .starts)) (now (s .args .ends)) (now (s .args .nets)) (now (s .args .compensations)) (s .args .s) in
     (law.given (law.slots-none k (s .pre .0 .sized .lies) (s .args .j) (s .pre .0)) (s .pre .2) (law.front-none k (s .args .j) _), s .pre .3)
 
 returns : tie.Need-returns
 returns c =
-    let s = (c .before .before .before .before .before .before .before .before .before .before .before .before .before .before .before .before .before .before .before .before) in
-    let k = courseOf (now (s .args .starts)) (now (s .args .ends)) (now (s .args .nets)) (now (s .args .loads)) (s .args .s) in
-    merging.reached-yes refl (c .before .before .before .before .before .before .before .step .ensures .yes (c .if1 .taken))
-    (c .before .before .before .before .before .before .before .step .ensures .same) (c .before .before .before .before .before .before .before .step .ensures .sound)
+    let at-step = c .before .before .before .before .before .before .before in
+    let s = (at-step .before .before .before .before .before .before .before .before .before .before .before .before .before) in
+    let k = courseOf (now (s .args .starts)) (now (s .args .ends)) (now (s .args .nets)) (now (s .args .compensations)) (s .args .s) in
+    merging.reached-yes refl (at-step .step .ensures .yes (c .if1 .taken))
+    (at-step .step .ensures .same) (at-step .step .ensures .sound)
     (law.front-none k (s .args .j + 2 * s .args .p) _)
 
 sweep-pairs-requires : tie.Need-sweep-pairs-requires
 sweep-pairs-requires c κs =
-    let s = (c .before .before .before .before .before .before .before .before .before .before .before .before .before .before .before .before .before .before .before .before .before .before
-    .before .before) in (
+    let at-step = c .before .before .before .before .before .before .before .before .before .before .before in
+    let s = (at-step .before .before .before .before .before .before .before .before .before .before .before .before .before) in (
       s .pre .1,
-      c .before .before .before .before .before .before .before .before .before .before .before .step .ensures .sound,
+      at-step .step .ensures .sound,
       s .pre .4,
-      c .before .before .before .before .before .before .before .before .before .before .before .step .ensures .well,
+      at-step .step .ensures .well,
     )
 
 returns-2 : tie.Need-returns-2
 returns-2 c =
-    let s = (c .before .before .before .before .before .before .before .before .before .before .before .before .before .before .before .before .before .before .before .before .before .before
-    .before .before .before .before .before .before .before .before .before .before .before) in
-    let k = courseOf (now (s .args .starts)) (now (s .args .ends)) (now (s .args .nets)) (now (s .args .loads)) (s .args .s) in
-    merging.reached-on (c .before .before .before .before .before .before .before .before .before .before .before .before .before .if1 .left) (chain.no-entry k (s .args .j) _)
-    (c .before .before .before .before .before .before .before .before .before .before .before .before .before .before .before .before .before .before .before .before .step .ensures)
-    (c .before .before .before .before .before .before .before .before .sweep-pairs .ensures)
+    let at-sweep-pairs = c .before .before .before .before .before .before .before .before in
+    let at-if1 = at-sweep-pairs .before .before .before .before .before in
+    let at-step = at-if1 .before .before .before .before .before .before .before in
+    let s = (at-step .before .before .before .before .before .before .before .before .before .before .before .before .before) in
+    let k = courseOf (now (s .args .starts)) (now (s .args .ends)) (now (s .args .nets)) (now (s .args .compensations)) (s .args .s) in
+    merging.reached-on (at-if1 .if1 .left) (chain.no-entry k (s .args .j) _)
+    (at-step .step .ensures)
+    (at-sweep-pairs .sweep-pairs .ensures)
 
 pub ask-to-spec : {M : Type 1} → statement M
 ask-to-spec =

@@ -6,7 +6,7 @@ use denote.Ref.{now}
 use Rattle.verdict_search.specs.Search.{courseOf}
 use Rattle.verdict_search.proofs.Slots as law
 use Rattle.verdict_sweep.proofs.Sweeps as sweeps
-use Rattle.rules_reading.specs.Items.{paid}
+use Rattle.rules_reading.specs.Items.{addedTo}
 use Rattle.verdict_merging.proofs.completes_beside.Statement.{statement}
 use Rattle.verdict_merging.proofs.completes_beside.Tie as tie
 
@@ -21,9 +21,9 @@ slice-aggregate-asks-beside c =
 asks-beside-requires : tie.Need-asks-beside-requires
 asks-beside-requires c κs =
     let s = (c .before .before .before .before .before .before .before .before .before .before .before .before .before .before .before .before .before .before) in
-    let k = courseOf (now (s .args .starts)) (now (s .args .ends)) (now (s .args .nets)) (now (s .args .loads)) (s .args .s) in
-    let d = courseOf (now (s .args .starts)) (now (s .args .ends)) (now (s .args .nets)) (paid (now (s .args .loads)) (s .args .x) (s .args .less)) (s .args .s) in
-    let long = sweeps.none-size (length (now (s .args .starts))) (s .pre .0 .sized .few) ∙ sym (s .pre .0 .sized .owed-too) in (
+    let k = courseOf (now (s .args .starts)) (now (s .args .ends)) (now (s .args .nets)) (now (s .args .compensations)) (s .args .s) in
+    let d = courseOf (now (s .args .starts)) (now (s .args .ends)) (now (s .args .nets)) (addedTo (now (s .args .compensations)) (s .args .x) (s .args .less)) (s .args .s) in
+    let long = sweeps.none-size (length (now (s .args .starts))) (s .pre .0 .sized .few) ∙ sym (s .pre .0 .sized .outstanding-too) in (
       s .pre .0,
       s .pre .1,
       law.sized-too k (s .pre .0 .sized .lies) (s .pre .0 .sized) long,

@@ -18,9 +18,10 @@ use Rattle.verdict_merging.proofs.try_to.Tie as tie
 
 ask-to-requires : tie.Need-ask-to-requires
 ask-to-requires c κs =
-    let s = (c .before .before .before .before .before .before .before .before .before .before .before .before .before .before .before .before) in
-    let e = merging.paid-none (now (s .args .loads)) (s .args .x) (s .args .less) (c .before .before .before .before .before .before .if1 .taken) in (
-      subst (λ (l : List ℕ). Lent (courseOf (now (s .args .starts)) (now (s .args .ends)) (now (s .args .nets)) l (s .args .s)) (now (s .args .owed))) e (s .pre .1),
+    let at-if1 = c .before .before .before .before .before .before in
+    let s = (at-if1 .before .before .before .before .before .before .before .before .before .before) in
+    let e = merging.addedTo-none (now (s .args .compensations)) (s .args .x) (s .args .less) (at-if1 .if1 .taken) in (
+      subst (λ (l : List ℕ). Lent (courseOf (now (s .args .starts)) (now (s .args .ends)) (now (s .args .nets)) l (s .args .s)) (now (s .args .outstanding))) e (s .pre .1),
       s .pre .0,
       s .pre .3,
       subst (λ (l : List ℕ). Before (courseOf (now (s .args .starts)) (now (s .args .ends)) (now (s .args .nets)) l (s .args .s)) (s .args .j) (s .args .st)) e (s .pre .4),
@@ -29,69 +30,71 @@ ask-to-requires c κs =
 
 returns : tie.Need-returns
 returns c =
-    let s = (c .before .before .before .before .before .before .before .before .before .before .before .before .before .before .before .before .before .before .before .before .before .before
-    .before .before .before .before .before) in
-    let e = merging.paid-none (now (s .args .loads)) (s .args .x) (s .args .less)
-    (c .before .before .before .before .before .before .before .before .before .before .before .before .before .before .before .before .before .if1 .taken) in (
+    let at-ask-to = c .before .before .before .before .before .before .before .before .before .before in
+    let at-if1 = at-ask-to .before .before .before .before .before .before .before in
+    let s = (at-if1 .before .before .before .before .before .before .before .before .before .before) in
+    let e = merging.addedTo-none (now (s .args .compensations)) (s .args .x) (s .args .less)
+    (at-if1 .if1 .taken) in (
       merging.reached-same (now (s .args .starts)) (now (s .args .ends)) (now (s .args .nets)) (s .args .s) (s .args .j) (s .args .st) (sym e) refl
-          (c .before .before .before .before .before .before .before .before .before .before .ask-to .ensures .passed .sound)
-          (c .before .before .before .before .before .before .before .before .before .before .ask-to .ensures),
+          (at-ask-to .ask-to .ensures .passed .sound)
+          (at-ask-to .ask-to .ensures),
       refl,
     )
 
-add-loads : tie.Need-add-loads
-add-loads c =
+add-compensations : tie.Need-add-compensations
+add-compensations c =
     let s = (c .before .before .before .before .before .before .before .before .before .before .before .before .before .before .before) in
     omega (
       arith,
-      merging.paid-fits (now (s .args .loads)) (s .args .x) (s .args .less) totalAtMost (c .before .before .before .before .before .if1 .left)
-          (omega (arith, s .pre .6, s .pre .0 .loads-too)) (s .pre .2 .loads-low),
+      merging.addedTo-fits (now (s .args .compensations)) (s .args .x) (s .args .less) totalAtMost (c .before .before .before .before .before .if1 .left)
+          (omega (arith, s .pre .6, s .pre .0 .compensations-too)) (s .pre .2 .compensations-low),
     )
 
 ask-to-requires-2 : tie.Need-ask-to-requires-2
 ask-to-requires-2 c κs =
-    let s = (c .before .before .before .before .before .before .before .before .before .before .before .before .before .before .before .before .before .before .before .before .before) in
-    let e = merging.paid-some (now (s .args .loads)) (s .args .x) (s .args .less) (c .before .before .before .before .before .before .before .before .before .before .before .if1 .left) in
+    let at-clear = c .before .before .before .before .before .before .before .before .before in
+    let at-if1 = at-clear .before .before in
+    let s = (at-if1 .before .before .before .before .before .before .before .before .before .before) in
+    let e = merging.addedTo-some (now (s .args .compensations)) (s .args .x) (s .args .less) (at-if1 .if1 .left) in
     let d = subst (λ (l : List ℕ). Sized (courseOf (now (s .args .starts)) (now (s .args .ends)) (now (s .args .nets)) l (s .args .s)) (now (s .args .slots))) e (s .pre .2) in (
-      subst (λ (l : List ℕ). Lent (courseOf (now (s .args .starts)) (now (s .args .ends)) (now (s .args .nets)) l (s .args .s)) (now (s .args .owed))) e (s .pre .1),
+      subst (λ (l : List ℕ). Lent (courseOf (now (s .args .starts)) (now (s .args .ends)) (now (s .args .nets)) l (s .args .s)) (now (s .args .outstanding))) e (s .pre .1),
       d,
       memory.empty-sound (courseOf (now (s .args .starts)) (now (s .args .ends)) (now (s .args .nets))
-          (set (now (s .args .loads)) (s .args .x - 1) (at (now (s .args .loads)) (s .args .x - 1) + s .args .less)) (s .args .s)) (d .lies)
-          (c .before .before .before .before .before .before .before .before .before .clear .ensures),
+          (set (now (s .args .compensations)) (s .args .x - 1) (at (now (s .args .compensations)) (s .args .x - 1) + s .args .less)) (s .args .s)) (d .lies)
+          (at-clear .clear .ensures),
       subst (λ (l : List ℕ). Before (courseOf (now (s .args .starts)) (now (s .args .ends)) (now (s .args .nets)) l (s .args .s)) (s .args .j) (s .args .st)) e (s .pre .4),
       s .pre .5,
     )
 
-mul-loads-2 : tie.Need-mul-loads-2
-mul-loads-2 c =
+mul-compensations-2 : tie.Need-mul-compensations-2
+mul-compensations-2 c =
     let s = (c .before .before .before .before .before .before .before .before .before .before .before .before .before .before .before .before .before .before .before .before .before .before
     .before .before .before .before .before .before .before .before .before .before) in
     omega (arith, s .pre .6, s .pre .0 .few)
 
-slice-write-loads-2 : tie.Need-slice-write-loads-2
-slice-write-loads-2 c =
-    let s = (c .before .before .before .before .before .before .before .before .before .before .before .before .before .before .before .before .before .before .before .before .before .before
-    .before .before .before .before .before .before .before .before .before .before) in
+slice-write-compensations-2 : tie.Need-slice-write-compensations-2
+slice-write-compensations-2 c =
+    let at-if1 = c .before .before .before .before .before .before .before .before .before .before .before .before .before .before .before .before .before .before .before .before .before .before in
+    let s = (at-if1 .before .before .before .before .before .before .before .before .before .before) in
     simp length-set (omega (
       arith,
-      c .before .before .before .before .before .before .before .before .before .before .before .before .before .before .before .before .before .before .before .before
-          .before .before .if1 .left,
+      at-if1 .if1 .left,
       s .pre .6,
-      s .pre .0 .loads-too,
+      s .pre .0 .compensations-too,
     ))
 
 returns-2 : tie.Need-returns-2
 returns-2 c =
-    let s = (c .before .before .before .before .before .before .before .before .before .before .before .before .before .before .before .before .before .before .before .before .before .before
-    .before .before .before .before .before .before .before .before .before .before .before .before .before .before) in
-    let k = courseOf (now (s .args .starts)) (now (s .args .ends)) (now (s .args .nets)) (now (s .args .loads)) (s .args .s) in
-    let e = merging.paid-some (now (s .args .loads)) (s .args .x) (s .args .less)
-    (c .before .before .before .before .before .before .before .before .before .before .before .before .before .before .before .before .before .before .before .before .before .before .before
-    .before .before .before .if1 .left) in (
+    let at-ask-to2 = c .before .before .before .before .before .before .before .before .before .before .before .before .before .before in
+    let at-if1 = at-ask-to2 .before .before .before .before .before .before .before .before .before .before .before .before in
+    let s = (at-if1 .before .before .before .before .before .before .before .before .before .before) in
+    let k = courseOf (now (s .args .starts)) (now (s .args .ends)) (now (s .args .nets)) (now (s .args .compensations)) (s .args .s) in
+    let e = merging.addedTo-some (now (s .args .compensations)) (s .args .x) (s .args .less)
+    (at-if1 .if1 .left) in (
       merging.reached-same (now (s .args .starts)) (now (s .args .ends)) (now (s .args .nets)) (s .args .s) (s .args .j) (s .args .st) (sym e) refl
           (memory.empty-sound k (s .pre .0 .lies) (c .before .before .clear2 .ensures))
-          (c .before .before .before .before .before .before .before .before .before .before .before .before .before .before .ask-to2 .ensures),
-      merging.put-back (s .args .x - 1) (at (now (s .args .loads)) (s .args .x - 1) + s .args .less) refl,
+          (at-ask-to2 .ask-to2 .ensures),
+      merging.put-back (s .args .x - 1) (at (now (s .args .compensations)) (s .args .x - 1) + s .args .less) refl,
     )
 
 pub try-to-spec : {M : Type 1} → statement M
@@ -110,12 +113,12 @@ try-to-spec =
     (λ c. search needs)
     (λ c. search needs)
     (λ c. search needs)
-    add-loads
+    add-compensations
     (λ c. search needs)
     (λ c. search needs)
     ask-to-requires-2
-    mul-loads-2
-    slice-write-loads-2
+    mul-compensations-2
+    slice-write-compensations-2
     (λ c. search needs)
     (λ c. search needs)
     (λ c. search needs)

@@ -4,16 +4,16 @@ use native.Mathlib.Omega.{arith}
 use borrow.Author.Needs.{needs}
 use Prim.Native.Nat.{_-_, _≤_}
 use Rattle.verdict_completion.specs.Completable.{at}
-use Rattle.verdict_nogoods.specs.Table.{debtIn}
+use Rattle.verdict_nogoods.specs.Table.{reductionIn}
 use Rattle.verdict_nogoods.proofs.TableLaws.{PairedBelow, paired-start, paired-past, paired-on, paired-all}
 use Rattle.verdict_nogoods.proofs.covers.Statement.{statement}
 use Rattle.verdict_nogoods.proofs.covers.Tie as tie
 
 abbrev Inv-loop : tie.InvT-loop
-Inv-loop table owed n p stored m d₀ i₀ d i = (d ≤ m) × (i ≤ n) × PairedBelow (debtIn table p) (at owed) d i
+Inv-loop table outstanding n p stored m d₀ i₀ d i = (d ≤ m) × (i ≤ n) × PairedBelow (reductionIn table p) (at outstanding) d i
 
 abbrev μ-loop : tie.MeasureT-loop
-μ-loop table owed n p stored m d₀ i₀ d i = n - i
+μ-loop table outstanding n p stored m d₀ i₀ d i = n - i
 
 returns : tie.Need-returns Inv-loop μ-loop
 returns c = λ h. absurd (false≢true h)
@@ -25,18 +25,20 @@ returns-2 : tie.Need-returns-2 Inv-loop μ-loop
 returns-2 c = λ h. absurd (false≢true h)
 
 loop-again : tie.Need-loop-again Inv-loop μ-loop
-loop-again c = (
-  omega (arith, c .before .before .before .before .before .loop-test .taken),
-  omega (arith, c .before .before .before .before .before .loop-test .taken, c .before .before .before .before .if2 .left),
-  paired-on (c .before .before .before .before .before .before .loop .inv .2) (c .before .lies-within .ensures (c .if3 .taken)),
-)
+loop-again c =
+    let at-loop-test = c .before .before .before .before .before in (
+      omega (arith, at-loop-test .loop-test .taken),
+      omega (arith, at-loop-test .loop-test .taken, c .before .before .before .before .if2 .left),
+      paired-on (at-loop-test .before .loop .inv .2) (c .before .lies-within .ensures (c .if3 .taken)),
+    )
 
 loop-again-2 : tie.Need-loop-again-2 Inv-loop μ-loop
-loop-again-2 c = (
-  c .before .before .before .before .before .before .loop .inv .0,
-  omega (arith, c .before .before .before .before .before .loop-test .taken, c .before .before .before .before .if2 .left),
-  paired-past (c .before .before .before .before .before .before .loop .inv .2),
-)
+loop-again-2 c =
+    let turn = c .before .before .before .before .before .before in (
+      turn .loop .inv .0,
+      omega (arith, c .before .before .before .before .before .loop-test .taken, c .before .before .before .before .if2 .left),
+      paired-past (turn .loop .inv .2),
+    )
 
 returns-3 : tie.Need-returns-3 Inv-loop μ-loop
 returns-3 c = λ _. paired-all (c .before .loop .inv .2) (c .loop-test .left)

@@ -9,10 +9,10 @@ use Rattle.verdict_nogoods.proofs.known.Statement.{statement}
 use Rattle.verdict_nogoods.proofs.known.Tie as tie
 
 abbrev Inv-loop : tie.InvT-loop
-Inv-loop table owed n j st level e₀ e = (e ≤ at table (levelAt j)) × (e ≤ ringSize)
+Inv-loop table outstanding n j st level e₀ e = (e ≤ at table (levelAt j)) × (e ≤ ringSize)
 
 abbrev μ-loop : tie.MeasureT-loop
-μ-loop table owed n j st level e₀ e = e
+μ-loop table outstanding n j st level e₀ e = e
 
 returns : tie.Need-returns Inv-loop μ-loop
 returns c = λ h. absurd (false≢true h)
@@ -27,7 +27,7 @@ returns-2 c =
     λ _. record {
       entry = of-loop .e - 1;
       used = record { within = omega (arith, of-loop .inv .1, some); stored = omega (arith, of-loop .inv .0, some) };
-      beats = c .before .beats .ensures (c .if2 .taken);
+      dominates = c .before .dominates .ensures (c .if2 .taken);
     }
 
 loop-again : tie.Need-loop-again Inv-loop μ-loop

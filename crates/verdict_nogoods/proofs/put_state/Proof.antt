@@ -3,7 +3,7 @@ use mathlib.Core.Path.{refl}
 use native.Mathlib.Omega.{arith}
 use lib.ListN.{length-set}
 use borrow.Author.Needs.{needs}
-use Rattle.verdict_nogoods.specs.Table.{writtenFrom}
+use Rattle.verdict_nogoods.specs.Table.{wordsWritten}
 use Rattle.verdict_nogoods.proofs.put_state.Statement.{statement}
 use Rattle.verdict_nogoods.proofs.put_state.Tie as tie
 
@@ -26,7 +26,7 @@ slice-write-table-7 : tie.Need-slice-write-table-7
 slice-write-table-7 c = simp length-set (omega (arith, (c .before .before) .pre .0))
 
 returns : tie.Need-returns
-unfolding writtenFrom
+unfolding wordsWritten
 returns c = refl
 
 pub put-state-spec : {M : Type 1} → statement M

@@ -21,35 +21,39 @@ returns-2 c = unchanged _ _ _ _
 same-length : tie.Need-same-length
 same-length c =
     let of-state = c .before .before .before .put-state in
-    length-set (of-state .last .0) _ (c .one-more .result) ∙ of-state .kept .0 ∙ c .before .before .before .before .before .before .before .put-debts .kept .0
+    length-set (of-state .last .0) _ (c .one-more .result) ∙ of-state .kept .0 ∙ c .before .before .before .before .before .before .before .put-reductions .kept .0
 
 returns-3 : tie.Need-returns-3
 returns-3 c =
-    let s = (c .before .before .before .before .before .before .before .before .before .before .before .before .before .before .before) in
-    let of-debts = c .before .before .before .before .before .before .before .put-debts in
-    let few = c .before .before .before .before .before .before .before .before .before .before .if2 .left in
+    let at-put-reductions = c .before .before .before .before .before .before .before in
+    let at-if2 = at-put-reductions .before .before .before in
+    let at-reductions = at-if2 .before in
+    let at-if1 = at-reductions .before in
+    let s = (at-if1 .before .before .before) in
+    let of-reductions = at-put-reductions .put-reductions in
+    let few = at-if2 .if2 .left in
     let t = now (s .args .table) in
-    let owed = now (s .args .owed) in
+    let outstanding = now (s .args .outstanding) in
     subst
-    (λ (t′ : List ℕ). Remembered t (set t′ (levelAt (s .args .j)) (c .one-more .result)) (s .args .j) (s .args .st) owed)
+    (λ (t′ : List ℕ). Remembered t (set t′ (levelAt (s .args .j)) (c .one-more .result)) (s .args .j) (s .args .st) outstanding)
     (sym (c .before .before .before .put-state .ensures))
     (stored
     t
-    (of-debts .last .0)
-    owed
+    (of-reductions .last .0)
+    outstanding
     (s .args .j)
     (s .args .n)
     (at t (levelAt (s .args .j)))
     (c .one-more .result)
-    (of-debts .result)
+    (of-reductions .result)
     (s .args .st)
-    (omega (arith, c .before .before .before .before .before .before .before .before .before .before .before .before .if1 .left))
-    (of-debts .kept .0)
+    (omega (arith, at-if1 .if1 .left))
+    (of-reductions .kept .0)
     refl
-    (omega (arith, of-debts .ensures .count, few, c .before .before .before .before .before .before .before .before .before .before .before .debts .ensures))
+    (omega (arith, of-reductions .ensures .count, few, at-reductions .reductions .ensures))
     (c .one-more .ensures)
     (s .pre .2)
-    (of-debts .ensures))
+    (of-reductions .ensures))
 
 pub remember-spec : {M : Type 1} → statement M
 remember-spec =

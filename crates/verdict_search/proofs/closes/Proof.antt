@@ -18,7 +18,7 @@ returns c = record { yes = λ h. absurd (false≢true h); no = λ _ p. omega (ar
 overdue-requires : tie.Need-overdue-requires
 overdue-requires c κs =
     let s = (c .before .before .before .before .before .before .before) in
-    (omega (arith, s .pre .0 .below, s .pre .0 .sized .owed-too), s .pre .0 .unused)
+    (omega (arith, s .pre .0 .below, s .pre .0 .sized .outstanding-too), s .pre .0 .unused)
 
 returns-2 : tie.Need-returns-2
 returns-2 c = record { yes = λ h. absurd (false≢true h); no = λ _ p. p .1 (c .before .overdue .ensures .yes (c .if2 .taken)) }
@@ -26,7 +26,7 @@ returns-2 c = record { yes = λ h. absurd (false≢true h); no = λ _ p. p .1 (c
 advance-requires : tie.Need-advance-requires
 advance-requires c κs =
     let s = (c .before .before .before .before .before .before .before .before .before) in
-    let k = courseOf (now (s .args .starts)) (now (s .args .ends)) (now (s .args .nets)) (now (s .args .loads)) (s .args .s) in
+    let k = courseOf (now (s .args .starts)) (now (s .args .ends)) (now (s .args .nets)) (now (s .args .compensations)) (s .args .s) in
     (in-order k (s .pre .0 .sized .lies), le-refl _, omega (arith, s .pre .0 .sized .judged), s .pre .1 .small, s .pre .1 .reached, λ l. absurd (omega arith))
 
 returns-3 : tie.Need-returns-3

@@ -30,10 +30,12 @@ loop-holds c = ((c .before .before) .pre .3, le-refl _, refl)
 
 returns : tie.Need-returns Inv-loop μ-loop
 returns c =
-    let rests = restWeeks (spansIn (now ((c .before .before .before .before .before .before .before) .args .starts)) (now
-    ((c .before .before .before .before .before .before .before) .args .ends)) (length (now ((c .before .before .before .before .before .before .before) .args .starts)))) in
-    sym (advance-broken rests (c .before .before .before .before .loop .here) ((c .before .before .before .before .before .before .before) .args .to) (c .before .before .if1 .taken) (sym
-    (c .before .pair-kept .ensures) ∙ not-true _ (c .if2 .taken))) ∙ c .before .before .before .before .loop .inv .2
+    let turn = c .before .before .before .before in
+    let start = turn .before .before .before in
+    let rests = restWeeks (spansIn (now (start .args .starts)) (now
+    (start .args .ends)) (length (now (start .args .starts)))) in
+    sym (advance-broken rests (turn .loop .here) (start .args .to) (c .before .before .if1 .taken) (sym
+    (c .before .pair-kept .ensures) ∙ not-true _ (c .if2 .taken))) ∙ turn .loop .inv .2
 
 rest-near-requires : tie.Need-rest-near-requires Inv-loop μ-loop
 rest-near-requires c κs =
@@ -50,25 +52,28 @@ loop-less c = omega (arith, ap (λ (x : State). x .week) (c .next-week .ensures)
 
 loop-again : tie.Need-loop-again Inv-loop μ-loop
 loop-again c =
-    let rests = restWeeks (spansIn (now ((c .before .before .before .before .before .before .before .before .before .before) .args .starts)) (now
-    ((c .before .before .before .before .before .before .before .before .before .before) .args .ends)) (length (now
-    ((c .before .before .before .before .before .before .before .before .before .before) .args .starts)))) in
-    let there = c .next-week .ensures ∙ ap (λ (b : Bool). nextWeek b (c .before .before .before .before .before .before .before .loop .here)) (c .before .rest-near .ensures) in (
-      subst Small (sym (c .next-week .ensures)) (next-small (c .before .before .before .before .before .before .before .loop .here) (c .before .rest-near .result)
-          (c .before .before .before .before .before .before .before .loop .inv .0)),
-      omega (arith, ap (λ (x : State). x .week) (c .next-week .ensures), c .before .before .before .before .before .before .before .loop .inv .1),
-      ap (λ (x : State). advance rests ((c .before .before .before .before .before .before .before .before .before .before) .args .to - x .week) x) there
-          ∙ sym (advance-on rests (c .before .before .before .before .before .before .before .loop .here)
-          ((c .before .before .before .before .before .before .before .before .before .before) .args .to) (c .before .before .before .before .before .if1 .taken) (sym
+    let turn = c .before .before .before .before .before .before .before in
+    let start = turn .before .before .before in
+    let rests = restWeeks (spansIn (now (start .args .starts)) (now
+    (start .args .ends)) (length (now
+    (start .args .starts)))) in
+    let there = c .next-week .ensures ∙ ap (λ (b : Bool). nextWeek b (turn .loop .here)) (c .before .rest-near .ensures) in (
+      subst Small (sym (c .next-week .ensures)) (next-small (turn .loop .here) (c .before .rest-near .result)
+          (turn .loop .inv .0)),
+      omega (arith, ap (λ (x : State). x .week) (c .next-week .ensures), turn .loop .inv .1),
+      ap (λ (x : State). advance rests (start .args .to - x .week) x) there
+          ∙ sym (advance-on rests (turn .loop .here)
+          (start .args .to) (c .before .before .before .before .before .if1 .taken) (sym
           (c .before .before .before .before .pair-kept .ensures) ∙ not-false _ (c .before .before .before .if2 .left)))
-          ∙ c .before .before .before .before .before .before .before .loop .inv .2,
+          ∙ turn .loop .inv .2,
     )
 
 returns-2 : tie.Need-returns-2 Inv-loop μ-loop
 returns-2 c =
-    let rests = restWeeks (spansIn (now ((c .before .before .before .before .before) .args .starts)) (now ((c .before .before .before .before .before) .args .ends)) (length (now
-    ((c .before .before .before .before .before) .args .starts)))) in
-    sym (advance-done rests (c .before .before .loop .here) ((c .before .before .before .before .before) .args .to) (c .if1 .left)) ∙ c .before .before .loop .inv .2
+    let start = c .before .before .before .before .before in
+    let rests = restWeeks (spansIn (now (start .args .starts)) (now (start .args .ends)) (length (now
+    (start .args .starts)))) in
+    sym (advance-done rests (c .before .before .loop .here) (start .args .to) (c .if1 .left)) ∙ c .before .before .loop .inv .2
 
 pub advance-spec : {M : Type 1} → statement M
 advance-spec =

@@ -1,6 +1,5 @@
 -- `verdict_sweep::completes` meets its contract. Assumes nothing.
 use borrow.Author.Needs.{needs}
-use Prim.Native.Nat.{_-_}
 use denote.Ref.{now}
 use Rattle.verdict_search.specs.Search.{courseOf}
 use Rattle.verdict_search.proofs.Slots as law
@@ -10,9 +9,10 @@ use Rattle.verdict_sweep.proofs.completes.Tie as tie
 
 solve-requires : tie.Need-solve-requires
 solve-requires c κs =
-    let s = (c .before .before .before .before .before .before .before .before .before .before .before .before .before .before .before .before) in
-    let k = courseOf (now (s .args .starts)) (now (s .args .ends)) (now (s .args .nets)) (now (s .args .loads)) (s .args .s) in
-    (law.slots-none k (s .pre .0 .sized .lies) (s .args .j) (s .pre .0), memory.empty-sound k (s .pre .0 .sized .lies) (c .before .before .before .before .before .before .clear .ensures), s .pre .1)
+    let at-clear = c .before .before .before .before .before .before in
+    let s = (at-clear .before .before .before .before .before .before .before .before .before .before) in
+    let k = courseOf (now (s .args .starts)) (now (s .args .ends)) (now (s .args .nets)) (now (s .args .compensations)) (s .args .s) in
+    (law.slots-none k (s .pre .0 .sized .lies) (s .args .j) (s .pre .0), memory.empty-sound k (s .pre .0 .sized .lies) (at-clear .clear .ensures), s .pre .1)
 
 pub completes-spec : {M : Type 1} → statement M
 completes-spec =

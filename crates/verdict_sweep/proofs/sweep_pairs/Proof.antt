@@ -14,13 +14,13 @@ use Rattle.verdict_sweep.proofs.sweep_pairs.Statement.{statement}
 use Rattle.verdict_sweep.proofs.sweep_pairs.Tie as tie
 
 abbrev Inv-loop : tie.InvT-loop
-Inv-loop starts ends nets loads s owed₀ nogoods₀ front₀ other₀ j f p i₀ n₀ left₀ owed nogoods front other i n left =
-    (i + 2 * left ≡ j + 2 * p) × (length owed ≡ length owed₀) × (length nogoods ≡ length nogoods₀) × (length front ≡ length front₀) × (length other ≡ length other₀) ×
-    (Sound (courseOf starts ends nets loads s) nogoods) × (Front (courseOf starts ends nets loads s) i front n) ×
-    led.Equal (Any (courseOf starts ends nets loads s) j front₀ f) (Any (courseOf starts ends nets loads s) i front n)
+Inv-loop starts ends nets compensations s outstanding₀ nogoods₀ front₀ other₀ j f p i₀ n₀ left₀ outstanding nogoods front other i n left =
+    (i + 2 * left ≡ j + 2 * p) × (length outstanding ≡ length outstanding₀) × (length nogoods ≡ length nogoods₀) × (length front ≡ length front₀) × (length other ≡ length other₀) ×
+    (Sound (courseOf starts ends nets compensations s) nogoods) × (Front (courseOf starts ends nets compensations s) i front n) ×
+    led.Equal (Any (courseOf starts ends nets compensations s) j front₀ f) (Any (courseOf starts ends nets compensations s) i front n)
 
 abbrev μ-loop : tie.MeasureT-loop
-μ-loop starts ends nets loads s owed₀ nogoods₀ front₀ other₀ j f p i₀ n₀ left₀ owed nogoods front other i n left = left
+μ-loop starts ends nets compensations s outstanding₀ nogoods₀ front₀ other₀ j f p i₀ n₀ left₀ outstanding nogoods front other i n left = left
 
 loop-holds : tie.Need-loop-holds Inv-loop μ-loop
 loop-holds c =
@@ -29,61 +29,74 @@ loop-holds c =
 
 sweep-two-requires : tie.Need-sweep-two-requires Inv-loop μ-loop
 sweep-two-requires c κs =
-    let s = (c .before .before .before .before .before .before .before .before .before .before .before .before .before .before) in
-    let k = courseOf (now (s .args .starts)) (now (s .args .ends)) (now (s .args .nets)) (now (s .args .loads)) (s .args .s) in (
-      law.sized-too k (s .pre .0 .lies) (s .pre .0) (c .before .before .before .before .before .loop .inv .1),
-      c .before .before .before .before .before .loop .inv .5,
+    let turn = c .before .before .before .before .before in
+    let s = (turn .before .before .before .before .before .before .before .before .before) in
+    let k = courseOf (now (s .args .starts)) (now (s .args .ends)) (now (s .args .nets)) (now (s .args .compensations)) (s .args .s) in (
+      law.sized-too k (s .pre .0 .lies) (s .pre .0) (turn .loop .inv .1),
+      turn .loop .inv .5,
       omega
-          (arith, c .before .before .before .before .before .loop .inv .0, c .before .before .before .before .loop-test .taken, s .pre .2),
-      c .before .before .before .before .before .loop .inv .6,
+          (arith, turn .loop .inv .0, c .before .before .before .before .loop-test .taken, s .pre .2),
+      turn .loop .inv .6,
     )
 
 same-length : tie.Need-same-length Inv-loop μ-loop
-same-length c = c .before .before .before .before .before .before .before .before .before .sweep-two .kept .1 .1 .1 .1 .1 .0 ∙
-    c .before .before .before .before .before .before .before .before .before .before .before .before .before .before .before .loop .inv .1
+same-length c =
+    let at-sweep-two = c .before .before .before .before .before .before .before .before .before in
+    at-sweep-two .sweep-two .kept .1 .1 .1 .1 .1 .0 ∙
+    at-sweep-two .before .before .before .before .before .before .loop .inv .1
 
 same-length-2 : tie.Need-same-length-2 Inv-loop μ-loop
-same-length-2 c = c .before .before .before .before .before .before .before .before .before .sweep-two .kept .1 .1 .1 .1 .1 .1 .0 ∙
-    c .before .before .before .before .before .before .before .before .before .before .before .before .before .before .before .loop .inv .2
+same-length-2 c =
+    let at-sweep-two = c .before .before .before .before .before .before .before .before .before in
+    at-sweep-two .sweep-two .kept .1 .1 .1 .1 .1 .1 .0 ∙
+    at-sweep-two .before .before .before .before .before .before .loop .inv .2
 
 same-length-3 : tie.Need-same-length-3 Inv-loop μ-loop
-same-length-3 c = c .before .before .before .before .before .before .before .before .before .sweep-two .kept .1 .1 .1 .1 .1 .1 .1 .0 ∙
-    c .before .before .before .before .before .before .before .before .before .before .before .before .before .before .before .loop .inv .3
+same-length-3 c =
+    let at-sweep-two = c .before .before .before .before .before .before .before .before .before in
+    at-sweep-two .sweep-two .kept .1 .1 .1 .1 .1 .1 .1 .0 ∙
+    at-sweep-two .before .before .before .before .before .before .loop .inv .3
 
 same-length-4 : tie.Need-same-length-4 Inv-loop μ-loop
-same-length-4 c = c .before .before .before .before .before .before .before .before .before .sweep-two .kept .1 .1 .1 .1 .1 .1 .1 .1 .0 ∙
-    c .before .before .before .before .before .before .before .before .before .before .before .before .before .before .before .loop .inv .4
+same-length-4 c =
+    let at-sweep-two = c .before .before .before .before .before .before .before .before .before in
+    at-sweep-two .sweep-two .kept .1 .1 .1 .1 .1 .1 .1 .1 .0 ∙
+    at-sweep-two .before .before .before .before .before .before .loop .inv .4
 
 returns : tie.Need-returns Inv-loop μ-loop
 returns c =
-    let s = (c .before .before .before .before .before .before .before .before .before .before .before .before .before .before .before .before .before .before .before .before .before .before
-    .before .before) in
-    let k = courseOf (now (s .args .starts)) (now (s .args .ends)) (now (s .args .nets)) (now (s .args .loads)) (s .args .s) in
-    sweeps.passed-yes refl (c .before .before .before .before .before .before .before .before .before .before .before .before .before .before .before .loop .inv .7 .from
-    (c .before .before .before .before .before .before .before .before .before .sweep-two .ensures .yes (c .if1 .taken)))
-    (c .before .before .before .before .before .before .before .before .before .sweep-two .ensures .sound) (law.front-none k (s .args .j + 2 * s .args .p) _)
+    let at-sweep-two = c .before .before .before .before .before .before .before .before .before in
+    let turn = at-sweep-two .before .before .before .before .before .before in
+    let s = (turn .before .before .before .before .before .before .before .before .before) in
+    let k = courseOf (now (s .args .starts)) (now (s .args .ends)) (now (s .args .nets)) (now (s .args .compensations)) (s .args .s) in
+    sweeps.passed-yes refl (turn .loop .inv .7 .from
+    (at-sweep-two .sweep-two .ensures .yes (c .if1 .taken)))
+    (at-sweep-two .sweep-two .ensures .sound) (law.front-none k (s .args .j + 2 * s .args .p) _)
 
 loop-again : tie.Need-loop-again Inv-loop μ-loop
-loop-again c = (
-  omega (
-    arith,
-    c .before .before .before .before .before .before .before .before .before .before .before .before .before .before .before .loop .inv .0,
-    c .before .before .before .before .before .before .before .before .before .before .before .before .before .before .loop-test .taken,
-  ),
-  c .before .before .before .before .before .before .before .before .before .sweep-two .kept .1 .1 .1 .1 .1 .0 ∙
-      c .before .before .before .before .before .before .before .before .before .before .before .before .before .before .before .loop .inv .1,
-  c .before .before .before .before .before .before .before .before .before .sweep-two .kept .1 .1 .1 .1 .1 .1 .0 ∙
-      c .before .before .before .before .before .before .before .before .before .before .before .before .before .before .before .loop .inv .2,
-  c .before .before .before .before .before .before .before .before .before .sweep-two .kept .1 .1 .1 .1 .1 .1 .1 .0 ∙
-      c .before .before .before .before .before .before .before .before .before .before .before .before .before .before .before .loop .inv .3,
-  c .before .before .before .before .before .before .before .before .before .sweep-two .kept .1 .1 .1 .1 .1 .1 .1 .1 .0 ∙
-      c .before .before .before .before .before .before .before .before .before .before .before .before .before .before .before .loop .inv .4,
-  c .before .before .before .before .before .before .before .before .before .sweep-two .ensures .sound,
-  c .before .before .before .before .before .before .before .before .before .sweep-two .ensures .well,
-  led.equal-then (c .before .before .before .before .before .before .before .before .before .before .before .before .before .before .before .loop .inv .7)
-      (led.equal (c .before .before .before .before .before .before .before .before .before .sweep-two .ensures .leads (c .if1 .left))
-      (c .before .before .before .before .before .before .before .before .before .sweep-two .ensures .from (c .if1 .left))),
-)
+loop-again c =
+    let at-sweep-two = c .before .before .before .before .before .before .before .before .before in
+    let at-loop-test = at-sweep-two .before .before .before .before .before in
+    let turn = at-loop-test .before in (
+      omega (
+        arith,
+        turn .loop .inv .0,
+        at-loop-test .loop-test .taken,
+      ),
+      at-sweep-two .sweep-two .kept .1 .1 .1 .1 .1 .0 ∙
+          turn .loop .inv .1,
+      at-sweep-two .sweep-two .kept .1 .1 .1 .1 .1 .1 .0 ∙
+          turn .loop .inv .2,
+      at-sweep-two .sweep-two .kept .1 .1 .1 .1 .1 .1 .1 .0 ∙
+          turn .loop .inv .3,
+      at-sweep-two .sweep-two .kept .1 .1 .1 .1 .1 .1 .1 .1 .0 ∙
+          turn .loop .inv .4,
+      at-sweep-two .sweep-two .ensures .sound,
+      at-sweep-two .sweep-two .ensures .well,
+      led.equal-then (turn .loop .inv .7)
+          (led.equal (at-sweep-two .sweep-two .ensures .leads (c .if1 .left))
+          (at-sweep-two .sweep-two .ensures .from (c .if1 .left))),
+    )
 
 same-length-5 : tie.Need-same-length-5 Inv-loop μ-loop
 same-length-5 c = c .before .loop .inv .1
@@ -100,7 +113,7 @@ same-length-8 c = c .before .loop .inv .4
 returns-2 : tie.Need-returns-2 Inv-loop μ-loop
 returns-2 c =
     let s = (c .before .before .before .before .before .before .before .before .before .before) in
-    let k = courseOf (now (s .args .starts)) (now (s .args .ends)) (now (s .args .nets)) (now (s .args .loads)) (s .args .s) in
+    let k = courseOf (now (s .args .starts)) (now (s .args .ends)) (now (s .args .nets)) (now (s .args .compensations)) (s .args .s) in
     let q : c .before .loop .i ≡ s .args .j + 2 * s .args .p = omega (arith, c .before .loop .inv .0, c .loop-test .left) in
     sweeps.passed-at k q (c .before .loop .inv .7) (c .before .loop .inv .5) (c .before .loop .inv .6)
 
