@@ -19,7 +19,7 @@ loop-holds c = start-walking _ _ ((c .before) .pre)
 run-requires : tie.Need-run-requires Inv-loop μ-loop
 run-requires c κs =
     let turn = c .before .before .before in
-    (turn .loop .inv .bounded, run-room (turn .loop .inv) (omega arith) (c .lesser .ensures))
+    (turn .loop .inv .bounded, omega (arith, run-room (turn .loop .inv) (omega arith) (c .lesser .ensures)))
 
 sub-togo : tie.Need-sub-togo Inv-loop μ-loop
 sub-togo c = omega (arith, c .before .lesser .ensures)

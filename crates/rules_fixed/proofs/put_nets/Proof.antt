@@ -19,7 +19,7 @@ regular-net-requires : tie.Need-regular-net-requires Inv-loop μ-loop
 regular-net-requires c κs =
     let turn = c .before .before .before in
     let fits = (turn .before .before .before .before) .pre .3 (turn .loop .i) (omega arith) in
-    (turn .loop .inv .bounded, fits .0, fits .1)
+    (turn .loop .inv .bounded, omega (arith, fits .0), fits .1)
 
 slice-write-nets : tie.Need-slice-write-nets Inv-loop μ-loop
 slice-write-nets c =
