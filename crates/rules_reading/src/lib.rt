@@ -21,7 +21,7 @@ ghost use Rattle.rules_reading.specs.Items.{endAt, timeBy, gapBy, shortA
 ghost use Rattle.rules_reading.specs.Items.{standingFor, Zeros, Walked, enoughWith, rule11With, restWeeks, spanOf, zeros, laterBy};
 
 // A long rest with its entry: its number from 1, the end of the long rest before it or 0, its start and end, the least net length
-// at which it is no shortened daily rest, its three bytes, and the compensation that it gives, the document's compensation.
+// at which it is no shortened daily rest, its three bytes, and the compensation that it gives, the document's load.
 pub struct Item {
     pub number: u32,
     pub before: u32,
@@ -320,7 +320,7 @@ fn tally_after(s: u32, end: u32, t: Tally, x: Item, r: LongRest) -> Tally
     }
 }
 
-// The reduction of a rest, the document's reduction.
+// The reduction of a rest, the document's debt.
 pub fn reduction(kind: Kind) -> u32
     ensures { λ r. ⌜ r ≡ reductionOf kind ⌝ }
 {
