@@ -21,7 +21,7 @@ use Rattle.rules.specs.Operations.{verdictGiven, Outcome, passed, breached, out
 use Rattle.rules.proofs.Breach.{first-sound}
 use Rattle.text.specs.Passes.{Put}
 use Rattle.text_lines.specs.Reading.{textRead}
-use Rattle.text.proofs.FormLaws.{put-in-front}
+use Rattle.recording.proofs.Slices.{put-in-front}
 use Rattle.desk_report.specs.Printed.{answerText, verdictText, inputAtMost, inputRead, deskText, intoRoom}
 use Rattle.desk_report.specs.Composing.{pageAtMost, runLineBytes, refusalPage, pageOf, Read}
 use Rattle.desk_report.proofs.Pages.{refusal-size, page-size}

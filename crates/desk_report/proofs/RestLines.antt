@@ -9,7 +9,7 @@ use lib.Seq.{sets, drop-cons, drop-length, drop-drop, getD-drop}
 use Rattle.recording.specs.declared.Span.{Span}
 use Rattle.rules.specs.Reading.{entryBytes}
 use Rattle.text.specs.Passes.{Put, roomy}
-use Rattle.text_lines.proofs.Slices.{sets-append}
+use Rattle.recording.proofs.Slices.{sets-append}
 use Rattle.text.proofs.Puts.{put-same-length}
 use Rattle.desk_report.specs.Printed.{restText, restsText}
 use Rattle.desk_report.specs.Composing.{lineAtMost, restsOf, Readable}

@@ -2,6 +2,7 @@ pub mod TestLaws
 pub mod Walks
 pub mod Runs
 pub mod LongRests
+pub mod Slices
 pub mod WordLaws
 pub mod DayLaws
 pub mod RestWeeks

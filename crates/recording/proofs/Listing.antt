@@ -1,10 +1,10 @@
 -- Weighing: what stands at each return; and what is written over the front of a slice. Assumes nothing.
 use mathlib.Core.Path.{_≡_, refl, sym, ap, _∙_}
 use mathlib.Core.List.{List, _++_, map}
-use Prim.Native.Nat.{ℕ, _+_, _≤_}
+use Prim.Native.Nat.{ℕ, _≤_}
 use native.Mathlib.Omega.{arith}
 use lib.ListN.{length, drop, length-map}
-use lib.Seq.{sets, sets-eq}
+use lib.Seq.{sets}
 use Rattle.recording.specs.Answers.{Answer, refused, answered, andThen}
 use Rattle.recording.specs.Words.{minutesOf}
 use Rattle.recording.specs.Rests.{judgedEnd, longRests}
@@ -18,6 +18,7 @@ use Rattle.recording.specs.declared.Place.{Place}
 use Rattle.recording.specs.declared.Measure.{Measure}
 use Rattle.recording.specs.declared.Span.{Span}
 use Rattle.recording.specs.declared.Filling.the-variants as filling
+use Rattle.recording.proofs.Slices.{put-in-front}
 use Rattle.recording.proofs.WordLaws.{total-is}
 use Rattle.recording.proofs.Scanning.{scan-end, scan-count}
 
@@ -68,7 +69,4 @@ module _ (ws : List ℕ) where
 
 -- ---- a number of each long rest in front of a slice
 pub in-front : (f : Span → ℕ) (rs : List Span) (out : List ℕ) → length rs ≤ length out → sets out 0 (map f rs) ≡ map f rs ++ drop (length (map f rs)) out
-in-front f rs out h =
-    let k : 0 + length (map f rs) ≤ length out = rw length-map (omega arith) in
-    let z : 0 + length (map f rs) ≡ length (map f rs) = omega arith in
-    sets-eq (map f rs) out 0 k ∙ ap (λ (n : ℕ). map f rs ++ drop n out) z
+in-front f rs out h = put-in-front (map f rs) out (rw length-map (omega arith))

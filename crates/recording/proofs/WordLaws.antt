@@ -2,13 +2,13 @@
 use mathlib.Core.Path.{_≡_, refl, sym, ap, _∙_}
 use mathlib.Core.Bool.{Bool, true, false}
 use mathlib.Core.List.{List, [], _∷_, _++_, append-assoc}
-use Prim.Native.Nat.{ℕ, _+_, _≤_, _<_}
+use Prim.Native.Nat.{ℕ, zero, suc, _+_, _≤_, _<_}
 use native.Mathlib.Omega.{arith}
 use lib.Dec.{eqb, ltb}
 use native.Mathlib.Numerals.{add-one}
-use lib.ListN.{length, drop, getD, replicate, length-append, length-replicate}
+use lib.ListN.{length, take, drop, getD, replicate, length-append, length-replicate}
 use lib.Seq.{drop-cons, drop-length}
-use borrow.Author.Tests.{ltb-false, eq-eqb, ne-eqb, lt-ltb, le-ltb}
+use borrow.Author.Tests.{eqb-false, ltb-false, eq-eqb, ne-eqb, lt-ltb, le-ltb}
 use Rattle.recording.specs.Tests.{pick}
 use Rattle.recording.specs.Answers.{Answer, refused, answered}
 use Rattle.recording.specs.Words.{activities, wordOf, minutesIn, activityIn, minutesOf}
@@ -26,6 +26,30 @@ unfolding minutesOf
 minutes-append [] ws = refl
 minutes-append (v ∷ vs) ws = ap (λ (l : List ℕ). replicate (minutesIn v) (activityIn v) ++ l) (minutes-append vs ws) ∙ sym (append-assoc (replicate (minutesIn v) (activityIn v))
     (minutesOf vs) (minutesOf ws))
+
+-- minutes that are activity codes
+pub data Coded : List ℕ → Type 0 where
+  no-minute : Coded []
+  minute : {a : ℕ} {ms : List ℕ} → a < activities → Coded ms → Coded (a ∷ ms)
+
+pub coded-take : (n : ℕ) {ms : List ℕ} → Coded ms → Coded (take n ms)
+coded-take zero c = no-minute
+coded-take (suc n) no-minute = no-minute
+coded-take (suc n) (minute h c) = minute h (coded-take n c)
+
+pub coded-drop : (n : ℕ) {ms : List ℕ} → Coded ms → Coded (drop n ms)
+coded-drop zero c = c
+coded-drop (suc n) no-minute = no-minute
+coded-drop (suc n) (minute h c) = coded-drop n c
+
+coded-run : (n a : ℕ) {ms : List ℕ} → a < activities → Coded ms → Coded (replicate n a ++ ms)
+coded-run zero a h c = c
+coded-run (suc n) a h c = minute h (coded-run n a h c)
+
+pub coded-minutes : (ws : List ℕ) → Coded (minutesOf ws)
+unfolding minutesOf
+coded-minutes [] = no-minute
+coded-minutes (w ∷ ws) = coded-run (minutesIn w) (activityIn w) (omega arith) (coded-minutes ws)
 
 -- a total that is not refused is the number of minutes, within the limit
 pub record Total (t : ℕ) (ws : List ℕ) (n : ℕ) : Type 0 where
@@ -51,19 +75,44 @@ total-is t (w ∷ ws) n h e =
     record { minutes = rw (length-append, length-replicate) (omega (arith, i .minutes)); within = i .within }
 
 -- ---- one word of the total
+pub fault-empty : (t w : ℕ) → minutesIn w ≡ 0 → faultOf t w ≡ 1
+unfolding faultOf
+fault-empty t w z = simp (eq-eqb _ _ z)
+
+pub fault-past : (t w : ℕ) → (minutesIn w ≡ 0 → ⊥) → totalAtMost < t + minutesIn w → faultOf t w ≡ 2
+unfolding faultOf
+fault-past t w z l = simp (ne-eqb _ _ z, lt-ltb _ _ l)
+
+pub fault-none : (t w : ℕ) → (minutesIn w ≡ 0 → ⊥) → t + minutesIn w ≤ totalAtMost → faultOf t w ≡ 0
+unfolding faultOf
+fault-none t w z l = simp (ne-eqb _ _ z, le-ltb _ _ l)
+
+-- a word without a fault has a minute, and is within the limit
+pub record NoFault (t w : ℕ) : Type 0 where
+  pub some : 1 ≤ minutesIn w
+  pub within : t + minutesIn w ≤ totalAtMost
+
+pub no-fault-is : (t w : ℕ) → faultOf t w ≡ 0 → NoFault t w
+unfolding faultOf
+no-fault-is t w e = go (eqb (minutesIn w) 0) (ltb totalAtMost (t + minutesIn w)) refl refl e
+  where
+    go : (a b : Bool) → eqb (minutesIn w) 0 ≡ a → ltb totalAtMost (t + minutesIn w) ≡ b → _≡_ {A = ℕ} (pick a 1 (pick b 2 0)) 0 → NoFault t w
+    go true b p q z = absurd (omega arith)
+    go false true p q z = absurd (omega arith)
+    go false false p q z = let k : minutesIn w ≡ 0 → ⊥ = eqb-false (minutesIn w) 0 p in record { some = omega arith; within = ltb-false _ _ q }
+
+pub unless-some : {A : Type 0} (n : ℕ) (later : Answer A) → (n ≡ 0 → ⊥) → unlessFault n later ≡ refused n
+unless-some zero later h = absurd (h refl)
+unless-some (suc n) later h = refl
+
 module _ (ws : List ℕ) (t i : ℕ) (h : i < length ws) where
-  pub total-on : (minutesIn (getD ws i 0) ≡ 0 → ⊥) → t + minutesIn (getD ws i 0) ≤ totalAtMost
-      → totalFrom t (drop i ws) ≡ totalFrom (t + minutesIn (getD ws i 0)) (drop (i + 1) ws)
-  unfolding totalFrom faultOf
-  total-on z l = rw (drop-cons ws i 0, add-one) (simp (ne-eqb _ _ z, le-ltb _ _ l))
+  pub total-on : faultOf t (getD ws i 0) ≡ 0 → totalFrom t (drop i ws) ≡ totalFrom (t + minutesIn (getD ws i 0)) (drop (i + 1) ws)
+  unfolding totalFrom
+  total-on e = rw (drop-cons ws i 0, add-one, e)
 
-  pub total-empty : minutesIn (getD ws i 0) ≡ 0 → totalFrom t (drop i ws) ≡ refused 1
-  unfolding totalFrom faultOf
-  total-empty z = rw (drop-cons ws i 0) (simp (eq-eqb _ _ z))
-
-  pub total-past : (minutesIn (getD ws i 0) ≡ 0 → ⊥) → totalAtMost < t + minutesIn (getD ws i 0) → totalFrom t (drop i ws) ≡ refused 2
-  unfolding totalFrom faultOf
-  total-past z l = rw (drop-cons ws i 0) (simp (ne-eqb _ _ z, lt-ltb _ _ l))
+  pub total-fault : (faultOf t (getD ws i 0) ≡ 0 → ⊥) → totalFrom t (drop i ws) ≡ refused (faultOf t (getD ws i 0))
+  unfolding totalFrom
+  total-fault n = rw (drop-cons ws i 0) (unless-some _ _ n)
 
 pub total-done : (ws : List ℕ) (t i : ℕ) → i ≡ length ws → totalFrom t (drop i ws) ≡ answered t
 unfolding totalFrom

@@ -4,7 +4,7 @@ ghost use Prim.Native.Nat.{_+_, _≤_, min};
 ghost use lib.ListN.{length, set};
 ghost use Rattle.recording.specs.Tests.{pick};
 ghost use Rattle.recording.specs.Words.{minutesOf};
-ghost use Rattle.recording.specs.Operations.{totalAtMost, totalFrom, measured, weighed};
+ghost use Rattle.recording.specs.Operations.{totalAtMost, faultOf, totalFrom, measured, weighed};
 ghost use Rattle.recording.specs.Scan.{totalled, faultIn, refusalIn, endsRest, afterRun, placeOf, origin, Scanned};
 
 // The minutes from `start` up to `end`, which is not included. Callers in C lend a list of them.
@@ -47,7 +47,7 @@ pub struct Place {
     pub count: u32,
 }
 
-const TOTAL_AT_MOST: u32 = 120960;
+pub const TOTAL_AT_MOST: u32 = 120960;
 
 pub const LONG_REST: u32 = 540;
 
@@ -73,7 +73,40 @@ pub fn lesser(a: u32, b: u32) -> u32
     b
 }
 
-// The total, or the refusal of the first word at fault: 1 where its minutes are 0, else 2 where the total passes the limit.
+// A byte at a place, where the bytes reach that far.
+pub fn put_byte(bytes: &mut [u8], at: usize, b: u8)
+    ensures { λ _. ⌜ now (bytes .exit) ≡ set (now (bytes .entry)) at b ⌝ }
+{
+    if at < bytes.len() {
+        bytes[at] = b;
+    }
+}
+
+// A word at a place, where the words reach that far.
+pub fn put_word(words: &mut [u32], at: usize, word: u32)
+    ensures { λ _. ⌜ now (words .exit) ≡ set (now (words .entry)) at word ⌝ }
+{
+    if at < words.len() {
+        words[at] = word;
+    }
+}
+
+// The fault of a word after so many minutes: 1 where its minutes are 0, else 2 where the total passes the limit; or 0.
+pub fn word_fault(total: u32, word: u32) -> u32
+    requires { ⌜ total ≤ totalAtMost ⌝ }
+    ensures { λ r. ⌜ r ≡ faultOf total word ⌝ }
+{
+    let minutes = word / 4;
+    if minutes == 0 {
+        return 1;
+    }
+    if TOTAL_AT_MOST - total < minutes {
+        return 2;
+    }
+    0
+}
+
+// The total, or the refusal of the first word at fault.
 fn total_of(words: &[u32]) -> Total
     ensures { λ r. ⌜ totalled r ≡ totalFrom 0 (now (words .entry)) ⌝ }
 {
@@ -83,14 +116,12 @@ fn total_of(words: &[u32]) -> Total
         if i == words.len() {
             break 'walk Total::Minutes(sum);
         }
-        let minutes = words[i] / 4;
-        if minutes == 0 {
-            break 'walk Total::Refused(1);
+        let word = words[i];
+        let fault = word_fault(sum, word);
+        if fault != 0 {
+            break 'walk Total::Refused(fault);
         }
-        if TOTAL_AT_MOST - sum < minutes {
-            break 'walk Total::Refused(2);
-        }
-        sum += minutes;
+        sum += word / 4;
         i += 1;
     }
 }

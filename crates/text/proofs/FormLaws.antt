@@ -1,16 +1,17 @@
 -- The two ways to say the form agree, and a text has at most one list of weeks. Assumes nothing.
 use mathlib.Core.Path.{_≡_, refl, sym, ap, _∙_}
 use mathlib.Core.Bool.{true, false}
-use mathlib.Core.List.{List, [], _++_}
-use Prim.Native.Nat.{ℕ, _+_, _*_, _≤_, _<_}
+use mathlib.Core.List.{List, []}
+use Prim.Native.Nat.{ℕ, _*_, _≤_, _<_}
 use native.Mathlib.Omega.{arith}
 use lib.Dec.{leb, ltb}
-use lib.ListN.{length, drop}
-use lib.Seq.{sets, sets-eq}
+use lib.ListN.{length}
+use lib.Seq.{sets}
 use borrow.Author.Tests.{lt-ltb, le-ltb, leb-true, leb-false}
 use Rattle.recording.specs.Tests.{pick}
 use Rattle.recording.specs.Answers.{Answer, refused, answered, counted, filled}
 use Rattle.recording.specs.Weeks.{weekMinutes}
+use Rattle.recording.proofs.Slices.{put-in-front}
 use Rattle.text_lines.specs.Form.{linesOf, textOfLines, textOf, weeksAtMost, Allowed, OfTheForm}
 use Rattle.text_lines.specs.Reading.{linesIn, isOver, isText, wordsOf, textRead}
 use Rattle.text_lines.specs.declared.Stage.{Stage}
@@ -57,11 +58,6 @@ pub few-words-read : (text : List ℕ) → isText text ≡ true → length (word
 few-words-read text e = let f = read-is-form text e in rw (words-read f) (allowed-few (f .allowed))
 
 -- ---- what stands at each return of reading
-pub put-in-front : (new old : List ℕ) → length new ≤ length old → sets old 0 new ≡ new ++ drop (length new) old
-put-in-front new old h =
-    let z : 0 + length new ≡ length new = omega arith in
-    sets-eq new old 0 (omega arith) ∙ ap (λ (k : ℕ). new ++ drop k old) z
-
 module _ (text words : List ℕ) where
   pub record ReadText (r : Answer ℕ) (words′ : List ℕ) : Type 0 where
     pub answer : r ≡ counted (textRead text (length words))

@@ -12,37 +12,13 @@ use Rattle.recording.specs.Tests.{pick}
 use Rattle.recording.specs.Words.{activities, wordOf, minutesIn, activityIn, minutesOf}
 use Rattle.recording.specs.Weeks.{weekMinutes}
 use Rattle.recording.specs.Operations.{totalAtMost}
-use Rattle.recording.proofs.WordLaws.{minutes-in, activity-in, minutes-append}
+use Rattle.recording.proofs.WordLaws.{minutes-in, activity-in, minutes-append, Coded, no-minute, minute, coded-take, coded-drop}
 use Rattle.recording.proofs.TestLaws.{less-or-not}
 use Rattle.text_lines.specs.Form.{runAtMost, sumOf, Runs, Week, Weeks, Allowed}
 use Rattle.text_lines.specs.Form as form
 use Rattle.text.specs.Writing.{joinedTo, joined, weeksWithin, weeksJoined}
 use Rattle.text.specs.Passes.{EachSome, none, next}
 use Rattle.text.proofs.WeekLines.{one-week, allRuns}
-
--- minutes that are activity codes
-pub data Coded : List ℕ → Type 0 where
-  no-minute : Coded []
-  minute : {a : ℕ} {ms : List ℕ} → a < activities → Coded ms → Coded (a ∷ ms)
-
-pub coded-take : (n : ℕ) {ms : List ℕ} → Coded ms → Coded (take n ms)
-coded-take zero c = no-minute
-coded-take (suc n) no-minute = no-minute
-coded-take (suc n) (minute h c) = minute h (coded-take n c)
-
-pub coded-drop : (n : ℕ) {ms : List ℕ} → Coded ms → Coded (drop n ms)
-coded-drop zero c = c
-coded-drop (suc n) no-minute = no-minute
-coded-drop (suc n) (minute h c) = coded-drop n c
-
-coded-run : (n a : ℕ) {ms : List ℕ} → a < activities → Coded ms → Coded (replicate n a ++ ms)
-coded-run zero a h c = c
-coded-run (suc n) a h c = minute h (coded-run n a h c)
-
-pub coded-minutes : (ws : List ℕ) → Coded (minutesOf ws)
-unfolding minutesOf
-coded-minutes [] = no-minute
-coded-minutes (w ∷ ws) = coded-run (minutesIn w) (activityIn w) (omega arith) (coded-minutes ws)
 
 -- ---- one minute more
 longer-minutes : (w : ℕ) → minutesIn (w + activities) ≡ suc (minutesIn w)

@@ -20,10 +20,11 @@ use Rattle.text.specs.Passes.{Put, roomy, InFront, sameWords, sameMinute
 use Rattle.text_lines.specs.declared.Line.{Line}
 use Rattle.text_lines.specs.declared.Line.the-variants as line
 use Rattle.text.specs.declared.Ahead.{Ahead}
-use Rattle.text_lines.proofs.Slices.{part-rest, sets-append}
+use Rattle.recording.proofs.Slices.{part-rest, sets-append}
 use Rattle.text.proofs.WordsInFront.{words-on, words-within}
 use Rattle.text.proofs.Puts.{put-same-length, ended, put-then, part-text, pick-short, name-short, number-short}
-use Rattle.text.proofs.Joining.{Coded, no-minute, coded-take, coded-minutes, startsWith, joined-run, weeks-next}
+use Rattle.recording.proofs.WordLaws.{Coded, no-minute, coded-take, coded-minutes}
+use Rattle.text.proofs.Joining.{startsWith, joined-run, weeks-next}
 
 -- ---- a part of a run
 week-begins : (ms : List ℕ) → 1 ≤ length ms → weeksThenEnd (weeksJoined ms) ≡ line.Week ∷ inWeek weekMinutes ms

@@ -16,7 +16,7 @@ use Rattle.recording.proofs.WordLaws.{minutes-in, activity-in}
 use Rattle.text_lines.specs.Form.{lineEnd, weekLine, closingLine, runName, digitZero, base, digitAt, decimal, lineText, textOfLines}
 use Rattle.text.specs.Passes.{Put, partLines}
 use Rattle.text_lines.specs.declared.Line.the-variants as line
-use Rattle.text_lines.proofs.Slices.{sets-append}
+use Rattle.recording.proofs.Slices.{sets-append}
 
 pub put-then : {t u v : List ℕ} {at next last : ℕ} {xs ys : List ℕ} → Put t at xs next u → Put u next ys last v → Put t at (xs ++ ys) last v
 put-then {t} {u} {v} {at} {next} {last} {xs} {ys} p q = record {

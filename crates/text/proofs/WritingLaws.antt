@@ -17,8 +17,10 @@ use Rattle.text_lines.specs.Form.{OfTheForm}
 use Rattle.text_lines.specs.Reading.{linesIn, isText, wordsOf, textRead}
 use Rattle.text.specs.Writing.{weeksJoined, textOfMinutes, textWritten}
 use Rattle.text.specs.Passes.{Put, EachSome, none, next, Writable}
-use Rattle.text.proofs.Joining.{coded-minutes, weeks-allowed, all-minutes}
-use Rattle.text.proofs.FormLaws.{form-is-read, words-read, put-in-front}
+use Rattle.recording.proofs.WordLaws.{coded-minutes}
+use Rattle.recording.proofs.Slices.{put-in-front}
+use Rattle.text.proofs.Joining.{weeks-allowed, all-minutes}
+use Rattle.text.proofs.FormLaws.{form-is-read, words-read}
 
 -- ---- what weighing accepts can be written
 some-minutes : (t w n : ℕ) (later : Answer ℕ) → unlessFault (faultOf t w) later ≡ answered n → (1 ≤ minutesIn w) × (later ≡ answered n)

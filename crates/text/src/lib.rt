@@ -3,7 +3,7 @@ ghost use mathlib.Core.Path.{_≡_};
 ghost use mathlib.Core.List.{[]};
 ghost use Prim.Native.Nat.{_+_, _≤_, _<_};
 ghost use lib.Dec.{eqb};
-ghost use lib.ListN.{length, set};
+ghost use lib.ListN.{length};
 ghost use lib.Seq.{sets};
 ghost use Rattle.recording.specs.Tests.{pick};
 ghost use Rattle.recording.specs.Answers.{counted, filled};
@@ -71,15 +71,6 @@ pub fn read_text(text: &[u8], words: &mut [u32]) -> Filling
 
 // ---- writing
 
-// A byte at a place, where the text reaches that far.
-fn put(text: &mut [u8], at: usize, b: u8)
-    ensures { λ _. ⌜ now (text .exit) ≡ set (now (text .entry)) at b ⌝ }
-{
-    if at < text.len() {
-        text[at] = b;
-    }
-}
-
 // Bytes from a place on, as far as the text reaches; the place after them.
 pub fn put_all(text: &mut [u8], at: usize, bytes: &[u8]) -> usize
     requires { ⌜ at + length (now bytes) ≤ places ⌝ }
@@ -87,7 +78,7 @@ pub fn put_all(text: &mut [u8], at: usize, bytes: &[u8]) -> usize
 {
     let mut i = 0;
     while i < bytes.len() {
-        put(text, at + i, bytes[i]);
+        recording::put_byte(text, at + i, bytes[i]);
         i += 1;
     }
     at + i
@@ -112,7 +103,7 @@ fn put_digit(text: &mut [u8], at: usize, value: u32, n: u32) -> usize
     if n < value {
         return at;
     }
-    put(text, at, (48 + n / value % 10) as u8);
+    recording::put_byte(text, at, (48 + n / value % 10) as u8);
     at + 1
 }
 
@@ -126,7 +117,7 @@ pub fn put_number(text: &mut [u8], at: usize, n: u32) -> usize
     let c = put_digit(text, b, 1000, n);
     let d = put_digit(text, c, 100, n);
     let e = put_digit(text, d, 10, n);
-    put(text, e, (48 + n % 10) as u8);
+    recording::put_byte(text, e, (48 + n % 10) as u8);
     e + 1
 }
 

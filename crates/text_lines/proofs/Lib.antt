@@ -1,3 +1,2 @@
-pub mod Slices
 pub mod Bytes
 pub mod Lines

@@ -16,7 +16,7 @@ use Rattle.text_lines.specs.declared.Line.the-variants as line
 use Rattle.text_lines.specs.declared.Stage.{Stage}
 use Rattle.text_lines.specs.declared.Found.{Found}
 use Rattle.text_lines.specs.declared.Progress.{Progress}
-use Rattle.text_lines.proofs.Slices.{part-rest}
+use Rattle.recording.proofs.Slices.{part-rest}
 
 pub line-within : (t : List ℕ) → lineLength t ≤ length t
 unfolding lineLength

@@ -2,7 +2,7 @@
 // specs/.
 ghost use mathlib.Core.Path.{_≡_};
 ghost use Prim.Native.Nat.{_≤_, _<_};
-ghost use lib.ListN.{length, set};
+ghost use lib.ListN.{length};
 ghost use lib.Seq.{sets};
 ghost use Rattle.recording.specs.Words.{activities, wordOf};
 ghost use Rattle.text_lines.specs.Form.{runName, runAtMost};
@@ -289,15 +289,6 @@ fn words_in(line: Line) -> usize
     }
 }
 
-// A word at a place, where the words reach that far.
-fn put_word(words: &mut [u32], at: usize, word: u32)
-    ensures { λ _. ⌜ now (words .exit) ≡ set (now (words .entry)) at word ⌝ }
-{
-    if at < words.len() {
-        words[at] = word;
-    }
-}
-
 // A line's word, if it has one, at a place.
 fn put_line(words: &mut [u32], at: usize, line: Line)
     ensures { λ _. ⌜ now (words .exit) ≡ sets (now (words .entry)) at (wordsIn line) ⌝ }
@@ -306,7 +297,7 @@ fn put_line(words: &mut [u32], at: usize, line: Line)
         Line::Recording => (),
         Line::Week => (),
         Line::Closing => (),
-        Line::Run(word) => put_word(words, at, word),
+        Line::Run(word) => recording::put_word(words, at, word),
         Line::Other => (),
     }
 }

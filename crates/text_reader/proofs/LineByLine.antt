@@ -13,7 +13,7 @@ use Rattle.text_lines.specs.LineByLine.{begun, LineRead, Through}
 use Rattle.text_lines.specs.declared.Stage.the-variants as stage
 use Rattle.text_lines.specs.declared.Progress.{Progress}
 use Rattle.text_lines.proofs.Lines.{few-words}
-use Rattle.text_lines.proofs.Slices.{sets-append}
+use Rattle.recording.proofs.Slices.{sets-append}
 
 -- after the lines so far
 pub record Left (text old : List ℕ) (p : Progress) (words : List ℕ) : Type 0 where

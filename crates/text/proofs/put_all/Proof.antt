@@ -25,7 +25,7 @@ loop-again c =
       omega arith,
       turn .loop .inv .1 ∙ put-on (turn .loop .text)
           (start .args .bytes .now) (start .args .at)
-          (turn .loop .i) (omega arith) (c .before .before .put .ensures),
+          (turn .loop .i) (omega arith) (c .before .before .put-byte .ensures),
     )
 
 same-length : tie.Need-same-length Inv-loop μ-loop

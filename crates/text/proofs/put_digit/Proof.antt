@@ -8,7 +8,7 @@ returns : tie.Need-returns
 returns c = (digit-none _ _ _ _ (c .if1 .taken), search needs)
 
 returns-2 : tie.Need-returns-2
-returns-2 c = (digit-put _ _ _ _ (c .before .before .before .before .if1 .left) (c .before .before .put .ensures), search needs)
+returns-2 c = (digit-put _ _ _ _ (c .before .before .before .before .if1 .left) (c .before .before .put-byte .ensures), search needs)
 
 pub put-digit-spec : {M : Type 1} → statement M
 put-digit-spec =

@@ -16,7 +16,7 @@ returns c =
     let first = second .before .before .before .before in
     let three = put-then (put-then (first .put-digit .ensures .0) (second .put-digit2 .ensures .0)) (third .put-digit3 .ensures .0) in
     let five = put-then (put-then three (fourth .put-digit4 .ensures .0)) (fifth .put-digit5 .ensures .0) in
-    (put-then five (record { next-is = refl; text-is = c .before .before .put .ensures }), search needs)
+    (put-then five (record { next-is = refl; text-is = c .before .before .put-byte .ensures }), search needs)
 
 pub put-number-spec : {M : Type 1} → statement M
 put-number-spec =

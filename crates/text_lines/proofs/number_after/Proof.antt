@@ -5,7 +5,7 @@ use native.Mathlib.Omega.{arith}
 use lib.ListN.{length, take, drop}
 use Rattle.text_lines.specs.Reading.{numberFrom, numberAfter}
 use Rattle.text_lines.proofs.Bytes.{after-short, after-other, after-on, after-done}
-use Rattle.text_lines.proofs.Slices.{part-rest}
+use Rattle.recording.proofs.Slices.{part-rest}
 use borrow.Author.Needs.{needs}
 use Rattle.text_lines.proofs.number_after.Statement.{statement}
 use Rattle.text_lines.proofs.number_after.Tie as tie

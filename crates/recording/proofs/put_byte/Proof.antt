@@ -1,15 +1,15 @@
--- `text::put` meets its contract. Assumes nothing.
+-- `recording::put_byte` meets its contract. Assumes nothing.
 use mathlib.Core.Path.{sym}
 use lib.Seq.{set-out}
 use borrow.Author.Needs.{needs}
-use Rattle.text.proofs.put.Statement.{statement}
-use Rattle.text.proofs.put.Tie as tie
+use Rattle.recording.proofs.put_byte.Statement.{statement}
+use Rattle.recording.proofs.put_byte.Tie as tie
 
 returns-2 : tie.Need-returns-2
 returns-2 c = sym (set-out _ _ _ (c .if1 .left))
 
-pub put-spec : {M : Type 1} → statement M
-put-spec =
+pub put-byte-spec : {M : Type 1} → statement M
+put-byte-spec =
     tie.close
     (tie.spec
     (λ c. search needs)

@@ -1,9 +1,9 @@
--- `text_lines::put_word` meets its contract. Assumes nothing.
+-- `recording::put_word` meets its contract. Assumes nothing.
 use mathlib.Core.Path.{sym}
 use lib.Seq.{set-out}
 use borrow.Author.Needs.{needs}
-use Rattle.text_lines.proofs.put_word.Statement.{statement}
-use Rattle.text_lines.proofs.put_word.Tie as tie
+use Rattle.recording.proofs.put_word.Statement.{statement}
+use Rattle.recording.proofs.put_word.Tie as tie
 
 returns-2 : tie.Need-returns-2
 returns-2 c = sym (set-out _ _ _ (c .if1 .left))
