@@ -9,7 +9,7 @@ use lib.Dec.{eqb, ltb}
 use lib.Arith.{digits-div, digits-mod}
 use lib.ListN.{length, take, drop}
 use borrow.Author.Tests.{lt-ltb, le-ltb}
-use Rattle.recording.specs.Tests.{pick, _or_}
+use Rattle.recording.specs.Tests.{pick, _or_, anyOf}
 use Rattle.recording.specs.Answers.{Answer, refused, answered, andThen, refuseIf, counted}
 use Rattle.recording.specs.Words.{minutesIn, minutesOf}
 use Rattle.recording.specs.Days.{days, drivingIn}
@@ -28,6 +28,9 @@ use Rattle.rules.specs.Operations.{Outcome, passed, breached, outcomeOf, outcom
 use Rattle.rules.proofs.EntryLaws.{first-size}
 use Rattle.text_lines.specs.Reading.{linesIn, wordsOf, isText, textRead}
 use Rattle.text.specs.Writing.{textOfMinutes, textWritten}
+use Rattle.card.specs.Reading.{changesIn, isUnknown, isDayRecord, cardRead}
+use Rattle.card.specs.Reading as card
+use Rattle.card.specs.Writing.{recordOfMinutes, isWholeDays, cardWritten}
 use Rattle.interface.specs.Codes.{answerUnit, judgedUnit, countUnit, articleUnit, codeOf, itself, measureValue, outcomeValue, entryPlace, entryCode, answerIn, measureIn, outcomeIn}
 
 -- ---- an answer whose refusal, if it is one, is below the unit
@@ -117,9 +120,22 @@ module _ (ws : List ℕ) where
   unfolding textWritten
   write-back room = count-back (told-counted (told-then (told-measured ws) (λ _. told-if (ltb room (length (textOfMinutes (minutesOf ws)))) (omega arith) (by-value _))))
 
+  pub write-card-back : (room : ℕ) → answerIn itself (codeOf itself (counted (cardWritten ws room))) ≡ counted (cardWritten ws room)
+  unfolding cardWritten
+  write-card-back room =
+      count-back (told-counted (told-then (told-measured ws) (λ _.
+      told-if (not (isWholeDays (minutesOf ws))) (omega arith) (told-if (ltb room (length (recordOfMinutes (minutesOf ws)))) (omega arith) (by-value _)))))
+
 pub read-text-back : (text : List ℕ) (room : ℕ) → answerIn itself (codeOf itself (counted (textRead text room))) ≡ counted (textRead text room)
 unfolding textRead
 read-text-back text room = count-back (told-counted (told-if (not (isText text)) (omega arith) (told-if (ltb room (length (wordsOf (linesIn text)))) (omega arith) (by-value _))))
+
+pub read-card-back : (bytes : List ℕ) (room : ℕ) → answerIn itself (codeOf itself (counted (cardRead bytes room))) ≡ counted (cardRead bytes room)
+unfolding cardRead
+read-card-back bytes room =
+    count-back (told-counted (told-if (not (isDayRecord bytes)) (omega arith) (told-if (anyOf isUnknown (changesIn bytes)) (omega arith)
+    (told-if (ltb totalAtMost (length (minutesOf (card.wordsOf (changesIn bytes))))) (omega arith)
+    (told-if (ltb room (length (card.wordsOf (changesIn bytes)))) (omega arith) (by-value _))))))
 
 -- ---- the entry of a reading: the three bytes from its place on
 module _ (reading : List ℕ) (number : ℕ) where

@@ -12,6 +12,8 @@ ghost use Rattle.rules_fixed.specs.Tested.{tested};
 ghost use Rattle.rules.specs.Operations.{fixedTested, readingTested, entryAt, entryRefusal, verdictGiven, outcome, readingAfter};
 ghost use Rattle.text_lines.specs.Reading.{textRead};
 ghost use Rattle.text.specs.Writing.{textWritten};
+ghost use Rattle.card.specs.Reading.{cardRead};
+ghost use Rattle.card.specs.Writing.{cardWritten};
 ghost use Rattle.verdict.specs.Outcomes.{outcomeBy};
 ghost use Rattle.interface.specs.Codes.{codeOf, itself, measureValue, outcomeValue, entryCode};
 
@@ -132,6 +134,24 @@ pub extern "C" fn desk_write_text(words: &[u32], text: &mut [u8]) -> u64
     ensures { λ r. ⌜ now (text .exit) ≡ filled (textWritten (now (words .entry)) (length (now (text .entry)))) (now (text .entry)) ⌝ }
 {
     count_code(text::write_text(words, text))
+}
+
+// Reading a card's day record: a refusal's number; or ANSWER and the count of words.
+#[no_mangle]
+pub extern "C" fn desk_read_card(bytes: &[u8], words: &mut [u32]) -> u64
+    ensures { λ r. ⌜ r ≡ codeOf itself (counted (cardRead (now (bytes .entry)) (length (now (words .entry))))) ⌝ }
+    ensures { λ r. ⌜ now (words .exit) ≡ filled (cardRead (now (bytes .entry)) (length (now (words .entry)))) (now (words .entry)) ⌝ }
+{
+    count_code(card::read_card(bytes, words))
+}
+
+// Writing a card's day record: a refusal's number; or ANSWER and the count of bytes.
+#[no_mangle]
+pub extern "C" fn desk_write_card(words: &[u32], bytes: &mut [u8]) -> u64
+    ensures { λ r. ⌜ r ≡ codeOf itself (counted (cardWritten (now (words .entry)) (length (now (bytes .entry))))) ⌝ }
+    ensures { λ r. ⌜ now (bytes .exit) ≡ filled (cardWritten (now (words .entry)) (length (now (bytes .entry)))) (now (bytes .entry)) ⌝ }
+{
+    count_code(card::write_card(words, bytes))
 }
 
 // The verdict: a refusal's number; ANSWER and the count of bytes of the reading; or 2 × ANSWER, 8 × the minute and the article.
