@@ -1,5 +1,6 @@
 -- What each answer prints: of the verdict, of the reading of a text, and of a page that is handed over. Assumes nothing.
 use mathlib.Core.Path.{_≡_, refl, sym, ap, _∙_}
+use mathlib.Core.Bool.{Bool, true, false}
 use mathlib.Core.List.{List, [], _∷_}
 use mathlib.Core.Option.{Option, none, some}
 use Prim.Native.Nat.{ℕ, zero, suc, _*_, _≤_, _<_}
@@ -7,10 +8,12 @@ use native.Mathlib.Omega.{arith}
 use lib.ListN.{length, take, drop, replicate, length-append, length-take, length-replicate}
 use lib.Seq.{take-at}
 use borrow.Author.Tests.{lt-ltb, le-ltb}
-use Rattle.recording.specs.Answers.{Answer, refused, answered, counted, filled}
+use Rattle.recording.specs.Answers.{Answer, refused, answered, andThen, counted, filled}
 use Rattle.recording.specs.Words.{minutesOf}
 use Rattle.recording.specs.Rests.{longRests, longRestsAtMost}
-use Rattle.recording.specs.Operations.{totalAtMost, measured}
+use Rattle.recording.specs.Operations.{totalAtMost, measured, written}
+use Rattle.recording.specs.declared.Filling.{Filling}
+use Rattle.recording.specs.declared.Filling.the-variants as filling
 use Rattle.recording.specs.declared.Measure.{Measure}
 use Rattle.recording.proofs.LongRests.{few-rests}
 use Rattle.recording.proofs.Listing.{measured-is}
@@ -22,13 +25,14 @@ use Rattle.rules.proofs.Breach.{first-sound}
 use Rattle.text.specs.Passes.{Put}
 use Rattle.text_lines.specs.Reading.{textRead}
 use Rattle.recording.proofs.Slices.{put-in-front}
-use Rattle.desk_report.specs.Printed.{answerText, verdictText, inputAtMost, inputRead, deskText, intoRoom}
-use Rattle.desk_report.specs.Composing.{pageAtMost, runLineBytes, refusalPage, pageOf, Read}
+use Rattle.card.specs.Reading.{cardRead}
+use Rattle.desk_report.specs.Printed.{answerText, printed, wordsAnswered, verdictText, inputAtMost, unlessOver, inputRead, deskText, cardInputRead, cardText, intoRoom}
+use Rattle.desk_report.specs.Composing.{pageAtMost, runLineBytes, changeBytes, refusalPage, pageOf, Read, Within, refusal, front, readText, inputText}
 use Rattle.desk_report.proofs.Pages.{refusal-size, page-size}
-use Rattle.desk_report.proofs.Room.{room-same}
+use Rattle.desk_report.proofs.Room.{room-same, card-room-same}
 
 -- a buffer before anything is written into it
-abbrev blank : ℕ → List ℕ
+abbrev pub blank : ℕ → List ℕ
 blank n = replicate n 0
 
 -- ---- the verdict
@@ -135,62 +139,107 @@ verdict-size ws = at (measured ws) refl
     at (refused n) q = omega (arith, ap length (text-refused ws q), refusal-size n)
     at (answered k) q = omega (arith, ap length (text-is ws {v = verdict (minutesOf ws)} q refl), page-size (minutesOf ws) (verdict (minutesOf ws)) (measured-is ws q .within))
 
--- ---- the reading of a text
+-- ---- the reading of an input, of a text or of a day record
+printed-refused : {read : Answer (List ℕ)} {n : ℕ} → read ≡ refused n → printed (andThen read wordsAnswered) ≡ refusalPage n
+printed-refused q = rw q refl
+
+printed-words : {read : Answer (List ℕ)} {ws : List ℕ} → read ≡ answered ws → printed (andThen read wordsAnswered) ≡ verdictText ws
+unfolding verdictText
+printed-words q = rw q refl
+
+printed-size : (read : Answer (List ℕ)) → length (printed (andThen read wordsAnswered)) ≤ pageAtMost
+unfolding verdictText
+printed-size (refused n) = refusal-size n
+printed-size (answered ws) = verdict-size ws
+
+-- what is printed after more than the most bytes
+over : (input : List ℕ) (read : Answer (List ℕ)) → inputAtMost < length input → unlessOver input read ≡ refused 9
+over input read h = rw (lt-ltb inputAtMost (length input) h) refl
+
+not-over : (input : List ℕ) (read : Answer (List ℕ)) → length input ≤ inputAtMost → unlessOver input read ≡ read
+not-over input read h = rw (le-ltb inputAtMost (length input) h) refl
+
+-- what an operation left in lent words, and the number that it told
+module _ (read : Answer (List ℕ)) (lent : ℕ) (f : Filling) {new : List ℕ} (told : written f ≡ counted read) (left : new ≡ filled read (blank lent)) where
+  pub within-words : Within f new
+  within-words = at f read told left
+    where
+      at : (f : Filling) (a : Answer (List ℕ)) → written f ≡ counted a → new ≡ filled a (blank lent) → Within f new
+      at (filling.Refused n) a e b = refusal
+      at (filling.Written n) (refused m) e b = let z : _≡_ {A = ℕ} 0 1 = cc in absurd (omega arith)
+      at (filling.Written n) (answered ws) e b = let z : n ≡ length ws = cc in front {n = n} {words = new} (omega (arith, ap length b, length-append ws (drop (length ws) (blank lent))))
+
+  pub read-printed : printed (andThen read wordsAnswered) ≡ readText (written f) new
+  unfolding readText
+  read-printed = at f read told left
+    where
+      at : (f : Filling) (a : Answer (List ℕ)) → written f ≡ counted a → new ≡ filled a (blank lent) → printed (andThen a wordsAnswered) ≡ readText (written f) new
+      at (filling.Refused n) (refused m) e b = let z : m ≡ n = cc in ap refusalPage z
+      at (filling.Refused n) (answered ws) e b = let z : _≡_ {A = ℕ} 0 1 = cc in absurd (omega arith)
+      at (filling.Written n) (refused m) e b = let z : _≡_ {A = ℕ} 0 1 = cc in absurd (omega arith)
+      at (filling.Written n) (answered ws) e b =
+          let z : n ≡ length ws = cc in
+          let t : take n new ≡ ws = ap (take n) b ∙ take-at ws (drop (length ws) (blank lent)) n (sym z) in
+          printed-words refl ∙ ap verdictText (sym t)
+
+pub front-within : {n : ℕ} {words : List ℕ} → Within (filling.Written n) words → n ≤ length words
+front-within (front h) = h
+
 pub desk-refused : (text : List ℕ) {n : ℕ} → inputRead text ≡ refused n → deskText text ≡ refusalPage n
 unfolding deskText
-desk-refused text q = rw q refl
+desk-refused text q = printed-refused q
 
 pub desk-words : (text : List ℕ) {ws : List ℕ} → inputRead text ≡ answered ws → deskText text ≡ verdictText ws
-unfolding deskText verdictText
-desk-words text q = rw q refl
-
-pub desk-size : (text : List ℕ) → length (deskText text) ≤ pageAtMost
-desk-size text = at (inputRead text) refl
-  where
-    at : (a : Answer (List ℕ)) → inputRead text ≡ a → length (deskText text) ≤ pageAtMost
-    at (refused n) q = omega (arith, ap length (desk-refused text q), refusal-size n)
-    at (answered ws) q = omega (arith, ap length (desk-words text q), verdict-size ws)
+unfolding deskText
+desk-words text q = printed-words q
 
 pub desk-over : (text : List ℕ) → inputAtMost < length text → deskText text ≡ refusalPage 9
 unfolding inputRead
-desk-over text h = desk-refused text (rw (lt-ltb inputAtMost (length text) h) refl)
+desk-over text h = desk-refused text (over text (textRead text (length text)) h)
 
-pub record Worded (input : List ℕ) (n : ℕ) (new : List ℕ) : Type 0 where
-  pub few : n ≤ length new
-  pub size : n ≡ length (take n new)
-  pub text : deskText input ≡ verdictText (take n new)
+pub card-refused : (bytes : List ℕ) {n : ℕ} → cardInputRead bytes ≡ refused n → cardText bytes ≡ refusalPage n
+unfolding cardText
+card-refused bytes q = printed-refused q
 
-module _ (text : List ℕ) (lent : ℕ) (within : length text ≤ inputAtMost) (room : inputAtMost ≤ runLineBytes * lent) where
-  -- the words that are lent are enough
-  input-is : inputRead text ≡ textRead text (length (blank lent))
-  unfolding inputRead
-  input-is = rw (le-ltb inputAtMost (length text) within) (room-same text (length text) (length (blank lent)) (omega arith) (omega (arith, length-replicate lent zero)))
+pub card-words : (bytes : List ℕ) {ws : List ℕ} → cardInputRead bytes ≡ answered ws → cardText bytes ≡ verdictText ws
+unfolding cardText
+card-words bytes q = printed-words q
 
-  pub read-refused : {n : ℕ} → refused n ≡ counted (textRead text (length (blank lent))) → deskText text ≡ refusalPage n
-  read-refused {n} e = at (textRead text (length (blank lent))) refl e
-    where
-      at : (a : Answer (List ℕ)) → textRead text (length (blank lent)) ≡ a → refused n ≡ counted a → deskText text ≡ refusalPage n
-      at (refused m) q e = let z : m ≡ n = cc in desk-refused text (input-is ∙ q) ∙ ap refusalPage z
-      at (answered ws) q e = let z : _≡_ {A = ℕ} 0 1 = cc in absurd (omega arith)
+pub card-over : (bytes : List ℕ) → inputAtMost < length bytes → cardText bytes ≡ refusalPage 9
+unfolding cardInputRead
+card-over bytes h = card-refused bytes (over bytes (cardRead bytes (length bytes)) h)
 
-  pub read-words : {n : ℕ} {new : List ℕ} → answered n ≡ counted (textRead text (length (blank lent))) → new ≡ filled (textRead text (length (blank lent))) (blank lent) → Worded text n new
-  read-words {n} {new} e b = at (textRead text (length (blank lent))) refl e b
-    where
-      at : (a : Answer (List ℕ)) → textRead text (length (blank lent)) ≡ a → answered n ≡ counted a → new ≡ filled a (blank lent) → Worded text n new
-      at (refused m) q e b = let z : _≡_ {A = ℕ} 0 1 = cc in absurd (omega arith)
-      at (answered ws) q e b =
-          let z : n ≡ length ws = cc in
-          let t : take n new ≡ ws = ap (take n) b ∙ take-at ws (drop (length ws) (blank lent)) n (sym z) in
-          record {
-            few = omega (arith, ap length b, length-append ws (drop (length ws) (blank lent)));
-            size = z ∙ ap length (sym t);
-            text = desk-words text (input-is ∙ q) ∙ ap verdictText (sym t);
-          }
+pub input-over : (card : Bool) (input : List ℕ) → inputAtMost < length input → inputText card input ≡ refusalPage 9
+input-over true input h = card-over input h
+input-over false input h = desk-over input h
+
+pub input-size : (card : Bool) (input : List ℕ) → length (inputText card input) ≤ pageAtMost
+unfolding deskText cardText
+input-size true input = printed-size (cardInputRead input)
+input-size false input = printed-size (inputRead input)
+
+-- the words that are lent are enough, for a text and for a day record
+module _ (input : List ℕ) (lent : ℕ) (within : length input ≤ inputAtMost) where
+  pub desk-read : inputAtMost ≤ runLineBytes * lent → (f : Filling) {new : List ℕ} → written f ≡ counted (textRead input (length (blank lent)))
+      → new ≡ filled (textRead input (length (blank lent))) (blank lent) → deskText input ≡ readText (written f) new
+  unfolding deskText inputRead
+  desk-read room f told left =
+      ap (λ (a : Answer (List ℕ)). printed (andThen a wordsAnswered)) (not-over input (textRead input (length input)) within
+      ∙ room-same input (length input) (length (blank lent)) (omega arith) (omega (arith, length-replicate lent zero)))
+      ∙ read-printed (textRead input (length (blank lent))) lent f told left
+
+  pub card-read : inputAtMost ≤ changeBytes * lent → (f : Filling) {new : List ℕ} → written f ≡ counted (cardRead input (length (blank lent)))
+      → new ≡ filled (cardRead input (length (blank lent))) (blank lent) → cardText input ≡ readText (written f) new
+  unfolding cardText cardInputRead
+  card-read room f told left =
+      ap (λ (a : Answer (List ℕ)). printed (andThen a wordsAnswered)) (not-over input (cardRead input (length input)) within
+      ∙ card-room-same input (length input) (length (blank lent)) (omega arith) (omega (arith, length-replicate lent zero)))
+      ∙ read-printed (cardRead input (length (blank lent))) lent f told left
 
 -- ---- a page that is handed over; the bytes that are enough for whatever is printed
-pub desk-fits : (text : List ℕ) (room : ℕ) → pageAtMost ≤ room → intoRoom (deskText text) room ≡ answered (deskText text)
+pub input-fits : (card : Bool) (input : List ℕ) (room : ℕ) → pageAtMost ≤ room → intoRoom (inputText card input) room ≡ answered (inputText card input)
 unfolding intoRoom
-desk-fits text room h = rw (le-ltb room (length (deskText text)) (omega (arith, desk-size text))) refl
+input-fits card input room h = rw (le-ltb room (length (inputText card input)) (omega (arith, input-size card input))) refl
 
 module _ (page out : List ℕ) where
   pub record Handed (told : Answer ℕ) (new : List ℕ) : Type 0 where

@@ -1,4 +1,4 @@
--- A run line has at least nine bytes, so a text has no more run lines than a ninth of its bytes. Assumes nothing.
+-- A run line has at least nine bytes, so a text has no more run lines than a ninth of its bytes; and a change has two. Assumes nothing.
 use mathlib.Core.Path.{_≡_, refl}
 use mathlib.Core.Bool.{Bool, true, false}
 use mathlib.Core.List.{List, [], _∷_, _++_}
@@ -13,7 +13,10 @@ use Rattle.text_lines.specs.Form.{lineEnd, recordingLine, weekLine, closing, cl
 use Rattle.text_lines.specs.Reading.{same, isDigit, withDigit, inRange, numberFrom, numberAfter, runOr, runOrOther, lineOf, linesFrom, linesIn, wordsIn, wordsOf, textRead}
 use Rattle.text_lines.specs.declared.Line.{Line}
 use Rattle.text_lines.specs.declared.Line.the-variants as line
-use Rattle.desk_report.specs.Composing.{runLineBytes}
+use Rattle.card.specs.Reading.{changesIn, cardRead}
+use Rattle.card.specs.Reading as card
+use Rattle.card.proofs.Judging.{words-are}
+use Rattle.desk_report.specs.Composing.{runLineBytes, changeBytes}
 
 -- the end of a line that holds a number has a digit and a bracket
 one-byte : (b : ℕ) → numberFrom 0 (b ∷ []) ≡ 0
@@ -104,3 +107,10 @@ pub room-same : (text : List ℕ) (room more : ℕ) → length text ≤ runLineB
 unfolding textRead
 room-same text room more h k =
     rw (le-ltb room (length (wordsOf (linesIn text))) (omega (arith, runs-within text)), le-ltb more (length (wordsOf (linesIn text))) (omega (arith, runs-within text)))
+
+-- ---- a change has two bytes
+pub card-room-same : (bytes : List ℕ) (room more : ℕ) → length bytes ≤ changeBytes * room → length bytes ≤ changeBytes * more → cardRead bytes room ≡ cardRead bytes more
+unfolding cardRead
+card-room-same bytes room more h k =
+    let n = words-are bytes in
+    rw (le-ltb room (length (card.wordsOf (changesIn bytes))) (omega (arith, n)), le-ltb more (length (card.wordsOf (changesIn bytes))) (omega (arith, n)))

@@ -17,9 +17,10 @@ use Rattle.rules.proofs.OnlyDaily.{allDaily, daily-first}
 use Rattle.rules.proofs.Cases.{Case, passes, Says, AllSay, starred, worked, on-the-edge, d, w, r, times, daily, weekly}
 use Rattle.text_lines.specs.Form.{runName, digitAt, decimal, lineText, textOfLines, runsThen, weeksThenEnd, textOf}
 use Rattle.text_lines.specs.Reading.{same, numberFrom, numberAfter, runOr, lineOf, linesFrom, stageAfter, stageFrom, isText, wordsOf, textRead}
+use Rattle.card.specs.Reading as card
 use Rattle.desk_report.specs.Printed.{asLine, closed, verdictName, minutesName, judgedName, readingName, dailyName, weeklyName, breachName, refusedName, numbered, spanText, dailyText}
-use Rattle.desk_report.specs.Printed.{weeklyText, restText, restsText, articleText, breachText, findingText, bracketed, verdictText, inputRead, deskText}
-use Rattle.desk_report.proofs.Answered.{text-is, text-refused, desk-words, desk-over}
+use Rattle.desk_report.specs.Printed.{weeklyText, restText, restsText, articleText, breachText, findingText, bracketed, verdictText, inputRead, deskText, cardInputRead, cardText}
+use Rattle.desk_report.proofs.Answered.{text-is, text-refused, desk-words, desk-over, card-words, card-over}
 
 -- ---- the document's own case
 abbrev paperWords : List ℕ
@@ -48,6 +49,28 @@ pub paper-printed : deskText paperText
     ++ (dailyName ++ 32 ∷ 50 ∷ 52 ∷ 48 ∷ 32 ∷ 57 ∷ 48 ∷ 48 ∷ closed) ++ closed ++ closed
 unfolding recording.opened digitAt decimal numbered spanText dailyText restText restsText
 paper-printed = desk-words paperText paper-read ∙ text-is paperWords (weighed paperWords refl) paper-pass
+
+-- ---- a card's day of the same kind: driving at minute 0, rest at 240, other work at 900
+abbrev cardWords : List ℕ
+cardWords = d 240 ∷ r 660 ∷ w 540 ∷ []
+
+abbrev cardBytes : List ℕ
+cardBytes = 24 ∷ 0 ∷ 0 ∷ 240 ∷ 19 ∷ 132 ∷ []
+
+card-taken : cardInputRead cardBytes ≡ answered cardWords
+unfolding recording.opened cardInputRead card.changesIn card.isUnknown card.follows card.allFollow card.inOrder card.isEven card.isDayRecord card.endBefore card.wordsOf card.cardRead
+card-taken = refl
+
+card-pass : verdict (minutesOf cardWords) ≡ pass (0 ∷ 0 ∷ 0 ∷ [])
+unfolding recording.opened rules.opened
+card-pass = verdict-pass (minutesOf cardWords) (allDaily (minutesOf cardWords)) (daily-first (minutesOf cardWords) refl)
+
+-- `(verdict`, `(minutes 1440)`, `(judged 1440)`, `(reading`, `(daily 240 900)`, `)`, `)`
+pub card-printed : cardText cardBytes
+    ≡ asLine verdictName ++ (minutesName ++ 32 ∷ 49 ∷ 52 ∷ 52 ∷ 48 ∷ closed) ++ (judgedName ++ 32 ∷ 49 ∷ 52 ∷ 52 ∷ 48 ∷ closed) ++ asLine readingName
+    ++ (dailyName ++ 32 ∷ 50 ∷ 52 ∷ 48 ∷ 32 ∷ 57 ∷ 48 ∷ 48 ∷ closed) ++ closed ++ closed
+unfolding recording.opened digitAt decimal numbered spanText dailyText restText restsText
+card-printed = card-words cardBytes card-taken ∙ text-is cardWords (weighed cardWords refl) card-pass
 
 -- ---- breaches: the verdicts of the cases "On the edge", by their number from 0
 abbrev caseAt : List Case → ℕ → Case
@@ -131,6 +154,21 @@ forms = record {
   too-long = text-refused _ refl;
   no-text = refl;
   long-text = λ byte. desk-over (replicate 65537 byte) (omega (arith, length-replicate 65537 byte));
+}
+
+pub record CardForms : Type 0 where
+  -- a day record with an odd count, one with an unknown activity, and one of 65,537 bytes
+  odd-record : cardText (0 ∷ []) ≡ asLine verdictName ++ (refusedName ++ 32 ∷ 49 ∷ 49 ∷ closed) ++ closed
+  unknown-record : cardText (32 ∷ 0 ∷ []) ≡ asLine verdictName ++ (refusedName ++ 32 ∷ 49 ∷ 50 ∷ closed) ++ closed
+  long-record : (byte : ℕ) → cardText (replicate 65537 byte) ≡ refusedPage 57
+
+pub card-forms : CardForms
+unfolding recording.opened digitAt decimal numbered cardText cardInputRead
+    card.changesIn card.isUnknown card.follows card.allFollow card.inOrder card.isEven card.isDayRecord card.endBefore card.wordsOf card.cardRead
+card-forms = record {
+  odd-record = refl;
+  unknown-record = refl;
+  long-record = λ byte. card-over (replicate 65537 byte) (omega (arith, length-replicate 65537 byte));
 }
 
 -- ---- numbers at their edges

@@ -1,16 +1,20 @@
 -- Inner: what the functions of this layer answer. Nobody has to believe it: no public contract cites it.
 -- Assumes nothing.
 use mathlib.Core.Path.{_≡_}
+use mathlib.Core.Bool.{Bool, true, false}
 use mathlib.Core.List.{List, [], _∷_, _++_}
 use Prim.Native.Nat.{ℕ, _+_, _*_, _≤_}
-use lib.ListN.{length, drop, getD}
+use lib.ListN.{length, take, drop, getD}
 use Rattle.recording.specs.Words.{minutesOf}
 use Rattle.recording.specs.Rests.{longRestsAtMost}
 use Rattle.recording.specs.Operations.{totalAtMost}
 use Rattle.rules.specs.Reading.{entryBytes, readingSize}
 use Rattle.rules.specs.Verdict.{Verdict}
 use Rattle.text.specs.Passes.{roomy}
-use Rattle.desk_report.specs.Printed.{asLine, verdictName, minutesName, judgedName, readingName, refusedName, numbered, restText, findingText, bracketed}
+use Rattle.recording.specs.Answers.{Answer, refused, answered}
+use Rattle.recording.specs.declared.Filling.{Filling}
+use Rattle.recording.specs.declared.Filling.the-variants as filling
+use Rattle.desk_report.specs.Printed.{verdictText, deskText, cardText, asLine, verdictName, minutesName, judgedName, readingName, refusedName, numbered, restText, findingText, bracketed}
 
 -- the bytes that are enough for whatever is printed, and for a line
 abbrev pub pageAtMost : ℕ
@@ -23,9 +27,16 @@ lineAtMost = 37
 abbrev pub runLineBytes : ℕ
 runLineBytes = 9
 
--- the words that are lent, and the bytes for the reading
+-- the bytes of a change
+abbrev pub changeBytes : ℕ
+changeBytes = 2
+
+-- the words that are lent for a text and for a day record, and the bytes for the reading
 abbrev pub textWords : ℕ
 textWords = 7282
+
+abbrev pub cardWords : ℕ
+cardWords = 32768
 
 abbrev pub readingRoom : ℕ
 readingRoom = entryBytes * longRestsAtMost
@@ -55,3 +66,17 @@ passHead total judged = asLine verdictName ++ numbered minutesName total ++ numb
 pub record Read (words reading : List ℕ) : Type 0 where
   pub within : length (minutesOf words) ≤ totalAtMost
   pub size : length reading ≡ readingSize (minutesOf words)
+
+-- ---- what reading an input answered, over words that hold what it wrote
+pub data Within : Filling → List ℕ → Type 0 where
+  refusal : {n : ℕ} {words : List ℕ} → Within (filling.Refused n) words
+  front : {n : ℕ} {words : List ℕ} → n ≤ length words → Within (filling.Written n) words
+
+unfoldable pub readText : Answer ℕ → List ℕ → List ℕ
+readText (refused n) words = refusalPage n
+readText (answered n) words = verdictText (take n words)
+
+-- what is printed for an input that is a card's day record, or a text
+abbrev pub inputText : Bool → List ℕ → List ℕ
+inputText true input = cardText input
+inputText false input = deskText input

@@ -1,4 +1,4 @@
--- Public: document 01, "Bracket text", what the desk program prints.
+-- Public: document 01, "Bracket text", what the desk program prints; and document 02, request 1, what it prints for a card's day record.
 -- Assumes nothing.
 use mathlib.Core.List.{List, [], _∷_, _++_}
 use Prim.Native.Nat.{ℕ}
@@ -14,6 +14,7 @@ use Rattle.rules.specs.Reading.{weeklyKind, entryBytes}
 use Rattle.rules.specs.Verdict.{Verdict, pass, breach, verdict}
 use Rattle.text_lines.specs.Form.{lineEnd, closingLine, decimal}
 use Rattle.text_lines.specs.Reading.{textRead}
+use Rattle.card.specs.Reading.{cardRead}
 
 -- ---- lines, each ended by byte 10 and with no spaces but those shown
 -- `(verdict`, `(minutes`, `(judged`, `(reading`, `(daily`, `(weekly`, `(breach` and `(refused`
@@ -124,13 +125,23 @@ verdictText words = printed (wordsAnswered words)
 abbrev pub inputAtMost : ℕ
 inputAtMost = 65536
 
+abbrev pub unlessOver : List ℕ → Answer (List ℕ) → Answer (List ℕ)
+unlessOver input read = refuseIf (ltb inputAtMost (length input)) 9 read
+
 -- "It lends words enough for any text of that size": here a word for each byte.
 unfoldable pub inputRead : List ℕ → Answer (List ℕ)
-inputRead text = refuseIf (ltb inputAtMost (length text)) 9 (textRead text (length text))
+inputRead text = unlessOver text (textRead text (length text))
 
 -- what is printed for the bytes of the input
 unfoldable pub deskText : List ℕ → List ℕ
 deskText text = printed (andThen (inputRead text) wordsAnswered)
+
+-- With `--card` the input is a card's day record (document 02, request 1), and all else is the same.
+unfoldable pub cardInputRead : List ℕ → Answer (List ℕ)
+cardInputRead bytes = unlessOver bytes (cardRead bytes (length bytes))
+
+unfoldable pub cardText : List ℕ → List ℕ
+cardText bytes = printed (andThen (cardInputRead bytes) wordsAnswered)
 
 -- What is printed, composed in a buffer of `room` bytes: refusal 10, too few bytes. `counted` and `filled` of it are the result and the bytes.
 unfoldable pub intoRoom : List ℕ → ℕ → Answer (List ℕ)

@@ -9,17 +9,20 @@ ghost use Rattle.recording.specs.Words.{minutesOf};
 ghost use Rattle.recording.specs.Operations.{totalAtMost, written};
 ghost use Rattle.rules.specs.Verdict.{pass, breach};
 ghost use Rattle.text.specs.Passes.{Put, places, roomy};
-ghost use Rattle.desk_report.specs.Printed.{spaced, numbered, spanText, dailyText, weeklyText, restText, articleText, breachText, verdictText, deskText, intoRoom};
-ghost use Rattle.desk_report.specs.Composing.{pageAtMost, restsOf, Readable, refusalPage, pageOf, passHead, Read};
+ghost use Rattle.desk_report.specs.Printed.{spaced, numbered, spanText, dailyText, weeklyText, restText, articleText, breachText, verdictText, inputAtMost, deskText, cardText, intoRoom};
+ghost use Rattle.desk_report.specs.Composing.{pageAtMost, restsOf, Readable, refusalPage, pageOf, passHead, Read, Within, readText, inputText};
 
 // Bytes enough for whatever is printed.
 pub const PAGE_BYTES: usize = 8320;
 
-// The most bytes of a text that are read.
+// The most bytes of an input that are read.
 pub const INPUT_BYTES: usize = 65536;
 
 // Words enough for any text of that size: a run line has at least nine bytes.
 const TEXT_WORDS: usize = 7282;
+
+// Words enough for any day record of that size: a change has two bytes.
+const CARD_WORDS: usize = 32768;
 
 // Bytes enough for any reading: three for each long rest.
 const READING_BYTES: usize = 3 * recording::LONG_RESTS;
@@ -201,15 +204,11 @@ fn verdict_page(out: &mut [u8], words: &[u32]) -> usize
     }
 }
 
-// What is printed for a text.
-fn desk_page(out: &mut [u8], text: &[u8]) -> usize
-    ensures { λ r. ⌜ Put (now (out .entry)) 0 (deskText (now (text .entry))) r (now (out .exit)) ⌝ }
+// What is printed for what reading an input answered: the verdict on the words that it wrote, or its refusal.
+fn read_page(out: &mut [u8], answer: Filling, words: &[u32]) -> usize
+    requires { ⌜ Within answer (now words) ⌝ }
+    ensures { λ r. ⌜ Put (now (out .entry)) 0 (readText (written answer) (now (words .entry))) r (now (out .exit)) ⌝ }
 {
-    if INPUT_BYTES < text.len() {
-        return refusal_page(out, 9);
-    }
-    let mut words = [0u32; TEXT_WORDS];
-    let answer = text::read_text(text, &mut words);
     match answer {
         Filling::Refused(n) => refusal_page(out, n),
         Filling::Written(n) => {
@@ -217,6 +216,39 @@ fn desk_page(out: &mut [u8], text: &[u8]) -> usize
             verdict_page(out, &words[..count])
         }
     }
+}
+
+// What is printed for a text that is not too long.
+fn desk_page(out: &mut [u8], text: &[u8]) -> usize
+    requires { ⌜ length (now text) ≤ inputAtMost ⌝ }
+    ensures { λ r. ⌜ Put (now (out .entry)) 0 (deskText (now (text .entry))) r (now (out .exit)) ⌝ }
+{
+    let mut words = [0u32; TEXT_WORDS];
+    let answer = text::read_text(text, &mut words);
+    read_page(out, answer, &words)
+}
+
+// What is printed for a card's day record that is not too long.
+fn card_page(out: &mut [u8], bytes: &[u8]) -> usize
+    requires { ⌜ length (now bytes) ≤ inputAtMost ⌝ }
+    ensures { λ r. ⌜ Put (now (out .entry)) 0 (cardText (now (bytes .entry))) r (now (out .exit)) ⌝ }
+{
+    let mut words = [0u32; CARD_WORDS];
+    let answer = card::read_card(bytes, &mut words);
+    read_page(out, answer, &words)
+}
+
+// What is printed for an input: a card's day record, or a text.
+fn input_page(out: &mut [u8], card: bool, input: &[u8]) -> usize
+    ensures { λ r. ⌜ Put (now (out .entry)) 0 (inputText card (now (input .entry))) r (now (out .exit)) ⌝ }
+{
+    if INPUT_BYTES < input.len() {
+        return refusal_page(out, 9);
+    }
+    if card {
+        return card_page(out, input);
+    }
+    desk_page(out, input)
 }
 
 // A page into a lent buffer: 10, too few bytes; or its length.
@@ -233,13 +265,29 @@ fn hand_over(page: &[u8], out: &mut [u8]) -> Filling
     Filling::Written(n as u32)
 }
 
+// Printing what is printed for an input: 10, too few bytes; or the count of bytes written.
+fn print_input(card: bool, input: &[u8], out: &mut [u8]) -> Filling
+    ensures { λ r. ⌜ written r ≡ counted (intoRoom (inputText card (now (input .entry))) (length (now (out .entry)))) ⌝ }
+    ensures { λ r. ⌜ now (out .exit) ≡ filled (intoRoom (inputText card (now (input .entry))) (length (now (out .entry)))) (now (out .entry)) ⌝ }
+{
+    let mut page = [0u8; PAGE_BYTES];
+    let n = input_page(&mut page, card, input);
+    hand_over(&page[..n], out)
+}
+
 // Printing what the desk program prints for a text: 10, too few bytes; or the count of bytes written. `PAGE_BYTES` are always
 // enough.
 pub fn print_desk(text: &[u8], out: &mut [u8]) -> Filling
     ensures { λ r. ⌜ written r ≡ counted (intoRoom (deskText (now (text .entry))) (length (now (out .entry)))) ⌝ }
     ensures { λ r. ⌜ now (out .exit) ≡ filled (intoRoom (deskText (now (text .entry))) (length (now (out .entry)))) (now (out .entry)) ⌝ }
 {
-    let mut page = [0u8; PAGE_BYTES];
-    let n = desk_page(&mut page, text);
-    hand_over(&page[..n], out)
+    print_input(false, text, out)
+}
+
+// Printing what it prints for a card's day record, likewise.
+pub fn print_card(bytes: &[u8], out: &mut [u8]) -> Filling
+    ensures { λ r. ⌜ written r ≡ counted (intoRoom (cardText (now (bytes .entry))) (length (now (out .entry)))) ⌝ }
+    ensures { λ r. ⌜ now (out .exit) ≡ filled (intoRoom (cardText (now (bytes .entry))) (length (now (out .entry)))) (now (out .entry)) ⌝ }
+{
+    print_input(true, bytes, out)
 }
