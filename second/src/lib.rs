@@ -6,10 +6,12 @@
 //!   minute by minute; [`plain`] enumerates readings by them.
 //! * [`runs`], [`search`] and [`fast`] answer the same questions run by run,
 //!   for recordings of any size; [`stepwise`] stands in between, for tests.
-//! * [`verdict`], [`entry`], [`text`] and [`print`] are the other operations.
+//! * [`verdict`], [`entry`], [`text`], [`card`] and [`print`] are the other
+//!   operations.
 //! * [`grow`] and [`small`] make recordings to compare on, by the [`dice`];
 //!   [`fronts`] tells how wide a front they come to.
 
+pub mod card;
 pub mod dice;
 pub mod entry;
 pub mod fast;

@@ -1,13 +1,18 @@
-//! The desk program: bracket text from standard input, the verdict to standard
-//! output.
+//! The desk program: bracket text or, with the word `--card`, a card's days from
+//! standard input, the verdict to standard output.
 
+use std::env::args_os;
 use std::io::{self, Read, Write};
 
-use second::print::{print, MOST_BYTES};
+use second::print::{print, print_card, MOST_BYTES};
 
 fn main() -> io::Result<()> {
     let mut input = Vec::new();
     let enough = MOST_BYTES as u64 + 1;
     io::stdin().lock().take(enough).read_to_end(&mut input)?;
-    io::stdout().lock().write_all(print(&input).as_bytes())
+    let page = match args_os().nth(1) {
+        Some(word) if word == "--card" => print_card(&input),
+        _ => print(&input),
+    };
+    io::stdout().lock().write_all(page.as_bytes())
 }

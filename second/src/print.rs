@@ -1,5 +1,6 @@
 //! What the desk program prints.
 
+use crate::card;
 use crate::fast;
 use crate::limits::Limits;
 use crate::reading::{entries, Entry};
@@ -14,12 +15,21 @@ pub const MOST_BYTES: usize = 65_536;
 /// What the desk program prints for this input text. "It lends words enough
 /// for any text of that size."
 pub fn print(input: &[u8]) -> String {
+    page(input, |text| text::parse(text).ok_or(Refusal::TextForm))
+}
+
+/// What it prints for a card's days, with words enough for any record.
+pub fn print_card(input: &[u8]) -> String {
+    page(input, card::parse)
+}
+
+fn page(input: &[u8], read: impl Fn(&[u8]) -> Result<Vec<u32>, Refusal>) -> String {
     if input.len() > MOST_BYTES {
         return refused(Refusal::TooFewWords);
     }
-    match text::parse(input) {
-        Some(words) => judged(&words),
-        None => refused(Refusal::TextForm),
+    match read(input) {
+        Ok(words) => judged(&words),
+        Err(refusal) => refused(refusal),
     }
 }
 

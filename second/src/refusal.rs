@@ -1,4 +1,4 @@
-//! What the operations turn away, with the numbers of document 01.
+//! What the operations turn away, with the numbers of documents 01 and 02.
 
 /// A refusal; its discriminant is its number.
 #[derive(Clone, Copy, Debug, PartialEq, Eq)]
@@ -20,10 +20,15 @@ pub enum Refusal {
     EntryNumber = 7,
     /// "8, not of the form below"
     TextForm = 8,
-    /// "9, fewer words lent than run lines"
+    /// "9, fewer words lent than run lines"; "9 for words lacking"
     TooFewWords = 9,
-    /// "10, too few bytes"
+    /// "10, too few bytes"; "10 for bytes lacking"
     TooFewBytes = 10,
+    /// "11 for an odd count, a first minute other than 0, a minute over 1,439, or
+    /// a minute above 0 that is not over the one before it"; "11 for a part day"
+    DayForm = 11,
+    /// "12 for unknown activity anywhere"
+    UnknownActivity = 12,
 }
 
 impl Refusal {
