@@ -5,11 +5,12 @@
  * Any content is fine: every operation answers for all words, bytes and numbers.
  *
  * Answers. A number below DESK_ANSWER is a refusal, by its number:
- *    1 a word has no minutes           6 the reading has the wrong byte count
- *    2 the total passes 120,960        7 the reading has no entry of that number
- *    3 the list is too short           8 the text is not of the form
- *    4 the reading buffer is too short 9 too few words for the text's run lines
- *    5 m is over the total            10 too few bytes for the text
+ *    1 a word has no minutes                 7 the reading has no entry of that number
+ *    2 the total passes 120,960              8 the text is not of the form
+ *    3 the list is too short                 9 too few words for the run lines or the changes
+ *    4 the reading buffer is too short      10 too few bytes for the text or the record
+ *    5 m is over the total                  11 the record is not of the form, or the recording not of whole days
+ *    6 the reading has the wrong byte count 12 the record has an unknown activity
  * Otherwise the operation answered, and the macros below give its value. Only desk_entry_refusal answers with a bare
  * number. On a refusal every buffer is as it was. An operation that fills a buffer writes from its start and leaves what
  * lies beyond.
@@ -79,6 +80,15 @@ uint64_t desk_read_text(const uint8_t *text, size_t text_count, uint32_t *words,
 
 /* The bracket text of a recording; refusal 1, 2 or 10. The value is its length. */
 uint64_t desk_write_text(const uint32_t *words, size_t words_count, uint8_t *text, size_t text_count);
+
+/* The words of a card's own day record, one a change; refusal 11, 12, 2 or 9. The record is two bytes a change, high byte
+ * first: from the top, a bit each for slot, crew and card out, two bits of activity, eleven of the minute in the day. Minute 0
+ * begins a day; no bytes are no days. The value is the count of words. */
+uint64_t desk_read_card(const uint8_t *bytes, size_t bytes_count, uint32_t *words, size_t words_count);
+
+/* The record of a recording of whole days: a change at each minute 0 and wherever the activity differs from the minute
+ * before, the bits for slot, crew and card out zero; refusal 1, 2, 11 or 10. The value is its length. */
+uint64_t desk_write_card(const uint32_t *words, size_t words_count, uint8_t *bytes, size_t bytes_count);
 
 /* The verdict; refusal 1, 2 or 4. A pass writes the first lawful reading, three bytes for each long rest, and its value is
  * their count. A breach writes nothing. */

@@ -52,9 +52,13 @@ int main(void)
     const uint32_t long_day[] = {WORD(901, WORK)};
     const uint32_t no_minutes[] = {WORD(0, AVAILABILITY)};
     const uint8_t reading[] = {0, 0, 0, 1, 0, 0};
+    /* Rest; work from 05:00; driving from 05:20, with a second driver; a day of rest, entered by hand; then a day unknown. */
+    const uint8_t days[] = {0x00, 0x00, 0x11, 0x2C, 0x59, 0x40, 0x60, 0x00, 0x20, 0x00};
     struct desk_span list[3] = {{7, 8}, {7, 8}, {7, 8}};
     uint32_t read[8] = {7, 7, 7, 7, 7, 7, 7, 7};
+    uint32_t changes[5] = {7, 7, 7, 7, 7};
     uint8_t text[128];
+    uint8_t record[10] = {9, 9, 9, 9, 9, 9, 9, 9, 9, 9};
     uint64_t length;
 
     print_weighing(words, 5);
@@ -87,6 +91,19 @@ int main(void)
     for (size_t i = 0; i < 8; i++)
         printf("  %" PRIu32 "\n", read[i]);
     print_value("reading text", desk_read_text(text, 10, read, 8));
+
+    print_value("reading a card", desk_read_card(days, 8, changes, 5));
+    for (size_t i = 0; i < 5; i++)
+        printf("  %" PRIu32 "\n", changes[i]);
+    print_value("reading a card", desk_read_card(days, 9, changes, 5));
+    print_value("reading a card", desk_read_card(days, 10, changes, 5));
+    print_value("reading a card", desk_read_card(days, 8, changes, 3));
+
+    print_value("writing a card", desk_write_card(changes, 4, record, 7));
+    print_value("writing a card", desk_write_card(changes, 2, record, 10));
+    print_value("writing a card", desk_write_card(changes, 4, record, 10));
+    printf(" ");
+    print_bytes(record, sizeof record);
 
     print_verdict(words, 5);
     print_verdict(long_day, 1);

@@ -47,6 +47,20 @@ mod library {
             text_count: usize,
         ) -> u64;
 
+        pub fn desk_read_card(
+            bytes: *const u8,
+            bytes_count: usize,
+            words: *mut u32,
+            words_count: usize,
+        ) -> u64;
+
+        pub fn desk_write_card(
+            words: *const u32,
+            words_count: usize,
+            bytes: *mut u8,
+            bytes_count: usize,
+        ) -> u64;
+
         pub fn desk_verdict(
             words: *const u32,
             words_count: usize,
@@ -88,6 +102,16 @@ pub fn read_text(text: &[u8], words: &mut [u32]) -> u64 {
 
 pub fn write_text(words: &[u32], text: &mut [u8]) -> u64 {
     unsafe { library::desk_write_text(words.as_ptr(), words.len(), text.as_mut_ptr(), text.len()) }
+}
+
+pub fn read_card(bytes: &[u8], words: &mut [u32]) -> u64 {
+    unsafe { library::desk_read_card(bytes.as_ptr(), bytes.len(), words.as_mut_ptr(), words.len()) }
+}
+
+pub fn write_card(words: &[u32], bytes: &mut [u8]) -> u64 {
+    unsafe {
+        library::desk_write_card(words.as_ptr(), words.len(), bytes.as_mut_ptr(), bytes.len())
+    }
 }
 
 pub fn verdict(words: &[u32], reading: &mut [u8]) -> u64 {

@@ -1,5 +1,5 @@
-//! The hours desk for Rust: the operations of document 01, from the desk's
-//! static library.
+//! The hours desk for Rust: the operations of documents 01 and 02, from the
+//! desk's static library.
 //!
 //! ```
 //! use hours_desk::{verdict, Verdict, LONG_RESTS_AT_MOST};
@@ -29,7 +29,7 @@ mod calls;
 /// readings of three times as many bytes are never too short.
 pub const LONG_RESTS_AT_MOST: usize = 223;
 
-/// Why an operation was turned away; its discriminant is document 01's number.
+/// Why an operation was turned away; its discriminant is the documents' number.
 #[derive(Clone, Copy, Debug, PartialEq, Eq)]
 #[repr(u8)]
 pub enum Refusal {
@@ -49,14 +49,18 @@ pub enum Refusal {
     NoEntry = 7,
     /// The text is not of the form.
     TextForm = 8,
-    /// Fewer words than run lines.
+    /// Fewer words than run lines, or than changes.
     TooFewWords = 9,
-    /// Fewer bytes than the text has.
+    /// Fewer bytes than the text has, or the record.
     TooFewBytes = 10,
+    /// The record is not of the form, or the recording not of whole days.
+    DayForm = 11,
+    /// The record has a change with the card out and the crew bit zero.
+    UnknownActivity = 12,
 }
 
 impl Refusal {
-    /// Document 01's number.
+    /// The documents' number.
     pub fn number(self) -> u8 {
         self as u8
     }
@@ -73,6 +77,8 @@ impl Refusal {
             8 => Refusal::TextForm,
             9 => Refusal::TooFewWords,
             10 => Refusal::TooFewBytes,
+            11 => Refusal::DayForm,
+            12 => Refusal::UnknownActivity,
             other => unreachable!("the desk has no refusal {other}"),
         }
     }
@@ -181,6 +187,32 @@ pub fn read_text(text: &[u8], words: &mut [u32]) -> Result<usize, Refusal> {
 /// The bracket text of a recording, and its length.
 pub fn write_text(words: &[u32], text: &mut [u8]) -> Result<usize, Refusal> {
     count(calls::write_text(words, text))
+}
+
+/// The words of a card's own day record, one a change, and their count.
+///
+/// The record is two bytes a change, high byte first: from the top, a bit each
+/// for slot, crew and card out, two bits of activity, eleven of the minute in
+/// the day. Minute 0 begins a day; no bytes are no days. The refusals are 11,
+/// 12, 2 and 9, in this order.
+///
+/// ```
+/// // Rest; work from 05:00; driving from 05:20, with a second driver; a day of
+/// // rest, entered by hand.
+/// let record = [0x00, 0x00, 0x11, 0x2C, 0x59, 0x40, 0x60, 0x00];
+/// let mut words = [0; 4];
+/// assert_eq!(hours_desk::read_card(&record, &mut words), Ok(4));
+/// assert_eq!(words, [4 * 300, 4 * 20 + 2, 4 * 1_120 + 3, 4 * 1_440]);
+/// ```
+pub fn read_card(bytes: &[u8], words: &mut [u32]) -> Result<usize, Refusal> {
+    count(calls::read_card(bytes, words))
+}
+
+/// The day record of a recording of whole days, and its length: a change at
+/// each minute 0 and wherever the activity differs from the minute before, the
+/// bits for slot, crew and card out zero. The refusals are 1, 2, 11 and 10.
+pub fn write_card(words: &[u32], bytes: &mut [u8]) -> Result<usize, Refusal> {
+    count(calls::write_card(words, bytes))
 }
 
 /// The verdict. A pass writes the first lawful reading, three bytes for each

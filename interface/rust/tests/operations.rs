@@ -1,8 +1,8 @@
 //! Every operation on small inputs: answers, refusals, and what a buffer holds.
 
 use hours_desk::{
-    entry, entry_refusal, fixed_test, list_long_rests, read_text, reading_test,
-    verdict, weigh, write_text, Measure, Refusal, Span, Verdict,
+    entry, entry_refusal, fixed_test, list_long_rests, read_card, read_text, reading_test, verdict,
+    weigh, write_card, write_text, Measure, Refusal, Span, Verdict,
 };
 
 /// 240 of driving, 660 of rest, 60 of work, 2,700 of rest, a minute of work.
@@ -96,6 +96,39 @@ fn texts() {
     let refused = read_text(expected, &mut words[..1]);
     assert_eq!(refused, Err(Refusal::TooFewWords));
     assert_eq!(read_text(&[], &mut []), Err(Refusal::TextForm));
+}
+
+#[test]
+fn cards() {
+    // Rest; work from 05:00; driving from 05:20, with a second driver; a day of
+    // rest, entered by hand.
+    let record = [0x00, 0x00, 0x11, 0x2C, 0x59, 0x40, 0x60, 0x00];
+    let day = [4 * 300, 4 * 20 + 2, 4 * 1_120 + 3, 4 * 1_440];
+    let mut words = [7; 5];
+    assert_eq!(read_card(&record, &mut words), Ok(4));
+    assert_eq!(words[..4], day);
+    assert_eq!(words[4], 7);
+    let mut words = [7; 3];
+    assert_eq!(read_card(&record, &mut words), Err(Refusal::TooFewWords));
+    assert_eq!(read_card(&[0; 170], &mut words), Err(Refusal::TotalPassed));
+    let unknown = Err(Refusal::UnknownActivity);
+    assert_eq!(read_card(&[0x20, 0x00], &mut words), unknown);
+    assert_eq!(read_card(&[0x20, 0x01], &mut words), Err(Refusal::DayForm));
+    assert_eq!(read_card(&record[..7], &mut words), Err(Refusal::DayForm));
+    assert_eq!(words, [7; 3]);
+    assert_eq!(read_card(&[], &mut []), Ok(0));
+
+    let plain = [0x00, 0x00, 0x11, 0x2C, 0x19, 0x40, 0x00, 0x00];
+    let mut bytes = [b'#'; 10];
+    assert_eq!(write_card(&day, &mut bytes[..7]), Err(Refusal::TooFewBytes));
+    assert_eq!(write_card(&WORDS, &mut bytes), Err(Refusal::DayForm));
+    assert_eq!(write_card(&NO_MINUTES, &mut bytes), Err(Refusal::NoMinutes));
+    assert_eq!(write_card(&TOO_LONG, &mut bytes), Err(Refusal::TotalPassed));
+    assert_eq!(bytes, [b'#'; 10]);
+    assert_eq!(write_card(&day, &mut bytes), Ok(8));
+    assert_eq!(bytes[..8], plain);
+    assert_eq!(bytes[8..], [b'#'; 2]);
+    assert_eq!(write_card(&[], &mut []), Ok(0));
 }
 
 #[test]
