@@ -1,7 +1,5 @@
 //! The card's own day record: its reader and its writer.
 
-use std::iter::once;
-
 use crate::limits::Limits;
 use crate::recording::{self, word, Activity};
 use crate::refusal::Refusal;
@@ -56,7 +54,7 @@ impl Change {
 }
 
 /// The changes of a record; a byte that is left over is not in one.
-pub fn changes(bytes: &[u8]) -> impl ExactSizeIterator<Item = Change> + '_ {
+pub fn changes(bytes: &[u8]) -> impl DoubleEndedIterator<Item = Change> + ExactSizeIterator + '_ {
     bytes
         .chunks_exact(2)
         .map(|pair| Change(u16::from_be_bytes([pair[0], pair[1]])))
@@ -78,10 +76,11 @@ pub fn read(bytes: &[u8], words: &mut [u32]) -> Result<usize, Refusal> {
     if words.len() < count {
         return Err(Refusal::TooFewWords);
     }
-    let ends = changes(bytes).skip(1).map(Change::end_before);
-    let pieces = changes(bytes).zip(ends.chain(once(DAY)));
-    for (written, (change, end)) in words.iter_mut().zip(pieces) {
+    // From the last change to the first: each lasts up to the one after it.
+    let mut end = DAY;
+    for (written, change) in words[..count].iter_mut().zip(changes(bytes)).rev() {
         *written = word(end - change.minute(), change.activity());
+        end = change.end_before();
     }
     Ok(count)
 }
@@ -96,12 +95,14 @@ pub fn parse(bytes: &[u8]) -> Result<Vec<u32>, Refusal> {
 /// "11 for an odd count, a first minute other than 0, a minute over 1,439, or a
 /// minute above 0 that is not over the one before it"
 fn is_of_the_form(bytes: &[u8]) -> bool {
-    let minutes = || changes(bytes).map(Change::minute);
-    let mut neighbours = minutes().zip(minutes().skip(1));
+    // Before the first change stands a minute that only minute 0 may follow.
+    let mut before = DAY;
     bytes.len().is_multiple_of(2)
-        && minutes().next().is_none_or(|first| first == 0)
-        && minutes().all(|minute| minute < DAY)
-        && neighbours.all(|(before, minute)| minute == 0 || minute > before)
+        && changes(bytes).map(Change::minute).all(|minute| {
+            let rises = minute > before && minute < DAY;
+            before = minute;
+            rises || minute == 0
+        })
 }
 
 /// The minutes of a record of the form: its days are whole.
@@ -131,11 +132,11 @@ fn record(words: &[u32]) -> Vec<u8> {
     let day = i64::from(DAY);
     let mut record = Vec::new();
     for run in runs(words) {
-        let midnights = (run.span.start / day + 1)..=((run.span.end - 1) / day);
-        let starts = once(run.span.start).chain(midnights.map(|number| day * number));
-        for start in starts {
+        let mut start = run.span.start;
+        while start < run.span.end {
             let change = Change::new(run.activity, (start % day) as u32);
             record.extend_from_slice(&change.0.to_be_bytes());
+            start = day * (start / day + 1);
         }
     }
     record
