@@ -3,6 +3,7 @@
 use second::dice::Dice;
 use second::grow;
 
+use crate::cards;
 use crate::edges;
 use crate::inputs::{self, Room, Try};
 use crate::recordings;
@@ -47,6 +48,7 @@ pub type VisitRecording<'a> = &'a mut dyn FnMut(&'static str, Recorded) -> bool;
 /// Visits the inputs; whether it came to the end.
 pub fn each(plan: &Plan, visit: Visit) -> bool {
     texts(visit)
+        && card_records(visit)
         && each_entry(plan, visit)
         && each_recording(plan, &mut |kind, recorded| {
             let Recorded {
@@ -129,6 +131,18 @@ fn texts(visit: Visit) -> bool {
             .collect();
         inputs::of_text(&mut dice, &text, &mut tries);
         all("texts at their edge", tries, visit)
+    })
+}
+
+fn card_records(visit: Visit) -> bool {
+    let mut dice = Dice::new(105);
+    edges::card_records().into_iter().all(|(changes, rest)| {
+        let record = [cards::bytes(&changes), rest].concat();
+        let mut tries: Vec<Try> = (Room::ALL.into_iter())
+            .map(|room| cards::reading(&mut dice, room, record.clone()))
+            .collect();
+        cards::of_record(&mut dice, &changes, &mut tries);
+        all("cards at their edge", tries, visit)
     })
 }
 

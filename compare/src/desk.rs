@@ -21,6 +21,8 @@ pub fn desk(operation: Operation, input: &Input) -> Answer {
         },
         Operation::ReadText => hours_desk::read_text(bytes, &mut after.lent_words).map(one),
         Operation::WriteText => hours_desk::write_text(words, &mut after.lent_bytes).map(one),
+        Operation::ReadCard => hours_desk::read_card(bytes, &mut after.lent_words).map(one),
+        Operation::WriteCard => hours_desk::write_card(words, &mut after.lent_bytes).map(one),
         Operation::Verdict => {
             hours_desk::verdict(words, &mut after.lent_bytes).map(|verdict| match verdict {
                 hours_desk::Verdict::Pass { written } => vec![PASS, written as u64],

@@ -2,8 +2,13 @@
 
 use std::fmt;
 
+use second::card::{changes, Change};
+
 use crate::operation::{Answer, Input, Operation, Program};
 use crate::shrink;
+
+/// The document's letters of the activities, by their codes.
+const LETTERS: [char; 4] = ['r', 'a', 'w', 'd'];
 
 /// An input on which two programs differ, with both answers.
 pub struct Difference {
@@ -49,10 +54,43 @@ impl Difference {
         if self.input.words.is_empty() {
             return "no words".into();
         }
-        let letter = |word: u32| ['r', 'a', 'w', 'd'][(word % 4) as usize];
+        let letter = |word: u32| LETTERS[(word % 4) as usize];
         let words = self.input.words.iter();
         let runs = words.map(|&word| format!("{}{}", letter(word), word / 4));
         runs.collect::<Vec<_>>().join(" ")
+    }
+}
+
+impl Difference {
+    /// The changes of a card record: the bits s, c, p where they are set, the
+    /// activity's letter and the minute; and a byte that is left over.
+    fn card(&self) -> String {
+        if self.input.bytes.is_empty() {
+            return "no days".into();
+        }
+        let shown = |change: Change| {
+            let bit = |bit, letter| if change.0 & bit == 0 { '-' } else { letter };
+            let bits = [
+                bit(Change::SLOT, 's'),
+                bit(Change::CREW, 'c'),
+                bit(Change::CARD_OUT, 'p'),
+            ];
+            let activity = LETTERS[change.activity().code() as usize];
+            format!("{}{activity}{}", String::from_iter(bits), change.minute())
+        };
+        let mut parts: Vec<String> = changes(&self.input.bytes).map(shown).collect();
+        if self.input.bytes.len() % 2 == 1 {
+            parts.push("a byte".into());
+        }
+        parts.join(" ")
+    }
+
+    /// What the operation is shown on: the recording, or the card record.
+    pub fn shown(&self) -> String {
+        match self.operation {
+            Operation::ReadCard => self.card(),
+            _ => self.recording(),
+        }
     }
 }
 
@@ -68,6 +106,9 @@ impl fmt::Display for Difference {
                 "  text      {:?}",
                 String::from_utf8_lossy(&input.bytes)
             )?;
+        }
+        if self.operation == Operation::ReadCard {
+            writeln!(to, "  changes   {}", self.card())?;
         }
         writeln!(to, "  bytes     {:?}", input.bytes)?;
         writeln!(to, "  number    {}", input.number)?;

@@ -1,5 +1,5 @@
-//! The cases of "On the edge", and recordings at the edge of each number of
-//! document 01, with readings to test them by.
+//! The cases of "On the edge", and recordings at the edge of each number of the
+//! documents, with readings to test them by.
 
 use second::recording::Span;
 
@@ -111,6 +111,7 @@ pub fn constants() -> Vec<Edge> {
         edges.extend(fixed_rules(change));
         edges.extend(readings(change));
         edges.extend(weekly_rests(change));
+        edges.extend(whole_days(change));
     }
     edges
 }
@@ -272,6 +273,69 @@ fn weekly_rests(change: i64) -> Vec<Edge> {
     ]
     .map(whole)
     .into()
+}
+
+/// Days of 1,440 minutes, and changes about midnight.
+fn whole_days(change: i64) -> Vec<Edge> {
+    let at = |edge: i64| edge + change;
+    [
+        format!("w{}", at(1_440)),
+        format!("r{}", at(2_880)),
+        format!("r{} w1", at(1_439)),
+        format!("r{}", at(1_728)),
+        format!("w{}", at(1_920)),
+        format!("r{}", at(2_160)),
+        format!("w{} d{}", at(1_440), 1_440 - change),
+        format!("w{} w{}", at(1_440), 1_440 - change),
+        format!("a{} r2 w{}", at(1_439), 1_439 - change),
+        times(at(60_480) as usize, "r1 w1"),
+    ]
+    .iter()
+    .map(|shorthand| edge(shorthand))
+    .collect()
+}
+
+/// Card records at the edge of the form: their changes, and a byte left over.
+pub fn card_records() -> Vec<(Vec<u16>, Vec<u8>)> {
+    let at = |minute: u16, code: u16| code << 11 | minute;
+    let (unknown, late) = (1 << 13, at(1_440, 1));
+    let mut records = vec![
+        vec![],
+        vec![at(0, 1), at(0, 1)],
+        vec![at(0, 2), at(0, 0), at(0, 0), at(1, 3)],
+        vec![at(0, 3), at(1_439, 3), at(0, 3)],
+        vec![unknown, late],
+        vec![late, unknown],
+        vec![at(0, 0), unknown | late],
+        vec![unknown, at(5, 1), at(5, 1)],
+        (0..32_768)
+            .map(|number| at(number % 1_440, number % 4))
+            .collect(),
+    ];
+    // Every bit above the minute, at minute 0 and later.
+    for bits in 0..32 {
+        records.push(vec![bits << 11]);
+        records.push(vec![at(0, 0), bits << 11 | 600, at(0, 1)]);
+    }
+    for minute in [1, 2, 255, 256, 1_023, 1_024, 1_438, 1_439, 1_440, 2_047] {
+        records.push(vec![at(minute, 0)]);
+        records.push(vec![at(0, 0), at(minute, 1)]);
+        for second in [minute - 1, minute, minute + 1] {
+            records.push(vec![at(0, 0), at(minute, 1), at(second % 2_048, 2)]);
+        }
+    }
+    for days in [83, 84, 85, 86] {
+        let whole = vec![at(0, 2); days];
+        records.push(whole.clone());
+        records.push([&whole[..], &[at(1, 0)]].concat());
+        for fault in [unknown, late] {
+            records.push([&whole[1..], &[fault]].concat());
+            records.push([&[fault], &whole[1..]].concat());
+        }
+    }
+    let left_over = [vec![], vec![0], vec![255]];
+    let with = |record: Vec<u16>| left_over.clone().map(|rest| (record.clone(), rest));
+    records.into_iter().flat_map(with).collect()
 }
 
 /// Texts at the edge of the form.

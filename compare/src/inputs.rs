@@ -8,6 +8,7 @@ use second::runs::{Course, LongRest};
 use second::verdict::Outcome;
 use second::Limits;
 
+use crate::cards;
 use crate::operation::{Input, Operation};
 
 /// An input, and what is tried by it.
@@ -17,7 +18,7 @@ pub struct Try {
     pub input: Input,
 }
 
-fn attempt(operation: Operation, variant: &'static str, input: Input) -> Try {
+pub fn attempt(operation: Operation, variant: &'static str, input: Input) -> Try {
     Try {
         operation,
         variant,
@@ -37,7 +38,7 @@ pub enum Room {
 impl Room {
     pub const ALL: [Room; 4] = [Room::JustFits, Room::ShortByOne, Room::Empty, Room::Longer];
 
-    fn length(self, dice: &mut Dice, need: usize) -> usize {
+    pub fn length(self, dice: &mut Dice, need: usize) -> usize {
         match self {
             Room::JustFits => need,
             Room::ShortByOne => need.saturating_sub(1),
@@ -48,7 +49,7 @@ impl Room {
 }
 
 /// What such a buffer is told by in the table.
-fn beside(length: usize, need: usize) -> &'static str {
+pub fn beside(length: usize, need: usize) -> &'static str {
     match length {
         _ if length == need => "just fits",
         _ if length > need => "longer",
@@ -57,12 +58,12 @@ fn beside(length: usize, need: usize) -> &'static str {
     }
 }
 
-fn one_of<T: Copy>(dice: &mut Dice, choices: &[T]) -> T {
+pub fn one_of<T: Copy>(dice: &mut Dice, choices: &[T]) -> T {
     choices[dice.below(choices.len() as u32) as usize]
 }
 
 /// A buffer of numbers that tell where they lie.
-fn lent<T: From<u8>>(dice: &mut Dice, length: usize) -> Vec<T> {
+pub fn lent<T: From<u8>>(dice: &mut Dice, length: usize) -> Vec<T> {
     let start = dice.below(256) as usize;
     (start..start + length)
         .map(|number| T::from((number * 7 % 251 + 1) as u8))
@@ -111,6 +112,7 @@ fn turned_away(dice: &mut Dice, recording: &Input, tries: &mut Vec<Try>) {
         Operation::FixedTest,
         Operation::ReadingTest,
         Operation::WriteText,
+        Operation::WriteCard,
         Operation::Verdict,
     ] {
         let mut length = || dice.below(9) as usize;
@@ -153,6 +155,7 @@ fn weighed(dice: &mut Dice, recording: &Input, readings: &[Vec<u8>], tries: &mut
     }
     verdicts(dice, recording, first.len(), tries);
     texts(dice, recording, tries);
+    cards::of_recording(dice, recording, tries);
 }
 
 fn list(dice: &mut Dice, recording: &Input, count: usize, tries: &mut Vec<Try>) {

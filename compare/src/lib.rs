@@ -1,7 +1,8 @@
-//! What the desk is compared on: every operation of document 01, on inputs from
-//! fixed seeds, lent buffers whole; and how a difference is shown, on the
-//! smallest input that still has it.
+//! What the desk is compared on: every operation of documents 01 and 02, on
+//! inputs from fixed seeds, lent buffers whole; and how a difference is shown, on
+//! the smallest input that still has it.
 
+mod cards;
 pub mod cases;
 pub mod difference;
 mod edges;

@@ -1,5 +1,5 @@
-//! The desk against the second program: every operation of document 01, on
-//! inputs from fixed seeds, lent buffers whole. The first difference ends it,
+//! The desk against the second program: every operation of documents 01 and 02,
+//! on inputs from fixed seeds, lent buffers whole. The first difference ends it,
 //! with the smallest input that still shows it.
 
 mod desk;

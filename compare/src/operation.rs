@@ -4,7 +4,7 @@ use second::recording::Span;
 use second::verdict::Verdict;
 use second::Refusal;
 
-/// The operations of document 01.
+/// The operations of documents 01 and 02.
 #[derive(Clone, Copy, Debug, PartialEq, Eq)]
 pub enum Operation {
     Weigh,
@@ -15,11 +15,13 @@ pub enum Operation {
     EntryRefusal,
     ReadText,
     WriteText,
+    ReadCard,
+    WriteCard,
     Verdict,
 }
 
 impl Operation {
-    pub const ALL: [Operation; 9] = [
+    pub const ALL: [Operation; 11] = [
         Operation::Weigh,
         Operation::List,
         Operation::FixedTest,
@@ -28,6 +30,8 @@ impl Operation {
         Operation::EntryRefusal,
         Operation::ReadText,
         Operation::WriteText,
+        Operation::ReadCard,
+        Operation::WriteCard,
         Operation::Verdict,
     ];
 
@@ -41,6 +45,8 @@ impl Operation {
             Operation::EntryRefusal => "its companion",
             Operation::ReadText => "reading text",
             Operation::WriteText => "writing text",
+            Operation::ReadCard => "reading a card",
+            Operation::WriteCard => "writing a card",
             Operation::Verdict => "verdict",
         }
     }
@@ -56,11 +62,13 @@ impl Operation {
             Operation::EntryRefusal => "refusal",
             Operation::ReadText => "read",
             Operation::WriteText => "write",
+            Operation::ReadCard => "card in",
+            Operation::WriteCard => "card out",
             Operation::Verdict => "verdict",
         }
     }
 
-    /// The refusals of document 01, in their order.
+    /// The refusals of the documents, in their order.
     pub fn refusals(self) -> &'static [u8] {
         match self {
             Operation::Weigh => &[1, 2],
@@ -70,6 +78,8 @@ impl Operation {
             Operation::Entry | Operation::EntryRefusal => &[6, 7],
             Operation::ReadText => &[8, 9],
             Operation::WriteText => &[1, 2, 10],
+            Operation::ReadCard => &[11, 12, 2, 9],
+            Operation::WriteCard => &[1, 2, 11, 10],
             Operation::Verdict => &[1, 2, 4],
         }
     }
@@ -79,14 +89,14 @@ impl Operation {
 #[derive(Clone, Debug, Default, PartialEq, Eq)]
 pub struct Input {
     pub words: Vec<u32>,
-    /// The reading or the text that is passed to be read.
+    /// The reading, the text or the card record that is passed to be read.
     pub bytes: Vec<u8>,
     /// The stretch m, or the number of an entry.
     pub number: usize,
-    /// The lent buffer of bytes: a reading or a text.
+    /// The lent buffer of bytes: a reading, a text or a card record.
     pub lent_bytes: Vec<u8>,
-    /// The lent buffers of numbers: the words of a text, or the starts and ends of
-    /// the records of a list.
+    /// The lent buffers of numbers: the words of a text or a card record, or the
+    /// starts and ends of the records of a list.
     pub lent_words: Vec<u32>,
     pub lent_ends: Vec<u32>,
 }
@@ -129,6 +139,8 @@ pub fn second(operation: Operation, input: &Input) -> Answer {
         },
         Operation::ReadText => second::text::read(bytes, &mut after.lent_words).map(one),
         Operation::WriteText => second::text::write(words, &mut after.lent_bytes).map(one),
+        Operation::ReadCard => second::card::read(bytes, &mut after.lent_words).map(one),
+        Operation::WriteCard => second::card::write(words, &mut after.lent_bytes).map(one),
         Operation::Verdict => {
             second::verdict::verdict(words, &mut after.lent_bytes).map(verdict_values)
         }

@@ -1,7 +1,10 @@
 //! The comparison against programs that are wrong on purpose: each must be
 //! noticed, and shrunk to a small input.
 
+use second::card::{changes, Change};
 use second::fast::Judge;
+use second::recording::word;
+use second::runs::runs;
 use second::verdict::{Outcome, Verdict};
 use second::Limits;
 
@@ -11,38 +14,63 @@ use compare::operation::{second, verdict_values, Answer, Input, Operation, Progr
 
 use crate::desk::desk;
 
-/// A wrong program, and how many words its smallest difference has at most.
+/// A wrong program, and how many words and bytes are passed at most where its
+/// smallest difference shows.
 struct Wrong {
     name: &'static str,
     program: Program,
     most_words: usize,
+    most_bytes: usize,
 }
 
-const WRONG: [Wrong; 5] = [
+const WRONG: [Wrong; 8] = [
     Wrong {
         name: "rule 10 a minute late",
         program: rule_10_a_minute_late,
         most_words: 4,
+        most_bytes: 0,
     },
     Wrong {
         name: "rule 8 a week late",
         program: rule_8_a_week_late,
         most_words: 8,
+        most_bytes: 0,
     },
     Wrong {
         name: "a byte beyond the text",
         program: a_byte_beyond_the_text,
         most_words: 0,
+        most_bytes: 0,
     },
     Wrong {
         name: "a refusal told as an answer",
         program: refusal_5_as_an_answer,
         most_words: 0,
+        most_bytes: 0,
     },
     Wrong {
         name: "a carrier that is not later",
         program: a_carrier_that_is_not_later,
         most_words: 2,
+        most_bytes: 6,
+    },
+    Wrong {
+        name: "no change at a midnight that changes nothing",
+        program: no_change_at_midnight,
+        most_words: 1,
+        most_bytes: 0,
+    },
+    Wrong {
+        name: "refusal 12 before 11",
+        program: refusal_12_before_11,
+        most_words: 0,
+        most_bytes: 2,
+    },
+    Wrong {
+        name: "equal changes joined",
+        program: equal_changes_joined,
+        most_words: 0,
+        most_bytes: 4,
     },
 ];
 
@@ -63,13 +91,13 @@ const PLAN: Plan = Plan {
 pub fn run() {
     for wrong in &WRONG {
         let found = noticed(wrong.program);
-        let words = found.input.words.len();
+        let (words, bytes) = (found.input.words.len(), found.input.bytes.len());
         assert!(
-            words <= wrong.most_words,
-            "{}: {words} words are left\n{found}",
+            words <= wrong.most_words && bytes <= wrong.most_bytes,
+            "{}: {words} words and {bytes} bytes are left\n{found}",
             wrong.name
         );
-        println!("noticed: {}, by {}", wrong.name, found.recording());
+        println!("noticed: {}, by {}", wrong.name, found.shown());
     }
     println!();
 }
@@ -153,4 +181,49 @@ fn a_carrier_that_is_not_later(operation: Operation, input: &Input) -> Answer {
         }
     }
     second(operation, &input)
+}
+
+/// A written day without its change at minute 0, where the activity is that of the
+/// minute before.
+fn no_change_at_midnight(operation: Operation, input: &Input) -> Answer {
+    let mut answer = second(operation, input);
+    if let (Operation::WriteCard, Ok(values)) = (operation, &mut answer.told) {
+        let length = values[0] as usize;
+        let mut kept = Vec::new();
+        let mut before = None;
+        for change in changes(&answer.lent_bytes[..length]) {
+            if change.minute() > 0 || before != Some(change.activity()) {
+                kept.extend(change.0.to_be_bytes());
+            }
+            before = Some(change.activity());
+        }
+        values[0] = kept.len() as u64;
+        kept.extend(&input.lent_bytes[kept.len()..]);
+        answer.lent_bytes = kept;
+    }
+    answer
+}
+
+/// Unknown activity refused also where the record is not of the form.
+fn refusal_12_before_11(operation: Operation, input: &Input) -> Answer {
+    let mut answer = second(operation, input);
+    let unknown = changes(&input.bytes).any(Change::is_unknown);
+    if operation == Operation::ReadCard && unknown {
+        answer.told = Err(12);
+    }
+    answer
+}
+
+/// One word for changes of one activity in a row.
+fn equal_changes_joined(operation: Operation, input: &Input) -> Answer {
+    let mut answer = second(operation, input);
+    if let (Operation::ReadCard, Ok(values)) = (operation, &mut answer.told) {
+        let read = &answer.lent_words[..values[0] as usize];
+        let joined: Vec<u32> = (runs(read).iter())
+            .map(|run| word(run.span.length() as u32, run.activity))
+            .collect();
+        values[0] = joined.len() as u64;
+        answer.lent_words = [&joined, &input.lent_words[joined.len()..]].concat();
+    }
+    answer
 }

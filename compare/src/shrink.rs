@@ -1,10 +1,12 @@
 //! The smallest input found that still shows a difference: words left out,
-//! joined and shortened, texts and buffers shortened, as long as it shows.
+//! joined and shortened, texts, card records and buffers shortened, as long as it
+//! shows.
 
 use std::time::{Duration, Instant};
 
 use second::recording::{weigh, word, word_activity, word_minutes};
 
+use crate::cards::{record, split_at};
 use crate::operation::{Input, Operation};
 
 const TIME: Duration = Duration::from_secs(30);
@@ -31,6 +33,8 @@ pub fn smallest(operation: Operation, input: Input, differs: &dyn Fn(&Input) -> 
         shrinking.leave_out_words();
         shrinking.join_words();
         shrinking.shorten_words();
+        shrinking.leave_out_changes();
+        shrinking.clear_bits();
         shrinking.shorten_bytes();
         shrinking.shorten_buffers();
         shrinking.lessen_number();
@@ -51,11 +55,30 @@ impl Shrinking<'_> {
     }
 
     /// The same with other words, and with the buffers as they are or fitted to
-    /// them.
+    /// them. Where a card is written, also with the whole days of these words.
     fn take_words(&mut self, words: Vec<u32>) -> bool {
-        fitted(self.operation, &self.best, words)
-            .into_iter()
-            .any(|input| self.take(input))
+        let days = match self.operation {
+            Operation::WriteCard => days_of(&words),
+            _ => None,
+        };
+        [Some(words), days].into_iter().flatten().any(|words| {
+            fitted(self.operation, &self.best, words)
+                .into_iter()
+                .any(|input| self.take(input))
+        })
+    }
+
+    /// The same with another card record, and with the words that are lent as they
+    /// are or fitted to it.
+    fn take_record(&mut self, bytes: Vec<u8>) -> bool {
+        let fewer = bytes.len() as i64 / 2 - self.best.bytes.len() as i64 / 2;
+        let same = Input {
+            bytes,
+            ..self.best.clone()
+        };
+        let mut fitted = same.clone();
+        resize(&mut fitted.lent_words, fewer);
+        self.take(same) || fewer != 0 && self.take(fitted)
     }
 
     fn leave_out_words(&mut self) {
@@ -103,7 +126,40 @@ impl Shrinking<'_> {
         }
     }
 
-    /// A text or a reading that is passed.
+    /// Changes of a card record that is passed.
+    fn leave_out_changes(&mut self) {
+        if self.operation != Operation::ReadCard {
+            return;
+        }
+        let mut count = self.best.bytes.len() / 2;
+        while count > 0 {
+            let mut at = 0;
+            while at + 1 < self.best.bytes.len() {
+                if !self.take_record(without(&self.best.bytes, at, 2 * count)) {
+                    at += 2 * count;
+                }
+            }
+            count /= 2;
+        }
+    }
+
+    /// Bits of a card record that are set, its highest first.
+    fn clear_bits(&mut self) {
+        if self.operation != Operation::ReadCard {
+            return;
+        }
+        for at in 0..self.best.bytes.len() {
+            for bit in (0..8).rev() {
+                let mut bytes = self.best.bytes.clone();
+                if bytes[at] & 1 << bit != 0 {
+                    bytes[at] ^= 1 << bit;
+                    self.take_record(bytes);
+                }
+            }
+        }
+    }
+
+    /// A text, a reading or a card record that is passed.
     fn shorten_bytes(&mut self) {
         let mut count = self.best.bytes.len();
         while count > 0 {
@@ -179,6 +235,7 @@ fn fitted(operation: Operation, input: &Input, words: Vec<u32>) -> Vec<Input> {
         }
         Operation::Verdict => resize(&mut fitted.lent_bytes, 3 * rests),
         Operation::WriteText => resize(&mut fitted.lent_bytes, new.text - old.text),
+        Operation::WriteCard => resize(&mut fitted.lent_bytes, new.record - old.record),
         Operation::FixedTest => {
             let moved = fitted.number as i64 + new.total - old.total;
             fitted.number = moved.max(0) as usize;
@@ -215,21 +272,25 @@ fn resize<T: Clone + From<u8>>(buffer: &mut Vec<T>, change: i64) {
     buffer.resize(length as usize, T::from(FILLING));
 }
 
+/// The words up to their last midnight, where they are more than whole days.
+fn days_of(words: &[u32]) -> Option<Vec<u32>> {
+    let total = weigh(words).ok()?.total as u32;
+    (total % 1_440 > 0).then(|| split_at(words, total - total % 1_440).0)
+}
+
+#[derive(Default)]
 struct Needs {
     total: i64,
     rests: i64,
     text: i64,
+    record: i64,
 }
 
-/// The minutes of words, their long rests and the length of their text; 0 where
-/// weighing turns them away.
+/// The minutes of words, their long rests, the lengths of their text and of their
+/// card record; 0 where they are turned away.
 fn needs(words: &[u32]) -> Needs {
     let Ok(measure) = weigh(words) else {
-        return Needs {
-            total: 0,
-            rests: 0,
-            text: 0,
-        };
+        return Needs::default();
     };
     let mut text = vec![0; 24 * words.len() + 400];
     let length = second::text::write(words, &mut text).expect("the words were weighed");
@@ -237,5 +298,6 @@ fn needs(words: &[u32]) -> Needs {
         total: measure.total,
         rests: measure.long_rests as i64,
         text: length as i64,
+        record: record(words).map_or(0, |record| record.len() as i64),
     }
 }

@@ -4,22 +4,25 @@ use std::collections::BTreeSet;
 
 use crate::operation::{Answer, Operation};
 
+/// A number for each operation.
+type Counts = [usize; Operation::ALL.len()];
+
 /// Inputs by operation, in rows by kind, in the order in which they came.
 #[derive(Default)]
-struct Table(Vec<(&'static str, [usize; 10])>);
+struct Table(Vec<(&'static str, Counts)>);
 
 impl Table {
     fn count(&mut self, row: &'static str, operation: Operation) {
         let at = self.0.iter().position(|known| known.0 == row);
         let at = at.unwrap_or_else(|| {
-            self.0.push((row, [0; 10]));
+            self.0.push((row, Counts::default()));
             self.0.len() - 1
         });
         self.0[at].1[operation as usize] += 1;
     }
 
-    fn sums(&self) -> [usize; 10] {
-        let mut sums = [0; 10];
+    fn sums(&self) -> Counts {
+        let mut sums = Counts::default();
         for (_, counts) in &self.0 {
             for (sum, count) in sums.iter_mut().zip(counts) {
                 *sum += count;
@@ -74,7 +77,7 @@ impl Tally {
     }
 
     pub fn print(&self) {
-        self.kinds.print("recordings and texts");
+        self.kinds.print("recordings and others");
         println!();
         self.variants.print("beside them");
         println!();
