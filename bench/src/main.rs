@@ -1,8 +1,10 @@
 //! The desk and the second program side by side on the same recordings. Their answers must be equal.
 //!
-//! Without a word: the time of one verdict on each kind of recording. `files FOLDER` writes the recordings into a file for each kind,
-//! and `count desk FILE` or `count second FILE` judges those of a file once each: bench/run counts their instructions.
+//! Without a word: the time of one verdict on each kind of recording, and of reading and writing a card. `files FOLDER` writes the
+//! recordings into a file for each kind, and `count desk FILE` or `count second FILE` judges those of a file once each; `card card_read desk`
+//! and its like read or write each card once: bench/run counts their instructions.
 
+mod card;
 mod desk;
 mod files;
 
@@ -37,6 +39,10 @@ fn main() {
             kinds()
                 .iter()
                 .for_each(|(kind, recordings)| time(kind, recordings));
+            for name in ["card_read", "card_write"] {
+                let times = |program| card::times(card::call(name, program));
+                line(name, "-", times("desk"), times("second"));
+            }
         }
         ["files", folder] => {
             for (kind, recordings) in kinds().iter().chain(&by_weeks()) {
@@ -49,8 +55,9 @@ fn main() {
         ["count", "second", file] => files::read(Path::new(file))
             .iter()
             .for_each(|words| counted_second(words)),
+        ["card", name, program] => drop(card::times(card::call(name, program))),
         _ => {
-            eprintln!("bench, bench files FOLDER, bench count desk FILE, bench count second FILE");
+            eprintln!("bench, bench files FOLDER, bench count desk FILE, bench count second FILE, bench card NAME PROGRAM");
             exit(2);
         }
     }
@@ -141,11 +148,15 @@ fn time(kind: &str, recordings: &[Vec<u32>]) {
         }
         passes += usize::from(matches!(theirs_says, Outcome::Pass(_)));
     }
+    line(kind, &passes.to_string(), ours, theirs);
+}
+
+fn line(kind: &str, passes: &str, mut ours: Vec<f64>, mut theirs: Vec<f64>) {
     ours.sort_by(f64::total_cmp);
     theirs.sort_by(f64::total_cmp);
-    let n = recordings.len();
+    let n = ours.len();
     println!(
-        "{kind:12} {n:11} {passes:6} {:12.0} {:7.0} {:14.0} {:7.0} {:17.2}",
+        "{kind:12} {n:11} {passes:>6} {:12.0} {:7.0} {:14.0} {:7.0} {:17.2}",
         ours[n / 2],
         ours[n - 1],
         theirs[n / 2],
