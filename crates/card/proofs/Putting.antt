@@ -321,7 +321,7 @@ module _ {words bytes₀ bytes : List ℕ} {at minute before activity n i : ℕ}
           ∙ rw (put .bytes-are, put .next-is)
 
 -- ---- what stands at each return of writing
-counted-words : (words : List ℕ) (room : ℕ) → cardWritten words room
+pub counted-words : (words : List ℕ) (room : ℕ) → cardWritten words room
     ≡ andThen (changesCounted words) (λ n. refuseIf (ltb room (2 * n)) 10 (answered (recordOfMinutes (minutesOf words))))
 unfolding cardWritten changesCounted
 counted-words words room = go (measured words) (isWholeDays (minutesOf words))
@@ -342,11 +342,11 @@ few-changes m before (a ∷ ms) =
     let k = few-changes (suc m % dayMinutes) a ms in
     rw length-append (omega (arith, length-if m before a, one-most (isWritten m before a), k))
 
-record Counted (words : List ℕ) (n : ℕ) : Type 0 where
-  within : length (minutesOf words) ≤ totalAtMost
-  changes : n ≡ length (changesOf (minutesOf words))
+pub record Counted (words : List ℕ) (n : ℕ) : Type 0 where
+  pub within : length (minutesOf words) ≤ totalAtMost
+  pub changes : n ≡ length (changesOf (minutesOf words))
 
-counted-is : (words : List ℕ) {n : ℕ} → changesCounted words ≡ answered n → Counted words n
+pub counted-is : (words : List ℕ) {n : ℕ} → changesCounted words ≡ answered n → Counted words n
 unfolding changesCounted
 counted-is words {n} e = go (measured words) (isWholeDays (minutesOf words)) refl e
   where

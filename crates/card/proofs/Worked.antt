@@ -1,14 +1,20 @@
 -- Worked cases at the edges of this layer's numbers. Assumes nothing.
-use mathlib.Core.Path.{_≡_, refl}
-use mathlib.Core.List.{[], _∷_}
-use Prim.Native.Nat.{ℕ}
-use lib.ListN.{replicate}
+use mathlib.Core.Path.{_≡_, refl, sym, ap, _∙_}
+use mathlib.Core.List.{List, [], _∷_}
+use Prim.Native.Nat.{ℕ, _*_}
+use native.Mathlib.Omega.{arith}
+use lib.ListN.{length, replicate}
+use Rattle.recording.specs.Tests.{_or_}
 use Rattle.recording.specs.Answers.{refused, answered, counted, filled}
-use Rattle.recording.specs.Words.{wordOf, rest, otherWork, driving}
+use Rattle.recording.specs.Words.{wordOf, rest, otherWork, driving, minutesOf}
+use Rattle.recording.specs.Operations.{faultOf, unlessFault}
 use Rattle.recording.specs.Opened.{opened}
 use Rattle.card.specs.Form.{bytesOf}
 use Rattle.card.specs.Reading.{changesIn, isUnknown, follows, allFollow, inOrder, isEven, isDayRecord, endBefore, wordsOf, cardRead}
-use Rattle.card.specs.Writing.{changeOf, isWritten, changeIf, changesFrom, isWholeDays, cardWritten}
+use Rattle.card.specs.Writing.{changeOf, isWritten, changeIf, changesFrom, isWholeDays, changesOf, cardWritten}
+use Rattle.card.specs.Passes.{begun, afterChange, judgedFrom, refusalFor, changesInRun, changesCounted}
+use Rattle.card.proofs.Judging.{refusal-is}
+use Rattle.card.proofs.Putting.{bytes-length, start-counting, count-on, count-done, counted-words, counted-is}
 
 abbrev r : ℕ → ℕ
 r n = wordOf n rest
@@ -18,6 +24,10 @@ w n = wordOf n otherWork
 
 abbrev d : ℕ → ℕ
 d n = wordOf n driving
+
+-- days of rest
+abbrev days : ℕ → List ℕ
+days n = replicate (2 * n) 0
 
 pub record Worked : Type 0 where
   -- ---- reading
@@ -51,10 +61,10 @@ pub record Worked : Type 0 where
   -- 11 before 12, although the unknown activity stands first
   order-first : cardRead (32 ∷ 0 ∷ 0 ∷ 60 ∷ 0 ∷ 60 ∷ []) 3 ≡ refused 11
   -- 84 days are 120,960 minutes; 12 before 2, and 2 before 9
-  most-days : counted (cardRead (replicate 168 0) 84) ≡ answered 84
-  more-days : cardRead (replicate 170 0) 85 ≡ refused 2
-  unknown-first : cardRead (32 ∷ 0 ∷ replicate 168 0) 0 ≡ refused 12
-  total-first : cardRead (replicate 170 0) 0 ≡ refused 2
+  most-days : counted (cardRead (days 84) 84) ≡ answered 84
+  more-days : cardRead (days 85) 85 ≡ refused 2
+  unknown-first : cardRead (32 ∷ 0 ∷ days 84) 0 ≡ refused 12
+  total-first : cardRead (days 85) 0 ≡ refused 2
   -- words lent: too few, and more than are needed
   few-words : cardRead (0 ∷ 0 ∷ 26 ∷ 88 ∷ []) 1 ≡ refused 9
   more-words : filled (cardRead (0 ∷ 0 ∷ []) 2) (7 ∷ 8 ∷ []) ≡ r 1440 ∷ 8 ∷ []
@@ -84,8 +94,26 @@ pub record Worked : Type 0 where
   -- 120,960 minutes are 84 days
   most-minutes : counted (cardWritten (w 120960 ∷ []) 168) ≡ answered 168
 
+-- ---- 84 and 85 days, by the first pass, which goes by changes and not by minutes
+by-changes : (bytes : List ℕ) (room n : ℕ) → refusalFor (judgedFrom begun (changesIn bytes)) (length bytes) room ≡ n → cardRead bytes room
+    ≡ unlessFault n (answered (wordsOf (changesIn bytes)))
+by-changes bytes room n e = refusal-is bytes room ∙ ap (λ (k : ℕ). unlessFault k (answered (wordsOf (changesIn bytes)))) e
+
+-- and 120,960 minutes, counted word by word
+most-counted : changesCounted (w 120960 ∷ []) ≡ answered 84
+unfolding faultOf changesInRun isWritten _or_
+most-counted =
+    let start = start-counting (w 120960 ∷ []) in
+    sym (count-done (count-on start {fault = 0} (omega arith) refl {r = 84} refl refl) refl refl)
+
+most-written : counted (cardWritten (w 120960 ∷ []) 168) ≡ answered 168
+most-written =
+    rw (counted-words (w 120960 ∷ []) 168, most-counted)
+    (ap answered (bytes-length (changesOf (minutesOf (w 120960 ∷ []))) ∙ ap (λ (k : ℕ). 2 * k) (sym (counted-is (w 120960 ∷ []) most-counted .changes))))
+
 pub worked : Worked
 unfolding opened bytesOf changesIn isUnknown follows allFollow inOrder isEven isDayRecord endBefore wordsOf cardRead changeOf isWritten changeIf changesFrom isWholeDays cardWritten
+    afterChange judgedFrom refusalFor
 worked = record {
   empty = refl;
   rest-day = refl;
@@ -107,10 +135,10 @@ worked = record {
   equal = refl;
   falling = refl;
   order-first = refl;
-  most-days = refl;
-  more-days = refl;
+  most-days = ap counted (by-changes (days 84) 84 0 refl);
+  more-days = by-changes (days 85) 85 2 refl;
   unknown-first = refl;
-  total-first = refl;
+  total-first = by-changes (days 85) 0 2 refl;
   few-words = refl;
   more-words = refl;
   words-kept = refl;
@@ -129,5 +157,5 @@ worked = record {
   few-bytes = refl;
   more-bytes = refl;
   bytes-kept = refl;
-  most-minutes = refl;
+  most-minutes = most-written;
 }

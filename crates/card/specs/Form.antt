@@ -8,7 +8,7 @@ use lib.Dec.{leb}
 use Rattle.recording.specs.Tests.{_and_, pick, one}
 use Rattle.recording.specs.Words.{activities}
 
--- ---- changes
+-- ---- changes: the bits s, c and p, the activity and the minute in the day
 pub record Change : Type 0 where
   pub slot : Bool
   pub crew : Bool
