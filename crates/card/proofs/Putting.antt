@@ -105,8 +105,17 @@ run-counted : (m before a n : ℕ) (ms : List ℕ) → m < dayMinutes → 1 ≤ 
 run-counted m before a zero ms l h = absurd (omega arith)
 run-counted m before a (suc n) ms l h = run-changes m before a n ms l
 
+-- the words from a place on: none, or one more
 none-left : (words : List ℕ) (i : ℕ) → i ≡ length words → drop i words ≡ []
 none-left words i e = rw (e, drop-length)
+
+module _ (words : List ℕ) (i : ℕ) (h : i < length words) where
+  next-word : minutesOf (drop i words) ≡ replicate (minutesIn (getD words i 0)) (activityIn (getD words i 0)) ++ minutesOf (drop (i + 1) words)
+  unfolding minutesOf
+  next-word = rw (drop-cons words i 0 h, add-one)
+
+  pub next-length : length (minutesOf (drop i words)) ≡ minutesIn (getD words i 0) + length (minutesOf (drop (i + 1) words))
+  next-length = ap length next-word ∙ rw (length-append, length-replicate)
 
 -- ---- the first pass over the words
 pub record Counting (words : List ℕ) (sum before changes i : ℕ) : Type 0 where
@@ -160,19 +169,12 @@ module _ {words : List ℕ} {sum before changes i : ℕ} (k : Counting words sum
         total-few = none .within;
       }
 
-      first-word : minutesOf (drop i words) ≡ replicate minutes-there activity-there ++ minutesOf (drop (i + 1) words)
-      unfolding minutesOf
-      first-word = rw (drop-cons words i 0 h, add-one)
-
-      first-length : length (minutesOf (drop i words)) ≡ minutes-there + length (minutesOf (drop (i + 1) words))
-      first-length = ap length first-word ∙ rw (length-append, length-replicate)
-
       counted-word : length (changesFrom (sum % dayMinutes) before (minutesOf (drop i words)))
           ≡ changesInRun (sum % dayMinutes) before activity-there minutes-there
           + length (changesFrom ((sum + minutes-there) % dayMinutes) activity-there (minutesOf (drop (i + 1) words)))
       counted-word =
           let p : (sum % dayMinutes + minutes-there) % dayMinutes ≡ (sum + minutes-there) % dayMinutes = omega arith in
-          ap (λ (l : List ℕ). length (changesFrom (sum % dayMinutes) before l)) first-word
+          ap (λ (l : List ℕ). length (changesFrom (sum % dayMinutes) before l)) (next-word words i h)
           ∙ run-counted (sum % dayMinutes) before activity-there minutes-there (minutesOf (drop (i + 1) words)) (omega arith) (none .some)
           ∙ ap (λ (n : ℕ). changesInRun (sum % dayMinutes) before activity-there minutes-there + length (changesFrom n activity-there (minutesOf (drop (i + 1) words)))) p
 
@@ -181,7 +183,7 @@ module _ {words : List ℕ} {sum before changes i : ℕ} (k : Counting words sum
         place = omega arith;
         within = none .within;
         same-total = k .same-total ∙ total-on words sum i h (sym e ∙ z);
-        minutes = omega (arith, k .minutes, first-length);
+        minutes = omega (arith, k .minutes, next-length words i h);
         same-changes = omega (arith, k .same-changes, q, counted-word);
         few = count-within .changes-few;
       }
@@ -257,23 +259,15 @@ pub start-putting : (words bytes : List ℕ) → length (minutesOf words) ≤ to
 start-putting words bytes h = record { place = omega arith; code = omega arith; day = omega arith; room = omega arith; same = refl }
 
 module _ {words bytes₀ bytes : List ℕ} {at minute before activity n i : ℕ} (p : Putting words bytes₀ bytes at minute before activity n i) where
-  module _ (h : i < length words) where
-    fetched : minutesOf (drop i words) ≡ replicate (minutesIn (getD words i 0)) (activityIn (getD words i 0)) ++ minutesOf (drop (i + 1) words)
-    unfolding minutesOf
-    fetched = rw (drop-cons words i 0 h, add-one)
-
-    pub fetch-length : length (minutesOf (drop i words)) ≡ minutesIn (getD words i 0) + length (minutesOf (drop (i + 1) words))
-    fetch-length = ap length fetched ∙ rw (length-append, length-replicate)
-
-    pub fetch-on : n ≡ 0 → Putting words bytes₀ bytes at minute before (activityIn (getD words i 0)) (minutesIn (getD words i 0)) (i + 1)
-    fetch-on z = record {
-      place = omega arith;
-      code = omega arith;
-      day = p .day;
-      room = omega (arith, p .room, fetch-length);
-      same = p .same ∙ ap (λ (k : ℕ). sets bytes at (bytesOf (changesFrom minute before (replicate k activity ++ minutesOf (drop i words))))) z
-          ∙ ap (λ (l : List ℕ). sets bytes at (bytesOf (changesFrom minute before l))) fetched;
-    }
+  pub fetch-on : i < length words → n ≡ 0 → Putting words bytes₀ bytes at minute before (activityIn (getD words i 0)) (minutesIn (getD words i 0)) (i + 1)
+  fetch-on h z = record {
+    place = omega arith;
+    code = omega arith;
+    day = p .day;
+    room = omega (arith, p .room, next-length words i h);
+    same = p .same ∙ ap (λ (k : ℕ). sets bytes at (bytesOf (changesFrom minute before (replicate k activity ++ minutesOf (drop i words))))) z
+        ∙ ap (λ (l : List ℕ). sets bytes at (bytesOf (changesFrom minute before l))) (next-word words i h);
+  }
 
   pub put-done : n ≡ 0 → i ≡ length words → bytes ≡ sets bytes₀ 0 (recordOfMinutes (minutesOf words))
   unfolding minutesOf changesFrom bytesOf

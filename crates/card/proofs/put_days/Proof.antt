@@ -3,7 +3,7 @@ use Prim.Native.Nat.{_+_, _-_}
 use native.Mathlib.Omega.{arith}
 use lib.ListN.{length, drop}
 use Rattle.recording.specs.Words.{minutesOf}
-use Rattle.card.proofs.Putting.{Putting, start-putting, fetch-length, fetch-on, part-on, put-done, put-length}
+use Rattle.card.proofs.Putting.{Putting, start-putting, next-length, fetch-on, part-on, put-done, put-length}
 use borrow.Author.Needs.{needs}
 use Rattle.card.proofs.put_days.Statement.{statement}
 use Rattle.card.proofs.put_days.Tie as tie
@@ -21,7 +21,8 @@ walk-holds c = start-putting _ _ (c .before .before .pre)
 walk-less : tie.Need-walk-less Inv-walk μ-walk
 walk-less c =
     let fetch = c .before .before in
-    omega (arith, fetch-length (fetch .before .walk .inv) (omega arith), fetch .if1 .taken)
+    let walk = fetch .before in
+    omega (arith, next-length (walk .before .before .before .args .words .now) (walk .walk .i) (omega arith), fetch .if1 .taken)
 
 walk-again : tie.Need-walk-again Inv-walk μ-walk
 walk-again c =
