@@ -14,6 +14,7 @@ use Rattle.recording.proofs.TestLaws.{and-left, and-right, and-both, or-cases, 
 use Rattle.card.specs.Form.{Change, slotPlace, crewPlace, outPlace, activityPlace, numberOf, byteValues, bytesOf, unknown, dayMinutes}
 use Rattle.card.specs.Form.{Rising, day, Days, numbersThen, numbersOfDays, bytesOfDays, OfTheForm}
 use Rattle.card.specs.Form as form
+use Rattle.card.proofs.Putting.{bytes-length}
 use Rattle.card.specs.Reading.{changesIn, changeMinute, changeActivity, bitAt, isUnknown, follows, allFollow, inOrder, isEven, isDayRecord}
 
 -- ---- bytes and changes
@@ -25,14 +26,9 @@ unfolding changesIn bytesOf
 changes-of-bytes [] = refl
 changes-of-bytes (c ∷ cs) = ap₂ (λ (n : ℕ) (l : List ℕ). n ∷ l) (two-bytes c) (changes-of-bytes cs)
 
-even-bytes : (cs : List ℕ) → length (bytesOf cs) % 2 ≡ 0
-unfolding bytesOf
-even-bytes [] = refl
-even-bytes (c ∷ cs) = let i : length (bytesOf cs) % 2 ≡ 0 = even-bytes cs in omega arith
-
 pub bytes-even : (cs : List ℕ) → isEven (length (bytesOf cs)) ≡ true
 unfolding isEven
-bytes-even cs = eq-eqb _ _ (even-bytes cs)
+bytes-even cs = eq-eqb (length (bytesOf cs) % 2) 0 (omega (arith, bytes-length cs))
 
 -- a byte
 pub data Bytes : List ℕ → Type 0 where

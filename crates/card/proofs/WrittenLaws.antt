@@ -19,7 +19,7 @@ use Rattle.recording.proofs.Listing.{measured-is}
 use Rattle.card.specs.Form.{activityPlace, outPlace, byteValues, bytesOf, dayMinutes, OfTheForm, minutesOfDays}
 use Rattle.card.specs.Reading.{changesIn, changeMinute, changeActivity, isUnknown, beginsDay, follows, allFollow, inOrder, isDayRecord, endBefore, wordsOf, cardRead}
 use Rattle.card.specs.Writing.{changeOf, isWritten, changeIf, nextMinute, changesFrom, changesOf, recordOfMinutes, isWholeDays, cardWritten}
-use Rattle.card.proofs.Judging.{words-count}
+use Rattle.card.proofs.Judging.{end-none, words-count}
 use Rattle.card.proofs.FormLaws.{Bytes, none, next, changes-of-bytes, bytes-even, read-is-form}
 use Rattle.card.proofs.MinuteLaws.{no-words, record-minutes}
 
@@ -153,10 +153,6 @@ pub written-form : {ms : List ℕ} → Coded ms → OfTheForm (recordOfMinutes m
 written-form {ms} c = read-is-form (bytes-from 0 rest c (omega arith)) (written-is-record ms)
 
 -- ---- the minutes of what is written
-no-end : endBefore [] ≡ dayMinutes
-unfolding endBefore
-no-end = refl
-
 one-word : (m b e : ℕ) (cs : List ℕ) → m < dayMinutes → b < activities → endBefore cs ≡ e
     → minutesOf (wordsOf (changeOf b m ∷ cs)) ≡ replicate (e - m) b ++ minutesOf (wordsOf cs)
 unfolding minutesOf wordsOf
@@ -180,7 +176,7 @@ module _ (m r b : ℕ) (k : b < activities) (l : m < r) (u : r ≤ dayMinutes) w
   unfolding changesFrom
   minutes-none e =
       let p : r ≡ dayMinutes = omega arith in
-      rw p (one-word m b dayMinutes [] (omega arith) k no-end ∙ ap (λ (x : List ℕ). replicate (dayMinutes - m) b ++ x) no-words)
+      rw p (one-word m b dayMinutes [] (omega arith) k end-none ∙ ap (λ (x : List ℕ). replicate (dayMinutes - m) b ++ x) no-words)
 
 -- a change at minute m with its activity up to minute r, after which ms come to the end of a day
 pub minutes-from : (m r b : ℕ) {ms : List ℕ} → Coded ms → b < activities → m < r → r ≤ dayMinutes → (r + length ms) % dayMinutes ≡ 0

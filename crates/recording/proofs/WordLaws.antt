@@ -51,42 +51,7 @@ unfolding minutesOf
 coded-minutes [] = no-minute
 coded-minutes (w ∷ ws) = coded-run (minutesIn w) (activityIn w) (omega arith) (coded-minutes ws)
 
--- a total that is not refused is the number of minutes, within the limit
-pub record Total (t : ℕ) (ws : List ℕ) (n : ℕ) : Type 0 where
-  pub minutes : n ≡ t + length (minutesOf ws)
-  pub within : n ≤ totalAtMost
-
-no-fault : (t w : ℕ) (n : ℕ) (later : Answer ℕ) → unlessFault (faultOf t w) later ≡ answered n → (t + minutesIn w ≤ totalAtMost) × (later ≡ answered n)
-unfolding faultOf
-no-fault t w n later e = go (eqb (minutesIn w) 0) (ltb totalAtMost (t + minutesIn w)) refl e
-  where
-    go : (a b : Bool) → ltb totalAtMost (t + minutesIn w) ≡ b → unlessFault (pick a 1 (pick b 2 0)) later ≡ answered n
-        → (t + minutesIn w ≤ totalAtMost) × (later ≡ answered n)
-    go true b p q = let z : _≡_ {A = ℕ} 0 1 = cc in absurd (omega arith)
-    go false true p q = let z : _≡_ {A = ℕ} 0 1 = cc in absurd (omega arith)
-    go false false p q = (ltb-false _ _ p, q)
-
-pub total-is : (t : ℕ) (ws : List ℕ) (n : ℕ) → t ≤ totalAtMost → totalFrom t ws ≡ answered n → Total t ws n
-unfolding totalFrom minutesOf
-total-is t [] n h e = let z : t ≡ n = cc in record { minutes = omega arith; within = omega arith }
-total-is t (w ∷ ws) n h e =
-    let k = no-fault t w n (totalFrom (t + minutesIn w) ws) e in
-    let i = total-is (t + minutesIn w) ws n (k .0) (k .1) in
-    record { minutes = rw (length-append, length-replicate) (omega (arith, i .minutes)); within = i .within }
-
--- ---- one word of the total
-pub fault-empty : (t w : ℕ) → minutesIn w ≡ 0 → faultOf t w ≡ 1
-unfolding faultOf
-fault-empty t w z = simp (eq-eqb _ _ z)
-
-pub fault-past : (t w : ℕ) → (minutesIn w ≡ 0 → ⊥) → totalAtMost < t + minutesIn w → faultOf t w ≡ 2
-unfolding faultOf
-fault-past t w z l = simp (ne-eqb _ _ z, lt-ltb _ _ l)
-
-pub fault-none : (t w : ℕ) → (minutesIn w ≡ 0 → ⊥) → t + minutesIn w ≤ totalAtMost → faultOf t w ≡ 0
-unfolding faultOf
-fault-none t w z l = simp (ne-eqb _ _ z, le-ltb _ _ l)
-
+-- ---- the fault of a word
 -- a word without a fault has a minute, and is within the limit
 pub record NoFault (t w : ℕ) : Type 0 where
   pub some : 1 ≤ minutesIn w
@@ -104,6 +69,39 @@ no-fault-is t w e = go (eqb (minutesIn w) 0) (ltb totalAtMost (t + minutesIn w))
 pub unless-some : {A : Type 0} (n : ℕ) (later : Answer A) → (n ≡ 0 → ⊥) → unlessFault n later ≡ refused n
 unless-some zero later h = absurd (h refl)
 unless-some (suc n) later h = refl
+
+unless-answered : {A : Type 0} (n : ℕ) {later : Answer A} {a : A} → unlessFault n later ≡ answered a → (n ≡ 0) × (later ≡ answered a)
+unless-answered zero e = (refl, e)
+unless-answered (suc n) e = let z : _≡_ {A = ℕ} 0 1 = cc in absurd (omega arith)
+
+pub no-fault : (t w n : ℕ) (later : Answer ℕ) → unlessFault (faultOf t w) later ≡ answered n → NoFault t w × (later ≡ answered n)
+no-fault t w n later e = let k = unless-answered (faultOf t w) e in (no-fault-is t w (k .0), k .1)
+
+-- a total that is not refused is the number of minutes, within the limit
+pub record Total (t : ℕ) (ws : List ℕ) (n : ℕ) : Type 0 where
+  pub minutes : n ≡ t + length (minutesOf ws)
+  pub within : n ≤ totalAtMost
+
+pub total-is : (t : ℕ) (ws : List ℕ) (n : ℕ) → t ≤ totalAtMost → totalFrom t ws ≡ answered n → Total t ws n
+unfolding totalFrom minutesOf
+total-is t [] n h e = let z : t ≡ n = cc in record { minutes = omega arith; within = omega arith }
+total-is t (w ∷ ws) n h e =
+    let k = no-fault t w n (totalFrom (t + minutesIn w) ws) e in
+    let i = total-is (t + minutesIn w) ws n (k .0 .within) (k .1) in
+    record { minutes = rw (length-append, length-replicate) (omega (arith, i .minutes)); within = i .within }
+
+-- ---- one word of the total
+pub fault-empty : (t w : ℕ) → minutesIn w ≡ 0 → faultOf t w ≡ 1
+unfolding faultOf
+fault-empty t w z = simp (eq-eqb _ _ z)
+
+pub fault-past : (t w : ℕ) → (minutesIn w ≡ 0 → ⊥) → totalAtMost < t + minutesIn w → faultOf t w ≡ 2
+unfolding faultOf
+fault-past t w z l = simp (ne-eqb _ _ z, lt-ltb _ _ l)
+
+pub fault-none : (t w : ℕ) → (minutesIn w ≡ 0 → ⊥) → t + minutesIn w ≤ totalAtMost → faultOf t w ≡ 0
+unfolding faultOf
+fault-none t w z l = simp (ne-eqb _ _ z, le-ltb _ _ l)
 
 module _ (ws : List ℕ) (t i : ℕ) (h : i < length ws) where
   pub total-on : faultOf t (getD ws i 0) ≡ 0 → totalFrom t (drop i ws) ≡ totalFrom (t + minutesIn (getD ws i 0)) (drop (i + 1) ws)

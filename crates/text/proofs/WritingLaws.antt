@@ -1,43 +1,33 @@
 -- Writing: what is written is of the form, reading it gives the same minutes, and it depends on the minutes alone. Assumes nothing.
 use mathlib.Core.Path.{_≡_, refl, ap, _∙_}
-use mathlib.Core.Bool.{Bool, true, false}
+use mathlib.Core.Bool.{true, false}
 use mathlib.Core.List.{List, [], _∷_}
 use Prim.Native.Nat.{ℕ, _+_, _≤_, _<_}
 use native.Mathlib.Omega.{arith}
-use lib.Dec.{eqb, ltb}
+use lib.Dec.{ltb}
 use lib.ListN.{length}
-use borrow.Author.Tests.{eqb-false, lt-ltb, le-ltb}
-use Rattle.recording.specs.Tests.{pick}
+use borrow.Author.Tests.{lt-ltb, le-ltb}
 use Rattle.recording.specs.Answers.{Answer, refused, answered, andThen, counted, filled}
 use Rattle.recording.specs.Words.{minutesIn, minutesOf}
-use Rattle.recording.specs.Operations.{totalAtMost, faultOf, unlessFault, totalFrom, measureOf, measured}
+use Rattle.recording.specs.Operations.{totalAtMost, totalFrom, measureOf, measured}
 use Rattle.recording.specs.declared.Measure.{Measure}
 use Rattle.recording.proofs.Listing.{measured-is}
 use Rattle.text_lines.specs.Form.{OfTheForm}
 use Rattle.text_lines.specs.Reading.{linesIn, isText, wordsOf, textRead}
 use Rattle.text.specs.Writing.{weeksJoined, textOfMinutes, textWritten}
 use Rattle.text.specs.Passes.{Put, EachSome, none, next, Writable}
-use Rattle.recording.proofs.WordLaws.{coded-minutes}
+use Rattle.recording.proofs.WordLaws.{no-fault, coded-minutes}
 use Rattle.recording.proofs.Slices.{put-in-front}
 use Rattle.text.proofs.Joining.{weeks-allowed, all-minutes}
 use Rattle.text.proofs.FormLaws.{form-is-read, words-read}
 
 -- ---- what weighing accepts can be written
-some-minutes : (t w n : ℕ) (later : Answer ℕ) → unlessFault (faultOf t w) later ≡ answered n → (1 ≤ minutesIn w) × (later ≡ answered n)
-unfolding faultOf
-some-minutes t w n later e = go (eqb (minutesIn w) 0) (ltb totalAtMost (t + minutesIn w)) refl e
-  where
-    go : (a b : Bool) → eqb (minutesIn w) 0 ≡ a → unlessFault (pick a 1 (pick b 2 0)) later ≡ answered n → (1 ≤ minutesIn w) × (later ≡ answered n)
-    go true b p q = let z : _≡_ {A = ℕ} 0 1 = cc in absurd (omega arith)
-    go false true p q = let z : _≡_ {A = ℕ} 0 1 = cc in absurd (omega arith)
-    go false false p q = let z : minutesIn w ≡ 0 → ⊥ = eqb-false (minutesIn w) 0 p in (omega arith, q)
-
 each-some : (t : ℕ) (ws : List ℕ) (n : ℕ) → totalFrom t ws ≡ answered n → EachSome ws
 unfolding totalFrom
 each-some t [] n e = none
 each-some t (w ∷ ws) n e =
-    let k = some-minutes t w n (totalFrom (t + minutesIn w) ws) e in
-    next (k .0) (each-some (t + minutesIn w) ws n (k .1))
+    let k = no-fault t w n (totalFrom (t + minutesIn w) ws) e in
+    next (k .0 .some) (each-some (t + minutesIn w) ws n (k .1))
 
 pub measured-writable : (ws : List ℕ) {m : Measure} → measured ws ≡ answered m → Writable ws
 unfolding measured
