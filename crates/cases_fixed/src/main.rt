@@ -70,6 +70,18 @@ fn main() {
     show(b"d270 r45 d1", &full, 315);
     let not_full = [1083u32, 176, 7];
     show(b"d270 r44 d1", &not_full, 314);
+    let before_driving = [60u32, 1083, 120, 7];
+    show(b"r15 d270 r30 d1", &before_driving, 315);
+    let after_work = [242u32, 241, 60, 1083, 120, 7];
+    show(b"w60 a60 r15 d270 r30 d1", &after_work, 435);
+    let after_a_minute = [60u32, 7, 60, 1079, 120, 7];
+    show(b"r15 d1 r15 d269 r30 d1", &after_a_minute, 330);
+    let too_short = [60u32, 7, 56, 1079, 120, 7];
+    show(b"r15 d1 r14 d269 r30 d1", &too_short, 329);
+    let after_clearing = [7u32, 180, 242, 60, 1083, 120, 7];
+    show(b"d1 r45 w60 r15 d270 r30 d1", &after_clearing, 421);
+    let before_clearing = [7u32, 60, 7, 180, 1083, 120, 7];
+    show(b"d1 r15 d1 r45 d270 r30 d1", &before_clearing, 362);
     let w900 = [3602u32];
     show(b"w900", &w900, 899);
     let w901 = [3606u32];

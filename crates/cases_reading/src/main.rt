@@ -190,6 +190,18 @@ fn show_weeks() {
     );
     let driving = [1087u32];
     show(b"a fixed rule first", &driving, b"");
+    let before_driving = [60u32, 1083, 120, 7, 2160, 6];
+    show(
+        b"a quarter hour before any driving",
+        &before_driving,
+        b"\x00\x00\x00",
+    );
+    let after_a_minute = [7u32, 60, 1079, 120, 7, 2160, 6];
+    show(
+        b"a quarter hour after a minute of it",
+        &after_a_minute,
+        b"\x00\x00\x00",
+    );
     let empty = [2u32];
     show(b"a word of no minutes", &empty, b"");
 }

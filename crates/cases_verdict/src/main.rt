@@ -252,6 +252,21 @@ fn show_edges() {
     show_times(b"6 times (w780 r660), w1", 6, b"w780 r660", b"w1");
 }
 
+// First parts: driving done since the sum was last cleared, or since minute 0, or not.
+fn show_first_parts() {
+    show_runs(b"r15 d270 r30 d1");
+    show_runs(b"r30 d270 r30 d1");
+    show_runs(b"r44 d270 r44 d1");
+    show_runs(b"w60 a60 r15 d270 r30 d1");
+    show_runs(b"r15 d1 r15 d269 r30 d1");
+    show_runs(b"r15 d1 r14 d269 r30 d1");
+    show_runs(b"d1 r45 w60 r15 d270 r30 d1");
+    show_runs(b"d1 r15 d1 r30 a60 r15 d270 r30 d1");
+    show_runs(b"d1 r45 d1 r15 d269 r30 d1");
+    show_runs(b"d1 r15 d1 r45 d270 r30 d1");
+    show_runs(b"d1 r15 d1 r30 d270 r30 d1");
+}
+
 // The articles that "On the edge" has no case of, and weeks of rest only.
 fn show_articles() {
     show_runs(b"d270 r45 d270 r45 d60");
@@ -504,6 +519,7 @@ fn show_refusals() {
 
 fn main() {
     show_edges();
+    show_first_parts();
     show_articles();
     show_figure_1();
     show_figures();

@@ -144,9 +144,9 @@ unfolding keep endBy closedBy totalBy faultOf totalFrom measured digitAt decimal
     stageFrom isText wordsOf textRead
 forms = record {
   article-7 = breach-printed _ refl (edge 4);
-  article-6-1 = breach-printed _ refl (edge 20);
-  article-6-2 = breach-printed _ refl (edge 24);
-  article-6-3 = breach-printed _ refl (edge 25);
+  article-6-1 = breach-printed _ refl (edge 32);
+  article-6-2 = breach-printed _ refl (edge 36);
+  article-6-3 = breach-printed _ refl (edge 37);
   article-8-2 = breach-printed _ refl (edge 8);
   article-8 = breach-printed _ refl (edge 12);
   weekly-rests = lines-by _ _;

@@ -25,6 +25,11 @@ unfolding _and_
 and-both true b s t = t
 and-both false b s t = s
 
+pub and-false : (a : Bool) → a and false ≡ false
+unfolding _and_
+and-false true = refl
+and-false false = refl
+
 pub or-cases : (a b : Bool) → a or b ≡ true → (a ≡ true) ⊎ (b ≡ true)
 unfolding _or_
 or-cases true b t = inl refl

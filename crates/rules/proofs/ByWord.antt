@@ -12,6 +12,7 @@ use Rattle.recording.specs.Tests.{_and_, _or_, pick, one}
 use Rattle.recording.specs.Words.{minutesIn, activityIn, minutesOf, isDriving}
 use Rattle.recording.specs.Days.{daysFrom, days}
 use Rattle.recording.specs.Weeks.{weekOf}
+use Rattle.recording.proofs.TestLaws.{and-false}
 use Rattle.recording.proofs.ByWord.{judgedEndBy, judged-by, longRestsBy, rests-by, totalBy, total-by, drivingBy, driving-by}
 use Rattle.rules.specs.Broken.{ifNone}
 use Rattle.rules.specs.declared.Accumulated.{Accumulated}
@@ -53,13 +54,9 @@ at-the-end : (x y limit : ℕ) (b : Bool) → x ≤ y → leb x limit and (leb y
 unfolding _and_
 at-the-end x y limit b h = go (leb y limit) refl
   where
-    first : (t : Bool) → t and false ≡ false
-    first true = refl
-    first false = refl
-
     go : (t : Bool) → leb y limit ≡ t → leb x limit and (t and b) ≡ t and b
     go true e = ap (λ (z : Bool). z and b) (le-leb x limit (omega (arith, leb-true y limit e)))
-    go false e = first (leb x limit)
+    go false e = and-false (leb x limit)
 
 grows : (n a : ℕ) (d : Accumulated) → d .sum ≤ droveFor n a d .sum
 grows n a d = omega arith

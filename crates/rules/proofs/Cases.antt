@@ -206,8 +206,24 @@ worked =
     passes (d 270 ∷ r 45 ∷ d 1 ∷ []) ∷
     breaks (d 270 ∷ r 44 ∷ d 1 ∷ []) [] 315 1 ∷
     breaks (d 135 ∷ r 15 ∷ d 135 ∷ r 29 ∷ d 1 ∷ []) [] 315 1 ∷
-    -- and a first part before any driving
-    passes (r 15 ∷ d 270 ∷ r 30 ∷ d 1 ∷ []) ∷
+    -- a rest before any driving is no first part, nor is one after work and availability alone
+    breaks (r 15 ∷ d 270 ∷ r 30 ∷ d 1 ∷ []) [] 316 1 ∷
+    breaks (r 30 ∷ d 270 ∷ r 30 ∷ d 1 ∷ []) [] 331 1 ∷
+    breaks (r 44 ∷ d 270 ∷ r 44 ∷ d 1 ∷ []) [] 359 1 ∷
+    breaks (w 60 ∷ a 60 ∷ r 15 ∷ d 270 ∷ r 30 ∷ d 1 ∷ []) [] 436 1 ∷
+    -- one after a minute of driving is
+    passes (r 15 ∷ d 1 ∷ r 15 ∷ d 269 ∷ r 30 ∷ d 1 ∷ []) ∷
+    breaks (r 15 ∷ d 1 ∷ r 14 ∷ d 269 ∷ r 30 ∷ d 1 ∷ []) [] 330 1 ∷
+    -- the same after the sum is cleared, by 45 or by a second part
+    breaks (d 1 ∷ r 45 ∷ w 60 ∷ r 15 ∷ d 270 ∷ r 30 ∷ d 1 ∷ []) [] 422 1 ∷
+    breaks (d 1 ∷ r 15 ∷ d 1 ∷ r 30 ∷ a 60 ∷ r 15 ∷ d 270 ∷ r 30 ∷ d 1 ∷ []) [] 423 1 ∷
+    passes (d 1 ∷ r 45 ∷ d 1 ∷ r 15 ∷ d 269 ∷ r 30 ∷ d 1 ∷ []) ∷
+    -- a first part does not live on after that
+    breaks (d 1 ∷ r 15 ∷ d 1 ∷ r 45 ∷ d 270 ∷ r 30 ∷ d 1 ∷ []) [] 363 1 ∷
+    breaks (d 1 ∷ r 15 ∷ d 1 ∷ r 30 ∷ d 270 ∷ r 30 ∷ d 1 ∷ []) [] 348 1 ∷
+    -- and a reading's test goes by it
+    tests (r 15 ∷ d 270 ∷ r 30 ∷ d 1 ∷ r 540 ∷ w 1 ∷ []) (daily 1 []) 1 ∷
+    tests (d 1 ∷ r 15 ∷ d 269 ∷ r 30 ∷ d 1 ∷ r 540 ∷ w 1 ∷ []) (daily 1 []) 0 ∷
     -- rule 2: 600, 540, two days
     passes (d 270 ∷ r 45 ∷ d 270 ∷ r 45 ∷ d 60 ∷ []) ∷
     breaks (d 270 ∷ r 45 ∷ d 270 ∷ r 45 ∷ d 61 ∷ []) [] 691 2 ∷

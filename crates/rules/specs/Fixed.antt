@@ -1,4 +1,4 @@
--- Public: document 01, "Fixed rules", rules 1 to 5, over the minutes of a recording.
+-- Public: document 01, "Fixed rules", rules 1 to 5, over the minutes of a recording; with document 02, request 2.
 -- Assumes nothing.
 use mathlib.Core.Bool.{Bool, true, false}
 use mathlib.Core.List.{List, [], _∷_}
@@ -30,12 +30,13 @@ secondPart = 30
 abbrev pub clears : ℕ → Accumulated → Bool
 clears n d = leb fullBreak n or (leb secondPart n and d .split)
 
--- "A rest of 15 or more is a first part, unless it clears the sum"
-abbrev pub splits : ℕ → Bool
-splits n = leb firstPart n
+-- "A rest of 15 or more is a first part, unless it clears the sum". Document 02, request 2: "From now on a rest is a first part only if driving
+-- has been done since the sum was last cleared, or since minute 0 if it never was." The sum is that driving.
+abbrev pub splits : ℕ → Accumulated → Bool
+splits n d = leb firstPart n and ltb 0 (d .sum)
 
 unfoldable pub rested : ℕ → Accumulated → Accumulated
-rested n d = pick (clears n d) cleared (record { sum = d .sum; split = splits n or d .split })
+rested n d = pick (clears n d) cleared (record { sum = d .sum; split = splits n d or d .split })
 
 unfoldable pub drove : ℕ → Accumulated → Accumulated
 drove a d = record { sum = one (isDriving a) + d .sum; split = d .split }

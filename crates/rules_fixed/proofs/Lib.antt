@@ -1,5 +1,6 @@
 pub mod Driving
 pub mod Accumulated
+pub mod FirstPart
 pub mod DayEnds
 pub mod Rules
 pub mod AccountRight

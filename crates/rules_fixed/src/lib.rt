@@ -9,7 +9,7 @@ ghost use lib.Seq.{sets};
 ghost use Rattle.recording.specs.Words.{minutesOf};
 ghost use Rattle.recording.specs.Rests.{longRestsAtMost};
 ghost use Rattle.recording.specs.Operations.{totalAtMost};
-ghost use Rattle.rules.specs.Fixed.{rested};
+ghost use Rattle.rules.specs.Fixed.{cleared, rested};
 ghost use Rattle.rules.specs.Operations.{fixedTested};
 ghost use Rattle.rules_fixed.specs.Account.{dayAfter, weekNext, brokenAt, smaller, firstBreak, accountFrom, opening};
 ghost use Rattle.rules_fixed.specs.Nets.{regularNet, netsIn, Within};
@@ -91,30 +91,34 @@ const DAILY_WINDOW: u32 = 1440;
 
 const FULL_PORTION: u32 = 660;
 
+// Rule 1: the driving sum where it starts, and where it is cleared.
+fn cleared_sum() -> Accumulated
+    ensures { λ r. ⌜ r ≡ cleared ⌝ }
+{
+    Accumulated {
+        sum: 0,
+        split: false,
+    }
+}
+
 // Rule 1: the driving sum after a rest of n minutes.
 fn rested_for(n: u32, d: Accumulated) -> Accumulated
     ensures { λ r. ⌜ r ≡ rested n d ⌝ }
 {
     if FULL_BREAK <= n {
-        return Accumulated {
-            sum: 0,
-            split: false,
-        };
+        return cleared_sum();
     }
     if n < FIRST_PART {
         return d;
     }
-    if n < SECOND_PART {
-        return Accumulated {
-            sum: d.sum,
-            split: true,
-        };
-    }
     if d.split {
-        return Accumulated {
-            sum: 0,
-            split: false,
-        };
+        if n < SECOND_PART {
+            return d;
+        }
+        return cleared_sum();
+    }
+    if d.sum == 0 {
+        return d;
     }
     Accumulated {
         sum: d.sum,
@@ -396,10 +400,7 @@ fn account_of(words: &[u32], m: u32) -> Account
     let mut s = Account {
         now: 0,
         from: 0,
-        accumulated: Accumulated {
-            sum: 0,
-            split: false,
-        },
+        accumulated: cleared_sum(),
         day: Day {
             start: 0,
             driving: 0,

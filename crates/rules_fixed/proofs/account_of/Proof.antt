@@ -14,7 +14,7 @@ abbrev μ-loop : tie.MeasureT-loop
 μ-loop words m s₀ togo₀ i₀ s togo i = length words - i
 
 loop-holds : tie.Need-loop-holds Inv-loop μ-loop
-loop-holds c = start-walking _ _ ((c .before) .pre)
+loop-holds c = rw (c .cleared-sum .ensures) (start-walking _ _ ((c .before .before) .pre))
 
 run-requires : tie.Need-run-requires Inv-loop μ-loop
 run-requires c κs =
@@ -41,6 +41,7 @@ account-of-spec =
     (tie.spec
     Inv-loop
     μ-loop
+    (λ c κs. search needs)
     loop-holds
     (λ c. search needs)
     (λ c. search needs)
