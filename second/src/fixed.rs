@@ -1,7 +1,7 @@
-//! Rules 1 to 5, minute by minute as the document says them.
+//! Rules 1 to 5, minute by minute as the documents say them.
 
 use crate::limits::Limits;
-use crate::recording::{weighed_minutes, Activity, Recording};
+use crate::recording::{weighed_minutes, Activity, Recording, Span};
 use crate::refusal::Refusal;
 
 /// Testing fixed rules for a stretch of m: "1, 2; then 5, m is over N. The
@@ -26,47 +26,65 @@ pub fn broken_rule(recording: &Recording) -> u8 {
     0
 }
 
-/// Rule 1, article 7: the driving since the last break, and whether a first
-/// part of a break has been taken.
-#[derive(Clone, Copy, Debug, Default, PartialEq, Eq)]
-pub struct UnbrokenDriving {
-    /// The document's driving sum: "A driving sum starts at 0."
-    pub sum: i64,
-    pub first_part: bool,
+/// Rule 1, article 7, after some minutes.
+#[derive(Default)]
+struct Breaks {
+    /// "A driving sum starts at 0."
+    sum: i64,
+    /// Whether a first part has been taken.
+    first_part: bool,
+    /// The end of the rest that last cleared the sum, or minute 0.
+    cleared: i64,
+    /// The last minute of driving, if there was one.
+    driven: Option<i64>,
 }
 
-impl UnbrokenDriving {
+impl Breaks {
     /// "After a rest of 45 or more it is 0 again. A rest of 15 or more is a
     /// first part, unless it clears the sum; a rest of 30 or more after a first
     /// part clears the sum. Clearing forgets the first part."
-    pub fn after_rest(self, length: i64, limits: &Limits) -> UnbrokenDriving {
-        let second_part = self.first_part && length >= limits.second_part;
-        if length >= limits.full_break || second_part {
-            return UnbrokenDriving::default();
+    fn rest(&mut self, rest: Span, limits: &Limits) {
+        let second_part = self.first_part && rest.length() >= limits.second_part;
+        if rest.length() >= limits.full_break || second_part {
+            self.sum = 0;
+            self.first_part = false;
+            self.cleared = rest.end;
+        } else if rest.length() >= limits.first_part && self.driving_done() {
+            self.first_part = true;
         }
-        UnbrokenDriving {
-            sum: self.sum,
-            first_part: self.first_part || length >= limits.first_part,
-        }
+    }
+
+    /// Request 2: "From now on a rest is a first part only if driving has been
+    /// done since the sum was last cleared, or since minute 0 if it never was."
+    fn driving_done(&self) -> bool {
+        self.driven.is_some_and(|minute| minute >= self.cleared)
+    }
+
+    fn drive(&mut self, minute: i64) {
+        self.sum += 1;
+        self.driven = Some(minute);
     }
 }
 
 /// "The sum never passes 270."
 fn rule_1(recording: &Recording) -> bool {
     let limits = recording.limits;
-    let mut driving = UnbrokenDriving::default();
-    let mut rest = 0;
-    for &activity in recording.minutes {
+    let mut breaks = Breaks::default();
+    let mut reached = 0;
+    for (minute, &activity) in (0..).zip(recording.minutes) {
         if activity == Activity::Rest {
-            rest += 1;
             continue;
         }
-        driving = driving.after_rest(rest, limits);
-        rest = 0;
+        let rest = Span {
+            start: reached,
+            end: minute,
+        };
+        breaks.rest(rest, limits);
+        reached = minute + 1;
         if activity == Activity::Driving {
-            driving.sum += 1;
+            breaks.drive(minute);
         }
-        if driving.sum > limits.unbroken_driving {
+        if breaks.sum > limits.unbroken_driving {
             return false;
         }
     }

@@ -2,7 +2,6 @@
 //! [`recording`](crate::recording) and [`fixed`](crate::fixed), without a list
 //! of minutes.
 
-use crate::fixed::UnbrokenDriving;
 use crate::limits::Limits;
 use crate::recording::{word_activity, word_minutes, Activity, Span};
 
@@ -235,6 +234,31 @@ impl<'a> Course<'a> {
 fn passes(before: i64, span: Span, limit: i64) -> Option<i64> {
     let grows_past = before <= limit && before + span.length() > limit;
     grows_past.then(|| span.start + (limit - before) + 1)
+}
+
+/// Rule 1 after some runs: the driving sum, and whether a first part has been
+/// taken.
+#[derive(Clone, Copy, Default)]
+struct UnbrokenDriving {
+    sum: i64,
+    first_part: bool,
+}
+
+impl UnbrokenDriving {
+    /// Request 2: "a rest is a first part only if driving has been done since
+    /// the sum was last cleared, or since minute 0 if it never was." Just then
+    /// the sum is over 0.
+    fn after_rest(self, length: i64, limits: &Limits) -> UnbrokenDriving {
+        let second_part = self.first_part && length >= limits.second_part;
+        if length >= limits.full_break || second_part {
+            return UnbrokenDriving::default();
+        }
+        let first_part = self.sum > 0 && length >= limits.first_part;
+        UnbrokenDriving {
+            sum: self.sum,
+            first_part: self.first_part || first_part,
+        }
+    }
 }
 
 /// A count for each week.

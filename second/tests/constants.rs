@@ -82,8 +82,9 @@ fn rule_1() {
     assert_eq!(fixed_rule("d100 r15 d170 r30 d270"), 0);
     assert_eq!(fixed_rule("d100 r15 d170 r29 d1"), 1);
     assert_eq!(fixed_rule("d100 r14 d170 r30 d1"), 1);
-    // A first part may come before any driving.
-    assert_eq!(fixed_rule("r15 d270 r30 d1"), 0);
+    // A rest before any driving is no first part.
+    assert_eq!(fixed_rule("r15 d270 r30 d1"), 1);
+    assert_eq!(fixed_rule("r15 d1 r15 d269 r30 d1"), 0);
     // A rest of 30 to 44 is itself a first part where none came before it.
     assert_eq!(fixed_rule("d100 r30 d170 r30 d270"), 0);
     // Clearing forgets the first part.

@@ -3,13 +3,12 @@
 
 mod shorthand;
 
-use second::plain;
 use second::print::print;
 use second::reading::{standings, Entry, Standing};
 use second::recording::{minutes, Recording};
 use second::verdict::Outcome;
 use second::Limits;
-use shorthand::{around, judged, span, times, words};
+use shorthand::{around, judged, plainly, span, times, words};
 
 fn pass(shorthand: &str) {
     shorthand::assert_pass(shorthand);
@@ -26,11 +25,6 @@ fn breach(shorthand: &str, minute: i64, article: u8) {
         Outcome::Breach { minute, article },
         "{shorthand}"
     );
-}
-
-fn plainly(shorthand: &str) -> Outcome {
-    let minutes = minutes(&words(shorthand));
-    plain::outcome(&Recording::new(&minutes, &Limits::document()))
 }
 
 #[test]

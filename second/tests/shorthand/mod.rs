@@ -3,9 +3,11 @@
 
 #![allow(dead_code)]
 
+use second::plain;
 use second::reading::Entry;
-use second::recording::{word, Activity, Span};
-use second::verdict::{verdict, Verdict};
+use second::recording::{minutes, word, Activity, Recording, Span};
+use second::verdict::{verdict, Outcome, Verdict};
+use second::Limits;
 
 /// `"d135 r15 d135"` as words.
 pub fn words(shorthand: &str) -> Vec<u32> {
@@ -72,6 +74,12 @@ pub fn judged(words: &[u32]) -> Result<Vec<u8>, (i64, u8)> {
             Err((minute, article))
         }
     }
+}
+
+/// The verdict by plain enumeration.
+pub fn plainly(shorthand: &str) -> Outcome {
+    let minutes = minutes(&words(shorthand));
+    plain::outcome(&Recording::new(&minutes, &Limits::document()))
 }
 
 pub fn assert_pass(shorthand: &str) {
