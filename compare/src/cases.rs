@@ -12,6 +12,7 @@ use crate::recordings;
 pub struct Plan {
     pub random: u64,
     pub few_days: u64,
+    pub breaks: u64,
     pub ordinary: u64,
     pub grown: u64,
     /// Of each grown recording, so many cuts and as many changed ones.
@@ -66,6 +67,7 @@ pub fn each_recording(plan: &Plan, visit: VisitRecording) -> bool {
         && recordings_of(plan.random, 1, "random words", recordings::random, visit)
         && recordings_of(plan.few_days, 2, "few days", recordings::few_days, visit)
         && few_days_changed(plan, visit)
+        && recordings_of(plan.breaks, 9, "breaks", recordings::breaks, visit)
         && recordings_of(plan.ordinary, 4, "ordinary weeks", grow::ordinary, visit)
         && grown(plan, visit)
         && recordings_of(plan.hard, 6, "hard", |dice| grow::hard(dice, 150), visit)
@@ -161,6 +163,7 @@ fn recordings_of(
     (0..count).all(|number| {
         let mut dice = Dice::new(1_000_000 * seed + number);
         let words = make(&mut dice);
+        let words = recordings::setting_off(&mut dice, words);
         one(kind, &words, &mut dice, visit)
     })
 }
@@ -182,7 +185,9 @@ fn grown(plan: &Plan, visit: VisitRecording) -> bool {
         one("grown", &words, &mut dice, visit)
             && (0..plan.stages).all(|_| {
                 let cut = recordings::cut(&mut dice, &words);
+                let cut = recordings::setting_off(&mut dice, cut);
                 let changed = recordings::changed(&mut dice, &words);
+                let changed = recordings::setting_off(&mut dice, changed);
                 one("while growing", &cut, &mut dice, visit)
                     && one("grown, changed", &changed, &mut dice, visit)
             })

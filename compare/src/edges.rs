@@ -29,7 +29,7 @@ fn whole(words: Vec<u32>) -> Edge {
     }
 }
 
-/// "On the edge", and the figures of source document 000.
+/// "On the edge", the case of request 2, and the figures of source document 000.
 pub fn on_the_edge() -> Vec<Edge> {
     let mut edges: Vec<Edge> = [
         "",
@@ -39,6 +39,7 @@ pub fn on_the_edge() -> Vec<Edge> {
         "d135 r14 d135 r30 d270",
         "d135 r30 d135 r15 d1",
         "d270 a45 d1",
+        "r15 d270 r30 d1",
         "w900",
         "w901",
         "w900 r539 w1",
@@ -109,6 +110,7 @@ pub fn constants() -> Vec<Edge> {
     let mut edges = totals();
     for change in [-1, 0, 1] {
         edges.extend(fixed_rules(change));
+        edges.extend(first_parts(change));
         edges.extend(readings(change));
         edges.extend(weekly_rests(change));
         edges.extend(whole_days(change));
@@ -157,7 +159,6 @@ fn fixed_rules(change: i64) -> Vec<Edge> {
         format!("d100 r{} d170 r30 d1", at(15)),
         format!("d100 r{} d170 r30 d270", at(30)),
         format!("d100 r15 d100 r{} d270 r30 d1", at(45)),
-        format!("r15 d{} r30 d1", at(270)),
         day(at(600)),
         format!("{}{}", times(2, &extended), day(at(540))),
         format!("r{} w1 {}{}", at(7_616), times(2, &extended), day(541)),
@@ -171,6 +172,35 @@ fn fixed_rules(change: i64) -> Vec<Edge> {
     .iter()
     .map(|shorthand| edge(shorthand))
     .collect()
+}
+
+/// Rests before setting off, at the start and after a break; and a minute after.
+fn first_parts(change: i64) -> Vec<Edge> {
+    let at = |edge: i64| edge + change;
+    let mut edges = Vec::new();
+    for before in [
+        "",
+        "w10",
+        "a10",
+        "d100 r45 w10",
+        "d100 r45 a10",
+        "d100 r15 d10 r30 w10",
+        "d100 r600 w10",
+    ] {
+        for runs in [
+            format!("r{} d270 r30 d1", at(15)),
+            format!("r{} d270 r30 d1", at(30)),
+            format!("r{} d270 r30 d1", at(44)),
+            format!("r15 d270 r{} d1", at(30)),
+            format!("r15 d{} r30 d1", at(270)),
+            format!("d1 r{} d269 r30 d1", at(15)),
+            format!("r15 d1 r{} d269 r30 d1", at(15)),
+            format!("r15 w1 r{} d270 r30 d1", at(30)),
+        ] {
+            edges.push(edge(&format!("{before} {runs}")));
+        }
+    }
+    edges
 }
 
 /// Rules 6 to 9, by readings.

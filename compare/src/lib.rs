@@ -6,6 +6,7 @@ mod cards;
 pub mod cases;
 pub mod difference;
 mod edges;
+pub mod first_part;
 pub mod inputs;
 pub mod operation;
 mod recordings;

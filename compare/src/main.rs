@@ -23,6 +23,7 @@ fn main() {
     let plan = Plan {
         random: 9_000,
         few_days: 5_000,
+        breaks: 4_000,
         ordinary: 1_500,
         grown: 240,
         stages: 5,
@@ -37,7 +38,7 @@ fn main() {
         let operation = attempt.operation;
         match compared(desk, second, operation, &attempt.input) {
             Ok(answer) => {
-                tally.count(kind, attempt.variant, operation, &answer);
+                tally.count(kind, &attempt, &answer);
                 true
             }
             Err(difference) => {

@@ -1,7 +1,7 @@
 //! An operation with its input, and what the second program answers to it.
 
 use second::recording::Span;
-use second::verdict::Verdict;
+use second::verdict::{Outcome, Verdict};
 use second::Refusal;
 
 /// The operations of documents 01 and 02.
@@ -148,11 +148,25 @@ pub fn second(operation: Operation, input: &Input) -> Answer {
     answer(told.map_err(Refusal::number), after)
 }
 
-pub fn verdict_values(verdict: Verdict) -> Vec<u64> {
+fn verdict_values(verdict: Verdict) -> Vec<u64> {
     match verdict {
         Verdict::Pass { written } => vec![PASS, written as u64],
         Verdict::Breach { minute, article } => vec![BREACH, minute as u64, article.into()],
     }
+}
+
+/// The answer of a verdict that comes out so, in a buffer with room for it.
+pub fn verdict_answer(outcome: &Outcome, input: &Input) -> Answer {
+    let mut after = input.clone();
+    let verdict = match *outcome {
+        Outcome::Pass(ref reading) => {
+            let written = reading.len();
+            after.lent_bytes[..written].copy_from_slice(reading);
+            Verdict::Pass { written }
+        }
+        Outcome::Breach { minute, article } => Verdict::Breach { minute, article },
+    };
+    answer(Ok(verdict_values(verdict)), after)
 }
 
 /// The records' starts and ends go to a list, and come back whatever the answer.

@@ -2,9 +2,11 @@
 
 use second::dice::Dice;
 use second::grow;
-use second::recording::{word, word_activity, word_minutes, Activity};
+use second::recording::{total_minutes, word, word_activity, word_minutes, Activity};
 use second::small;
 use second::Limits;
+
+use crate::inputs::one_of;
 
 /// Any words: now and then one of no minutes or a huge one, or nothing else.
 pub fn random(dice: &mut Dice) -> Vec<u32> {
@@ -35,6 +37,111 @@ fn any_word(dice: &mut Dice) -> u32 {
 pub fn few_days(dice: &mut Dice) -> Vec<u32> {
     let most_rests = dice.between(1, 8);
     small::recording(dice, &Limits::document(), most_rests)
+}
+
+/// A drive about as long as the sum may grow, with rests about as long as a break
+/// or one of its parts. Before most there is a rest of 15 to 44 minutes, at minute 0
+/// or after other drives and a break.
+pub fn breaks(dice: &mut Dice) -> Vec<u32> {
+    let mut words = Vec::new();
+    for _ in 0..dice.below(3) {
+        words.push(word(dice.between(1, 120), Activity::Driving));
+        whole_break(dice, &mut words);
+    }
+    if !dice.one_in(4) {
+        words.extend(dice.one_in(3).then(|| other_duty(dice)));
+        words.push(part_of_a_break(dice));
+    }
+    words.extend(dice.one_in(3).then(|| other_duty(dice)));
+    long_drive(dice, &mut words);
+    let rest = one_of(dice, &[29, 30, 30, 37, 44, 45]);
+    words.push(word(rest, Activity::Rest));
+    words.push(word(dice.between(1, 40), Activity::Driving));
+    words.extend(dice.one_in(2).then(|| part_of_a_break(dice)));
+    words.push(other_duty(dice));
+    words
+}
+
+/// A break in one piece or in two, or a long rest, and no driving after it.
+fn whole_break(dice: &mut Dice, words: &mut Vec<u32>) {
+    let rest = match dice.below(4) {
+        0 => one_of(dice, &[45, 60]),
+        1 => dice.between(540, 700),
+        _ => {
+            words.extend([word(15, Activity::Rest), other_duty(dice)]);
+            dice.between(30, 44)
+        }
+    };
+    words.extend([word(rest, Activity::Rest), other_duty(dice)]);
+}
+
+/// Driving in one piece, or in two with a rest about as long as a first part.
+fn long_drive(dice: &mut Dice, words: &mut Vec<u32>) {
+    let minutes = one_of(dice, &[180, 260, 269, 270, 270]);
+    let first = one_of(dice, &[1, minutes / 2, minutes, minutes]);
+    words.push(word(first, Activity::Driving));
+    if first < minutes {
+        let rest = one_of(dice, &[1, 14, 15, 29, 30]);
+        words.push(word(rest, Activity::Rest));
+        words.push(word(minutes - first, Activity::Driving));
+    }
+}
+
+/// A rest of 15 to 44 minutes.
+fn part_of_a_break(dice: &mut Dice) -> u32 {
+    let any = dice.between(15, 44);
+    word(one_of(dice, &[15, any, 44]), Activity::Rest)
+}
+
+fn other_duty(dice: &mut Dice) -> u32 {
+    let activity = one_of(dice, &[Activity::Work, Activity::Availability]);
+    word(dice.between(1, 20), activity)
+}
+
+/// One recording in four with a rest of 15 to 44 minutes before setting off, if it
+/// fits in: at the start, or ahead of the first drive after a rest of 45 or more.
+/// Half of the time the next break is then as long as a second part.
+pub fn setting_off(dice: &mut Dice, words: Vec<u32>) -> Vec<u32> {
+    if !dice.one_in(4) {
+        return words;
+    }
+    let drives = first_drives(&words);
+    let mut changed = words.clone();
+    if drives.is_empty() || dice.one_in(3) {
+        changed.splice(0..0, [part_of_a_break(dice), other_duty(dice)]);
+    } else {
+        let drive = one_of(dice, &drives);
+        let next = (drive..words.len()).find(|&index| is_break(words[index]));
+        let next = next.filter(|&index| word_minutes(words[index]) < 540);
+        if let Some(next) = next.filter(|_| dice.one_in(2)) {
+            changed[next] = word(dice.between(30, 44), Activity::Rest);
+        }
+        changed.splice(drive..drive, [other_duty(dice), part_of_a_break(dice)]);
+    }
+    if total_minutes(&changed) > Limits::document().total {
+        return words;
+    }
+    changed
+}
+
+/// The drives that are the first since minute 0 or since a rest of 45 or more.
+fn first_drives(words: &[u32]) -> Vec<usize> {
+    let mut first = true;
+    let mut drives = Vec::new();
+    for (index, &word) in words.iter().enumerate() {
+        if is_break(word) {
+            first = true;
+        } else if word_activity(word) == Activity::Driving {
+            drives.extend(first.then_some(index));
+            first = false;
+        }
+    }
+    drives
+}
+
+/// A rest that clears the sum by itself.
+fn is_break(word: u32) -> bool {
+    word_activity(word) == Activity::Rest && word_minutes(word) >= 45
 }
 
 /// The recording cut at some word, as it was while it grew.

@@ -5,12 +5,12 @@ use second::card::{changes, Change};
 use second::fast::Judge;
 use second::recording::word;
 use second::runs::runs;
-use second::verdict::{Outcome, Verdict};
 use second::Limits;
 
 use compare::cases::{self, Plan};
 use compare::difference::{compared, smallest, Difference};
-use compare::operation::{second, verdict_values, Answer, Input, Operation, Program};
+use compare::first_part;
+use compare::operation::{second, verdict_answer, Answer, Input, Operation, Program};
 
 use crate::desk::desk;
 
@@ -23,7 +23,7 @@ struct Wrong {
     most_bytes: usize,
 }
 
-const WRONG: [Wrong; 8] = [
+const WRONG: [Wrong; 10] = [
     Wrong {
         name: "rule 10 a minute late",
         program: rule_10_a_minute_late,
@@ -72,12 +72,25 @@ const WRONG: [Wrong; 8] = [
         most_words: 0,
         most_bytes: 4,
     },
+    Wrong {
+        name: "a first part before any driving",
+        program: first_part::any_rest,
+        most_words: 4,
+        most_bytes: 0,
+    },
+    Wrong {
+        name: "a first part by driving before the sum was cleared",
+        program: first_part::since_minute_0,
+        most_words: 7,
+        most_bytes: 0,
+    },
 ];
 
 /// The edges alone, and few recordings of each other kind.
 const PLAN: Plan = Plan {
     random: 50,
     few_days: 50,
+    breaks: 20,
     ordinary: 5,
     grown: 0,
     stages: 0,
@@ -133,22 +146,11 @@ fn rule_8_a_week_late(operation: Operation, input: &Input) -> Answer {
 
 /// The second program with other numbers in the verdict.
 fn judged_by(limits: &Limits, operation: Operation, input: &Input) -> Answer {
-    let mut answer = second(operation, input);
+    let answer = second(operation, input);
     if operation != Operation::Verdict || answer.told.is_err() {
         return answer;
     }
-    answer.lent_bytes = input.lent_bytes.clone();
-    let verdict = match Judge::new(&input.words, limits).outcome() {
-        Outcome::Pass(reading) => {
-            answer.lent_bytes[..reading.len()].copy_from_slice(&reading);
-            Verdict::Pass {
-                written: reading.len(),
-            }
-        }
-        Outcome::Breach { minute, article } => Verdict::Breach { minute, article },
-    };
-    answer.told = Ok(verdict_values(verdict));
-    answer
+    verdict_answer(&Judge::new(&input.words, limits).outcome(), input)
 }
 
 /// The byte after the text set to 0.

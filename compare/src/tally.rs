@@ -2,7 +2,12 @@
 
 use std::collections::BTreeSet;
 
+use crate::first_part::{self, JUDGING, SIDES};
+use crate::inputs::Try;
 use crate::operation::{Answer, Operation};
+
+/// The inputs on each side of request 2 that an operation is compared on at least.
+const EACH_SIDE: usize = 500;
 
 /// A number for each operation.
 type Counts = [usize; Operation::ALL.len()];
@@ -19,6 +24,11 @@ impl Table {
             self.0.len() - 1
         });
         self.0[at].1[operation as usize] += 1;
+    }
+
+    fn counted(&self, row: &str, operation: Operation) -> usize {
+        let at = self.0.iter().find(|known| known.0 == row);
+        at.map_or(0, |(_, counts)| counts[operation as usize])
     }
 
     fn sums(&self) -> Counts {
@@ -54,20 +64,20 @@ impl Table {
 pub struct Tally {
     kinds: Table,
     variants: Table,
+    /// By whether a mistake about first parts would show.
+    first_parts: Table,
     /// The refusals, rules and articles that each operation answered with.
     told: BTreeSet<(usize, String)>,
 }
 
 impl Tally {
-    pub fn count(
-        &mut self,
-        kind: &'static str,
-        variant: &'static str,
-        operation: Operation,
-        answer: &Answer,
-    ) {
+    pub fn count(&mut self, kind: &'static str, attempt: &Try, answer: &Answer) {
+        let operation = attempt.operation;
         self.kinds.count(kind, operation);
-        self.variants.count(variant, operation);
+        self.variants.count(attempt.variant, operation);
+        for side in first_part::sides(operation, &attempt.input, answer) {
+            self.first_parts.count(side, operation);
+        }
         self.told
             .insert((operation as usize, class(operation, answer)));
     }
@@ -81,6 +91,8 @@ impl Tally {
         println!();
         self.variants.print("beside them");
         println!();
+        self.first_parts.print("first part by mistake");
+        println!();
         print!("{:22}", "inputs");
         for sum in self.kinds.sums() {
             print!("{sum:10}");
@@ -88,8 +100,8 @@ impl Tally {
         println!();
     }
 
-    /// The operations with fewer inputs than asked for, and the answers that
-    /// were never met.
+    /// The operations with fewer inputs than asked for, also on one side of
+    /// request 2, and the answers that were never met.
     pub fn missing(&self, at_least: usize) -> Vec<String> {
         let mut missing = Vec::new();
         for (operation, sum) in Operation::ALL.into_iter().zip(self.kinds.sums()) {
@@ -99,6 +111,14 @@ impl Tally {
             for class in classes(operation) {
                 if !self.told.contains(&(operation as usize, class.clone())) {
                     missing.push(format!("{}: {class}", operation.name()));
+                }
+            }
+        }
+        for operation in JUDGING {
+            for side in SIDES {
+                let count = self.first_parts.counted(side, operation);
+                if count < EACH_SIDE {
+                    missing.push(format!("{}: {side} {count} times", operation.name()));
                 }
             }
         }

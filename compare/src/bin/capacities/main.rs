@@ -40,6 +40,7 @@ fn may_be_left_out(entries: u32, kind: &str) -> bool {
 const PLAN: Plan = Plan {
     random: 500,
     few_days: 500,
+    breaks: 200,
     ordinary: 300,
     grown: 60,
     stages: 5,
@@ -54,6 +55,7 @@ const PLAN: Plan = Plan {
 const SELF_TEST: Plan = Plan {
     random: 0,
     few_days: 20,
+    breaks: 0,
     ordinary: 0,
     grown: 0,
     stages: 0,

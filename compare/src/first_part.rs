@@ -1,0 +1,192 @@
+//! Request 2: "a rest is a first part only if driving has been done since the
+//! sum was last cleared, or since minute 0 if it never was." Two mistakes about
+//! it: the programs that make them, and the inputs that could show them.
+
+use second::fast::Judge;
+use second::fixed;
+use second::reading::{self, entries};
+use second::recording::{minutes, Activity, Recording};
+use second::runs::runs;
+use second::verdict::Outcome;
+use second::Limits;
+
+use crate::cards::split_at;
+use crate::operation::{answer, one, second, verdict_answer, Answer, Input, Operation};
+
+/// The operations that rely on the break sum.
+pub const JUDGING: [Operation; 3] = [
+    Operation::FixedTest,
+    Operation::ReadingTest,
+    Operation::Verdict,
+];
+
+/// What has been driven before a rest of 15 minutes or more that does not clear
+/// the sum.
+#[derive(Clone, Copy)]
+struct Driven {
+    since_minute_0: bool,
+    since_cleared: bool,
+}
+
+/// A wrong word on when such a rest is a first part. An input with a rest that is
+/// wrongly taken as one is counted in either of two rows: the mistake makes another
+/// answer of it, or the same.
+struct Mistake {
+    first_part: fn(Driven) -> bool,
+    other_answer: &'static str,
+    same_answer: &'static str,
+}
+
+/// Every such rest, also before any driving.
+const ANY_REST: Mistake = Mistake {
+    first_part: |_| true,
+    other_answer: "any rest: other answer",
+    same_answer: "any rest: same answer",
+};
+
+/// After any driving, also where the sum has been cleared since.
+const SINCE_MINUTE_0: Mistake = Mistake {
+    first_part: |driven| driven.since_minute_0,
+    other_answer: "since 0: other answer",
+    same_answer: "since 0: same answer",
+};
+
+/// All the rows.
+pub const SIDES: [&str; 4] = [
+    ANY_REST.other_answer,
+    ANY_REST.same_answer,
+    SINCE_MINUTE_0.other_answer,
+    SINCE_MINUTE_0.same_answer,
+];
+
+/// The rows in which an input is counted, by its right answer.
+pub fn sides(operation: Operation, input: &Input, right: &Answer) -> Vec<&'static str> {
+    if !judges(operation, right) {
+        return Vec::new();
+    }
+    let words = judged_words(operation, input);
+    let made = [ANY_REST, SINCE_MINUTE_0].into_iter();
+    made.filter(|mistake| mistake.is_made(&words))
+        .map(|mistake| {
+            if mistake.answer(operation, input) == *right {
+                mistake.same_answer
+            } else {
+                mistake.other_answer
+            }
+        })
+        .collect()
+}
+
+/// The second program, but a rest before any driving is a first part too.
+pub fn any_rest(operation: Operation, input: &Input) -> Answer {
+    ANY_REST.program(operation, input)
+}
+
+/// The second program, but driving before the sum was cleared is enough.
+pub fn since_minute_0(operation: Operation, input: &Input) -> Answer {
+    SINCE_MINUTE_0.program(operation, input)
+}
+
+impl Mistake {
+    fn program(&self, operation: Operation, input: &Input) -> Answer {
+        let right = second(operation, input);
+        if judges(operation, &right) {
+            self.answer(operation, input)
+        } else {
+            right
+        }
+    }
+
+    /// Whether some rest of the recording is wrongly taken as a first part.
+    fn is_made(&self, words: &[u32]) -> bool {
+        let mut made = false;
+        breach_of_rule_1(words, &mut |driven| {
+            made |= (self.first_part)(driven) && !driven.since_cleared;
+            driven.since_cleared
+        });
+        made
+    }
+
+    /// What an operation that relies on the break sum answers, if not a refusal.
+    fn answer(&self, operation: Operation, input: &Input) -> Answer {
+        let words = judged_words(operation, input);
+        let breach = breach_of_rule_1(&words, &mut |driven| (self.first_part)(driven));
+        let without_rule_1 = Limits {
+            unbroken_driving: i64::MAX,
+            ..Limits::document()
+        };
+        if operation == Operation::Verdict {
+            let outcome = outcome(&words, &without_rule_1, breach);
+            return verdict_answer(&outcome, input);
+        }
+        let minutes = minutes(&words);
+        let recording = Recording::new(&minutes, &without_rule_1);
+        let rule = match operation {
+            _ if breach.is_some() => 1,
+            Operation::FixedTest => fixed::broken_rule(&recording),
+            _ => reading::broken_rule(&recording, &entries(&input.bytes)),
+        };
+        answer(Ok(one(rule)), input.clone())
+    }
+}
+
+/// Whether the operation relies on the break sum and does not refuse.
+fn judges(operation: Operation, answer: &Answer) -> bool {
+    JUDGING.contains(&operation) && answer.told.is_ok()
+}
+
+/// The recording, or the stretch of it that is tested.
+fn judged_words(operation: Operation, input: &Input) -> Vec<u32> {
+    match operation {
+        Operation::FixedTest => split_at(&input.words, input.number as u32).0,
+        _ => input.words.clone(),
+    }
+}
+
+/// The outcome of a recording whose rule 1 is broken at this minute.
+fn outcome(words: &[u32], without_rule_1: &Limits, breach: Option<u32>) -> Outcome {
+    let Some(minute) = breach else {
+        return Judge::new(words, without_rule_1).outcome();
+    };
+    let before = split_at(words, minute - 1).0;
+    match Judge::new(&before, without_rule_1).outcome() {
+        Outcome::Pass(_) => Outcome::Breach {
+            minute: minute.into(),
+            article: 1,
+        },
+        earlier => earlier,
+    }
+}
+
+/// The least m at which the driving sum passes 270. It asks whether a rest of 15 or
+/// more that does not clear the sum is a first part.
+fn breach_of_rule_1(words: &[u32], first_part: &mut dyn FnMut(Driven) -> bool) -> Option<u32> {
+    let limits = Limits::document();
+    let (mut sum, mut since_minute_0, mut part_taken) = (0, false, false);
+    let mut rest = 0;
+    for run in runs(words) {
+        let length = run.span.length();
+        if run.activity == Activity::Rest {
+            rest = length;
+            continue;
+        }
+        if rest >= limits.full_break || part_taken && rest >= limits.second_part {
+            (sum, part_taken) = (0, false);
+        } else if rest >= limits.first_part {
+            part_taken |= first_part(Driven {
+                since_minute_0,
+                since_cleared: sum > 0,
+            });
+        }
+        rest = 0;
+        if run.activity == Activity::Driving {
+            let left = limits.unbroken_driving - sum;
+            if length > left {
+                return Some((run.span.start + left + 1) as u32);
+            }
+            sum += length;
+            since_minute_0 = true;
+        }
+    }
+    None
+}
