@@ -92,6 +92,24 @@ fn edges(lines: &mut Lines) {
     lines.case("6 times (w780 r660), w1", &(six_days + "w1"));
 }
 
+fn first_parts(lines: &mut Lines) {
+    for shorthand in [
+        "r15 d270 r30 d1",
+        "r30 d270 r30 d1",
+        "r44 d270 r44 d1",
+        "w60 a60 r15 d270 r30 d1",
+        "r15 d1 r15 d269 r30 d1",
+        "r15 d1 r14 d269 r30 d1",
+        "d1 r45 w60 r15 d270 r30 d1",
+        "d1 r15 d1 r30 a60 r15 d270 r30 d1",
+        "d1 r45 d1 r15 d269 r30 d1",
+        "d1 r15 d1 r45 d270 r30 d1",
+        "d1 r15 d1 r30 d270 r30 d1",
+    ] {
+        lines.runs(shorthand);
+    }
+}
+
 fn articles(lines: &mut Lines) {
     let day = "d270 r45 d270 r660";
     lines.runs("d270 r45 d270 r45 d60");
@@ -202,6 +220,7 @@ fn refusals(lines: &mut Lines) {
 fn stored_answers() {
     let mut lines = Lines::default();
     edges(&mut lines);
+    first_parts(&mut lines);
     articles(&mut lines);
     figures(&mut lines);
     weeks_and_debts(&mut lines);
