@@ -1,4 +1,4 @@
-// Readings at the edges of rules 6 to 11, the worked numbers of document 01, and the entry of a reading.
+// Readings at the edges of rules 6 to 11 and where a fixed rule comes first, the worked numbers of document 01, and the entry of a reading.
 use libc::STDOUT_FILENO;
 use rules::Kind;
 use rules::Standing;
@@ -160,7 +160,7 @@ fn show_days() {
     );
 }
 
-// Rule 11, and what is turned away before any rule.
+// Rule 11.
 fn show_weeks() {
     let only_one = [
         46080u32,
@@ -188,6 +188,10 @@ fn show_weeks() {
         &only_one,
         b"\x01\x01\x00\x00\x00\x00\x00\x00\x00\x00\x00\x00\x00\x00\x00\x00\x00\x00\x00\x00\x00",
     );
+}
+
+// A fixed rule comes first, and what is turned away before any rule.
+fn show_fixed_rules() {
     let driving = [1087u32];
     show(b"a fixed rule first", &driving, b"");
     let before_driving = [60u32, 1083, 120, 7, 2160, 6];
@@ -214,6 +218,7 @@ fn main() {
     show_compensations();
     show_days();
     show_weeks();
+    show_fixed_rules();
     show_entry(b"abcdef", 1);
     show_entry(b"abcdef", 2);
     show_entry(b"abcdef", 3);
