@@ -56,7 +56,7 @@ fn show_net(net: u32) {
         before: 0,
         start: 60,
         end: 60 + net,
-        net: rules_fixed::regular_net(0, 60, 60 + net),
+        net: 660,
         kind: 1,
         week: 0,
         carrier: 0,
@@ -160,6 +160,65 @@ fn show_days() {
     );
 }
 
+// Rule 9: a daily rest that pays back a minute, the fourth short one, by the words of an earlier rest in its day, of the work after that
+// and of the rest itself.
+fn show_split_day(name: &[u8], earlier: u32, work: u32, long: u32) {
+    let words = [
+        242u32,
+        10796,
+        3362,
+        2400,
+        3362,
+        2400,
+        3362,
+        2400,
+        1202,
+        earlier,
+        work,
+        long,
+        6,
+    ];
+    show(
+        name,
+        &words,
+        b"\x01\x00\x05\x00\x00\x00\x00\x00\x00\x00\x00\x00\x00\x00\x00",
+    );
+}
+
+fn show_split_days() {
+    show_split_day(b"a split day, 540 net of a minute", 720, 1442, 2164);
+    show_split_day(b"a split day, 539 net of a minute", 720, 1442, 2160);
+    show_split_day(b"a rest of 179 before it", 716, 1446, 2164);
+}
+
+// Rule 9: the least net length of a rest that begins so many minutes after P, by whether its day is split; one minute more than it
+// has where none would do.
+fn show_least(name: &[u8], net: u32) {
+    io::write_all(STDOUT_FILENO, name);
+    io::write_all(STDOUT_FILENO, b": ");
+    show_number(net);
+    io::write_all(STDOUT_FILENO, b"\n");
+}
+
+fn show_numbers() {
+    show_least(
+        b"600 minutes from 900 on, split",
+        rules_fixed::regular_net(true, 0, 900, 1500),
+    );
+    show_least(
+        b"600 minutes from 901 on, split",
+        rules_fixed::regular_net(true, 0, 901, 1501),
+    );
+    show_least(
+        b"660 minutes from 780 on",
+        rules_fixed::regular_net(false, 0, 780, 1440),
+    );
+    show_least(
+        b"660 minutes from 781 on",
+        rules_fixed::regular_net(false, 0, 781, 1441),
+    );
+}
+
 // Rule 11.
 fn show_weeks() {
     let only_one = [
@@ -217,6 +276,8 @@ fn main() {
     show_forms();
     show_compensations();
     show_days();
+    show_split_days();
+    show_numbers();
     show_weeks();
     show_fixed_rules();
     show_entry(b"abcdef", 1);

@@ -267,6 +267,72 @@ fn show_first_parts() {
     show_runs(b"d1 r15 d1 r30 d270 r30 d1");
 }
 
+// Days with an earlier rest of 180 to 539 minutes: its edges, its day, and portion 540 by the window.
+fn show_split_days() {
+    show_times(
+        b"4 times (w300 r180 w360 r600), w1",
+        4,
+        b"w300 r180 w360 r600",
+        b"w1",
+    );
+    show_times(
+        b"4 times (w300 r179 w361 r600), w1",
+        4,
+        b"w300 r179 w361 r600",
+        b"w1",
+    );
+    show_times(
+        b"4 times (w100 r539 w101 r600), w1",
+        4,
+        b"w100 r539 w101 r600",
+        b"w1",
+    );
+    show_times(
+        b"4 times (w100 r540 w101 r600), w1",
+        4,
+        b"w100 r540 w101 r600",
+        b"w1",
+    );
+    show_times(
+        b"4 times (w100 r180 w100 r200 w260 r600), w1",
+        4,
+        b"w100 r180 w100 r200 w260 r600",
+        b"w1",
+    );
+    show_runs(b"r180 w660 r600 w840 r600 w840 r600 w840 r600 w1");
+    show_runs(b"r179 w661 r600 w840 r600 w840 r600 w840 r600 w1");
+    show_times(
+        b"3 times (w840 r600), w300 r180 w360 r600 w1",
+        3,
+        b"w840 r600",
+        b"w300 r180 w360 r600 w1",
+    );
+    show_times(
+        b"3 times (w840 r600), w300 r180 w300 r660 w840 r600 w1",
+        3,
+        b"w840 r600",
+        b"w300 r180 w300 r660 w840 r600 w1",
+    );
+    show_times(
+        b"4 times (w840 r600), w300 r180 w1",
+        4,
+        b"w840 r600",
+        b"w300 r180 w1",
+    );
+    show_times(
+        b"4 times (w300 r180 w420 r600), w1",
+        4,
+        b"w300 r180 w420 r600",
+        b"w1",
+    );
+    show_times(
+        b"4 times (w300 r180 w421 r600), w1",
+        4,
+        b"w300 r180 w421 r600",
+        b"w1",
+    );
+}
+
 // The articles that "On the edge" has no case of, and weeks of rest only.
 fn show_articles() {
     show_runs(b"d270 r45 d270 r45 d60");
@@ -520,6 +586,7 @@ fn show_refusals() {
 fn main() {
     show_edges();
     show_first_parts();
+    show_split_days();
     show_articles();
     show_figure_1();
     show_figures();

@@ -11,7 +11,7 @@ use lib.Seq.{slice}
 use borrow.Author.Tests.{le-ltb}
 use Rattle.recording.specs.Tests.{pick, one, keep}
 use Rattle.recording.specs.Words.{minutesIn, activityIn, minutesOf, isDriving, drivingTime}
-use Rattle.recording.specs.Rests.{withRest, endFrom, judgedEnd, closedFrom, isLong, longRests}
+use Rattle.recording.specs.Rests.{withRest, endFrom, judgedEnd, closedFrom, closedRests, isLong, longRests}
 use Rattle.recording.specs.Days.{drivingIn}
 use Rattle.recording.specs.Scan.{cutAt}
 use Rattle.recording.specs.declared.Span.{Span}
@@ -106,6 +106,10 @@ longRestsBy ws = keep isLong (closedBy 0 0 ws)
 pub judged-by : (ws : List ℕ) → judgedEnd (minutesOf ws) ≡ judgedEndBy ws
 unfolding judgedEnd
 judged-by ws = end-by 0 0 ws
+
+pub closed-rests-by : (ws : List ℕ) → closedRests (minutesOf ws) ≡ closedBy 0 0 ws
+unfolding closedRests
+closed-rests-by ws = closed-by 0 0 ws
 
 pub rests-by : (ws : List ℕ) → longRests (minutesOf ws) ≡ longRestsBy ws
 unfolding longRests

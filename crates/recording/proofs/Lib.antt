@@ -2,6 +2,7 @@ pub mod TestLaws
 pub mod Walks
 pub mod Runs
 pub mod LongRests
+pub mod ClosedRests
 pub mod Slices
 pub mod WordLaws
 pub mod DayLaws

@@ -21,15 +21,15 @@ use Rattle.recording.proofs.ByWord.{byRun, restsByRun, endBy, closedBy,
 
 -- ---- a run: the place after it, by its number of minutes and its activity
 module _ (p : Place) where
-  none-run : (a : ℕ) → afterRun p a 0 ≡ p
+  pub none-run : (a : ℕ) → afterRun p a 0 ≡ p
   unfolding afterRun
   none-run a = refl
 
-  rest-run : (n : ℕ) → afterRun p 0 (suc n) ≡ record { now = p .now + suc n; from = p .from; count = p .count }
+  pub rest-run : (n : ℕ) → afterRun p 0 (suc n) ≡ record { now = p .now + suc n; from = p .from; count = p .count }
   unfolding afterRun
   rest-run n = rw (eqb·suc-zero n)
 
-  busy-run : (a n : ℕ) → afterRun p (suc a) (suc n)
+  pub busy-run : (a n : ℕ) → afterRun p (suc a) (suc n)
       ≡ record { now = p .now + suc n; from = p .now + suc n; count = p .count + one (leb longRestMinutes (p .now - p .from)) }
   unfolding afterRun
   busy-run a n = rw (eqb·suc-zero n, eqb·suc-zero a)
@@ -98,10 +98,15 @@ place-count p (w ∷ ws) =
     ∙ ap (λ (c : ℕ). c + length (restsOn q ws)) (run-count p (activityIn w) (minutesIn w))
     ∙ sym (ap (λ (rs : List Span). p .count + length rs) (rests-next p w ws) ∙ pick-length (endsRest p (activityIn w) (minutesIn w)) (restAt p) (restsOn q ws) (p .count))
 
+pub pick-sets : (b : Bool) (v : ℕ) (vs : List ℕ) (c c′ : ℕ) (out : List ℕ) → c′ ≡ c + one b
+    → sets (pick b (set out c v) out) c′ vs ≡ sets out c (pick b (v ∷ vs) vs)
+pick-sets true v vs c c′ out e = ap (λ (n : ℕ). sets (set out c v) n vs) (e ∙ add-one c)
+pick-sets false v vs c c′ out e = ap (λ (n : ℕ). sets out n vs) (omega arith)
+
 pick-written : (f : Span → ℕ) (b : Bool) (r : Span) (rs : List Span) (c c′ : ℕ) (out : List ℕ) → c′ ≡ c + one b
     → sets (pick b (set out c (f r)) out) c′ (map f rs) ≡ sets out c (map f (pick b (r ∷ rs) rs))
-pick-written f true r rs c c′ out e = ap (λ (n : ℕ). sets (set out c (f r)) n (map f rs)) (e ∙ add-one c)
-pick-written f false r rs c c′ out e = ap (λ (n : ℕ). sets out n (map f rs)) (omega arith)
+pick-written f true r rs c c′ out e = pick-sets true (f r) (map f rs) c c′ out e
+pick-written f false r rs c c′ out e = pick-sets false (f r) (map f rs) c c′ out e
 
 pub place-written : (f : Span → ℕ) (p : Place) (ws out : List ℕ) → writtenFrom f p ws out ≡ sets out (p .count) (map f (restsOn p ws))
 unfolding writtenFrom closedBy keep

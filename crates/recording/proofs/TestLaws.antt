@@ -1,5 +1,5 @@
 -- Laws of the joint tests. Assumes nothing.
-use mathlib.Core.Path.{_≡_, refl, ap, _∙_}
+use mathlib.Core.Path.{_≡_, refl, sym, ap, _∙_}
 use mathlib.Core.Logic.{_⊎_, inl, inr}
 use mathlib.Core.Bool.{Bool, true, false, false≢true, true≢false}
 use mathlib.Core.List.{List, [], _∷_, _++_, List·Memᴰ as In, List·Memᴰ·head as here, List·Memᴰ·tail as there, List·Memᴰ·not-nil, List·Memᴰ·cases-cons}
@@ -49,6 +49,21 @@ pub or-else : (a b : Bool) → a ≡ false → a or b ≡ true → b ≡ true
 unfolding _or_
 or-else true b f t = absurd (true≢false f)
 or-else false b f t = t
+
+pub or-false : (a : Bool) → a or false ≡ a
+unfolding _or_
+or-false true = refl
+or-false false = refl
+
+pub or-true : (a : Bool) → a or true ≡ true
+unfolding _or_
+or-true true = refl
+or-true false = refl
+
+pub or-assoc : (a b c : Bool) → a or b or c ≡ a or (b or c)
+unfolding _or_
+or-assoc true b c = refl
+or-assoc false b c = refl
 
 pub one-most : (b : Bool) → one b ≤ 1
 one-most true = omega arith
@@ -111,6 +126,11 @@ module _ {A : Type 0} (f : A → Bool) where
   unfolding anyOf
   any-of (here e) t = or-left _ _ (rw e at t)
   any-of (there i) t = or-right _ _ (any-of i t)
+
+  pub any-append : (xs ys : List A) → anyOf f (xs ++ ys) ≡ anyOf f xs or anyOf f ys
+  unfolding anyOf _or_
+  any-append [] ys = refl
+  any-append (x ∷ xs) ys = ap (λ (b : Bool). f x or b) (any-append xs ys) ∙ sym (or-assoc (f x) (anyOf f xs) (anyOf f ys))
 
   later : {x : A} {xs : List A} → Witness xs → Witness (x ∷ xs)
   later w = record { item = w .item; listed = there (w .listed); passes = w .passes }

@@ -151,7 +151,7 @@ fn ends_rest(p: Place, activity: u32, n: u32) -> bool
 }
 
 // The place after a run of n minutes of one activity.
-fn after_run(p: Place, activity: u32, n: u32) -> Place
+pub fn after_run(p: Place, activity: u32, n: u32) -> Place
     requires { ⌜ (p .from ≤ p .now) × (p .count ≤ p .now) × (p .now + n ≤ totalAtMost) ⌝ }
     ensures { λ r. ⌜ r ≡ afterRun p activity n ⌝ }
 {

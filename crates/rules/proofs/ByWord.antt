@@ -13,12 +13,12 @@ use Rattle.recording.specs.Words.{minutesIn, activityIn, minutesOf, isDriving}
 use Rattle.recording.specs.Days.{daysFrom, days}
 use Rattle.recording.specs.Weeks.{weekOf}
 use Rattle.recording.proofs.TestLaws.{and-false}
-use Rattle.recording.proofs.ByWord.{judgedEndBy, judged-by, longRestsBy, rests-by, totalBy, total-by, drivingBy, driving-by}
+use Rattle.recording.proofs.ByWord.{closedBy, judgedEndBy, judged-by, closed-rests-by, longRestsBy, rests-by, totalBy, total-by, drivingBy, driving-by}
 use Rattle.rules.specs.Broken.{ifNone}
 use Rattle.rules.specs.declared.Accumulated.{Accumulated}
 use Rattle.rules.specs.Fixed.{cleared, rested, drove, accumulatedAtMost, keepsAccumulated, rule1, firstBroken, fixedTest}
 use Rattle.rules.specs.Reading.{entries}
-use Rattle.rules.specs.ReadingRules.{laterTest, readingTest}
+use Rattle.rules.specs.ReadingRules.{shortened, laterTest, readingTest}
 use Rattle.rules.proofs.RestWeekLaws.{insideRest, reading-by-rests}
 
 -- ---- rule 1: n minutes of an activity that is not rest
@@ -106,7 +106,7 @@ abbrev pub fixedBy : List ℕ → ℕ
 fixedBy ws = firstBroken (keepsAccumulatedBy cleared 0 ws) (drivingBy ws) (weekOf (totalBy ws) + 1) (daysFrom 0 (judgedEndBy ws) (longRestsBy ws))
 
 abbrev pub readingBy : List ℕ → List ℕ → ℕ
-readingBy ws bytes = ifNone (fixedBy ws) (laterTest (insideRest (longRestsBy ws)) (judgedEndBy ws) (longRestsBy ws) (entries (longRestsBy ws) bytes))
+readingBy ws bytes = ifNone (fixedBy ws) (laterTest (insideRest (longRestsBy ws)) (shortened (closedBy 0 0 ws)) (judgedEndBy ws) (longRestsBy ws) (entries (longRestsBy ws) bytes))
 
 pub fixed-by : (ws : List ℕ) → fixedTest (minutesOf ws) ≡ fixedBy ws
 unfolding fixedTest rule1 days
@@ -116,4 +116,4 @@ fixed-by ws =
 pub reading-by : (ws bytes : List ℕ) → readingTest (minutesOf ws) bytes ≡ readingBy ws bytes
 reading-by ws bytes =
     reading-by-rests (minutesOf ws) bytes
-    ∙ rw (fixed-by ws, judged-by ws, rests-by ws)
+    ∙ rw (fixed-by ws, judged-by ws, rests-by ws, closed-rests-by ws)

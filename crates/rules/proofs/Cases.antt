@@ -9,7 +9,7 @@ use Prim.Native.Nat.{ℕ, zero, suc, _*_}
 use lib.Dec.{eqb, leb, ltb}
 use lib.ListN.{length, replicate}
 use borrow.Author.Tests.{eqb-true, eqb-false, leb-true, ltb-true, not-true}
-use Rattle.recording.specs.Tests.{_and_, _or_, allOf}
+use Rattle.recording.specs.Tests.{_and_, _or_, pick, allOf}
 use Rattle.recording.specs.Words.{wordOf, rest, availability, otherWork, driving, minutesOf}
 use Rattle.recording.specs.Rests.{longRests}
 use Rattle.recording.proofs.TestLaws.{and-left, and-right, or-cases}
@@ -17,8 +17,8 @@ use Rattle.recording.specs.declared.Span.{Span}
 use Rattle.recording.proofs.ByWord.{longRestsBy, rests-by, totalBy, total-by, cut-at, endBy, closedBy, drivingUpTo}
 use Rattle.recording.specs.Scan.{cutAt}
 use Rattle.rules.specs.Fixed.{fixedTest}
-use Rattle.rules.specs.Reading.{dailyKind, weeklyKind, entryBytes, readingSize}
-use Rattle.rules.specs.ReadingRules.{readingTest}
+use Rattle.rules.specs.Reading.{Entry, dailyKind, weeklyKind, entryBytes, readingSize}
+use Rattle.rules.specs.ReadingRules.{shortened, readingTest}
 use Rattle.rules.specs.Order.{byteValues, Bytes}
 use Rattle.rules.specs.Verdict.{lawful, firstLawful, prefix, article, articleBy, pass, breach, verdict}
 use Rattle.rules.specs.Opened.{opened}
@@ -35,11 +35,25 @@ pub data Case : Type 0 where
   breaks : List ℕ → List ℕ → ℕ → ℕ → Case
   -- a reading's test has an answer
   tests : List ℕ → List ℕ → ℕ → Case
+  -- a daily rest counts under rule 9 or does not: by the rests that are not open, P, its start and its end, and its load
+  counts : List Span → ℕ → ℕ → ℕ → ℕ → Bool → Case
+
+abbrev dailyRest : ℕ → ℕ → ℕ → ℕ → Entry
+dailyRest p start end load = record {
+  number = 1;
+  before = p;
+  span = record { start = start; end = end };
+  kind = dailyKind;
+  week = 0;
+  compensatedBy = 0;
+  compensation = load;
+}
 
 abbrev pub Says : Case → Type 0
 Says (passes ws) = verdict (minutesOf ws) ≡ pass (allDaily (minutesOf ws))
 Says (breaks ws reading m n) = verdict (minutesOf ws) ≡ breach m n
 Says (tests ws reading n) = readingTest (minutesOf ws) reading ≡ n
+Says (counts closed p start end load b) = shortened closed (dailyRest p start end load) ≡ b
 
 abbrev pub AllSay : List Case → Type 0
 AllSay [] = Unit {0}
@@ -115,6 +129,7 @@ holds (breaks ws reading (suc m) n) =
     noneBy (cutAt (suc m) ws) and
     eqb (articleBy (fixedBy (cutAt (suc m) ws))) n
 holds (tests ws reading n) = eqb (readingBy ws reading) n
+holds (counts closed p start end load b) = pick b (shortened closed (dailyRest p start end load)) (not (shortened closed (dailyRest p start end load)))
 
 -- THE LAW
 module _ (ws : List ℕ) (m : ℕ) where
@@ -144,6 +159,8 @@ says (breaks ws reading (suc m) n) t =
     (rw (total-by ws) within)
     ∙ ap (breach (suc m)) (article-there ws (suc m) ∙ eqb-true _ n (and-right _ _ t))
 says (tests ws reading n) t = reading-by ws reading ∙ eqb-true _ n t
+says (counts closed p start end load true) t = t
+says (counts closed p start end load false) t = not-true (shortened closed (dailyRest p start end load)) t
 
 all-say : (cs : List Case) → allOf holds cs ≡ true → AllSay cs
 unfolding allOf
@@ -172,6 +189,9 @@ daily k after = times k (dailyKind ∷ 0 ∷ 0 ∷ []) after
 
 abbrev pub weekly : ℕ → ℕ → List ℕ → List ℕ
 weekly week carrier after = weeklyKind ∷ week ∷ carrier ∷ after
+
+abbrev pub restOf : ℕ → ℕ → Span
+restOf start end = record { start = start; end = end }
 
 -- "Starred: proved."
 abbrev pub starred : List Case
@@ -256,6 +276,39 @@ worked =
     passes (times 4 (w 780 ∷ r 660 ∷ []) (w 1 ∷ [])) ∷
     breaks (times 4 (w 780 ∷ r 659 ∷ []) (w 1 ∷ [])) (daily 3 []) 5757 6 ∷
     breaks (times 4 (w 781 ∷ r 660 ∷ []) (w 1 ∷ [])) (daily 3 []) 5765 6 ∷
+    -- a day with an earlier rest of 180 to 539; one of 540 is a long rest and ends the day
+    passes (times 4 (w 300 ∷ r 180 ∷ w 360 ∷ r 600 ∷ []) (w 1 ∷ [])) ∷
+    breaks (times 4 (w 300 ∷ r 179 ∷ w 361 ∷ r 600 ∷ []) (w 1 ∷ [])) (daily 3 []) 5761 6 ∷
+    passes (times 4 (w 100 ∷ r 539 ∷ w 101 ∷ r 600 ∷ []) (w 1 ∷ [])) ∷
+    breaks (times 4 (w 100 ∷ r 540 ∷ w 101 ∷ r 600 ∷ []) (w 1 ∷ [])) (daily 3 []) 2683 6 ∷
+    passes (times 4 (w 100 ∷ r 180 ∷ w 100 ∷ r 200 ∷ w 260 ∷ r 600 ∷ []) (w 1 ∷ [])) ∷
+    -- one that begins at minute 0
+    passes (r 180 ∷ w 660 ∷ r 600 ∷ times 3 (w 840 ∷ r 600 ∷ []) (w 1 ∷ [])) ∷
+    breaks (r 179 ∷ w 661 ∷ r 600 ∷ times 3 (w 840 ∷ r 600 ∷ []) (w 1 ∷ [])) (daily 3 []) 5761 6 ∷
+    -- one in the last of four short days, in the day before it and in the day after it
+    passes (times 3 (w 840 ∷ r 600 ∷ []) (w 300 ∷ r 180 ∷ w 360 ∷ r 600 ∷ w 1 ∷ [])) ∷
+    breaks (times 3 (w 840 ∷ r 600 ∷ []) (w 300 ∷ r 180 ∷ w 300 ∷ r 660 ∷ w 840 ∷ r 600 ∷ w 1 ∷ [])) (daily 4 []) 7201 6 ∷
+    breaks (times 4 (w 840 ∷ r 600 ∷ []) (w 300 ∷ r 180 ∷ w 1 ∷ [])) (daily 3 []) 5761 6 ∷
+    -- portion 540 by the window and by a load; with a minute less rule 5 or rule 7 is broken first
+    passes (times 4 (w 300 ∷ r 180 ∷ w 420 ∷ r 600 ∷ []) (w 1 ∷ [])) ∷
+    breaks (times 4 (w 300 ∷ r 180 ∷ w 421 ∷ r 600 ∷ []) (w 1 ∷ [])) [] 901 5 ∷
+    tests (w 60 ∷ r 2699 ∷ times 3 (w 840 ∷ r 600 ∷ []) (w 300 ∷ r 180 ∷ w 360 ∷ r 541 ∷ w 1 ∷ [])) (weekly 0 5 (daily 4 [])) 0 ∷
+    tests (w 60 ∷ r 2699 ∷ times 3 (w 840 ∷ r 600 ∷ []) (w 300 ∷ r 179 ∷ w 361 ∷ r 541 ∷ w 1 ∷ [])) (weekly 0 5 (daily 4 [])) 9 ∷
+    tests (w 60 ∷ r 2699 ∷ times 3 (w 840 ∷ r 600 ∷ []) (w 300 ∷ r 180 ∷ w 360 ∷ r 540 ∷ w 1 ∷ [])) (weekly 0 5 (daily 4 [])) 7 ∷
+    -- rule 9 by itself: portion 540 and 539, by the window and by a load
+    counts (restOf 300 480 ∷ []) 0 900 1500 0 false ∷
+    counts (restOf 300 480 ∷ []) 0 901 1501 0 true ∷
+    counts (restOf 300 480 ∷ []) 0 840 1440 60 false ∷
+    counts (restOf 300 480 ∷ []) 0 840 1440 61 true ∷
+    -- the earlier rest has 179, 180, 539 and 540 minutes
+    counts (restOf 300 479 ∷ []) 0 840 1440 0 true ∷
+    counts (restOf 300 480 ∷ []) 0 840 1440 0 false ∷
+    counts (restOf 300 839 ∷ []) 0 840 1440 0 false ∷
+    counts (restOf 300 840 ∷ []) 0 840 1440 0 true ∷
+    -- it lies in the day from P to the start, or a minute of it does not
+    counts (restOf 300 480 ∷ []) 300 480 1139 0 false ∷
+    counts (restOf 300 480 ∷ []) 301 480 1139 0 true ∷
+    counts (restOf 300 480 ∷ []) 0 479 1138 0 true ∷
     -- rule 11: two weekly rests, one of them regular, in the weeks that end by S
     tests (w 60 ∷ r 11460 ∷ times 5 (w 780 ∷ r 660 ∷ []) (w 780 ∷ r 540 ∷ w 119 ∷ [])) (weekly 0 0 (daily 6 [])) 0 ∷
     tests (w 60 ∷ r 11460 ∷ times 5 (w 780 ∷ r 660 ∷ []) (w 780 ∷ r 540 ∷ w 120 ∷ [])) (weekly 0 0 (daily 6 [])) 11 ∷

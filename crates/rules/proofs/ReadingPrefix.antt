@@ -1,6 +1,6 @@
 -- Rules 6 to 11 hold of each stretch, for the reading restricted to its long rests.
 -- Assumes nothing.
-use mathlib.Core.Path.{_≡_, refl, sym, ap, ap₂, _∙_}
+use mathlib.Core.Path.{_≡_, refl, sym, ap, ap₂, subst, _∙_}
 use mathlib.Core.Logic.{_⊎_, inl, inr}
 use mathlib.Core.Bool.{Bool, true, false, not}
 use mathlib.Core.List.{List, [], _∷_, _++_, map}
@@ -12,16 +12,19 @@ use lib.ListN.{length, drop, getD}
 use lib.Seq.{take-append-le}
 use borrow.Author.Tests.{leb-true, leb-false, le-leb, ltb-true, lt-ltb, eqb-true, eqb-false, ne-eqb}
 use Rattle.recording.specs.Tests.{_and_, _or_, pick, one, allOf, countOf}
+use Rattle.recording.specs.Rests.{judgedEnd, closedRests}
 use Rattle.recording.specs.Weeks.{weekStart, week, isRest, touches, restOnly}
 use Rattle.recording.specs.declared.Span.{Span}
 use Rattle.recording.proofs.TestLaws.{and-left, and-right, and-both, or-cases, or-left, or-right, or-else, is-false, below-at, at-below}
 use Rattle.recording.proofs.LongRests.{Ordered, none, next}
 use Rattle.rules.specs.Reading.{Entry, dailyKind, weeklyKind, asRead, isWeekly, isRegular, reductionOf, compensationOf, entryBytes, entryOf, entriesFrom, upTo, restrictFrom}
-use Rattle.rules.specs.ReadingRules.{formedDaily, formedWeekly, formed, longEnough, deadline, endOf, byDeadline, settles, compensated, shortened, rule9From, weeklyGap, inGap}
+use Rattle.rules.specs.ReadingRules.{formedDaily, formedWeekly, formed, longEnough, deadline, endOf, byDeadline, settles, compensated, weeklyGap, inGap}
+use Rattle.rules.specs.ReadingRules.{portionUnder, dayBefore, fullPortion, secondPeriod, shortened, shortenedAtMost, rule9From}
 use Rattle.rules.specs.ReadingRules.{rule10From, ofKind, countedIn, enoughIn, rule11}
 use Rattle.rules.specs.declared.Kind.{Kind}
 use Rattle.rules.specs.declared.Kind.the-variants.{Daily, Weekly}
 use Rattle.rules.specs.declared.Standing.the-variants.{Regular, Reduced}
+use Rattle.rules.proofs.SplitDays.{split-stretch}
 
 -- ---- entries: the same but for a carrier past the k-th rest
 abbrev pub cut : ℕ → Entry → Entry
@@ -179,10 +182,32 @@ module _ (s′ s : ℕ) (rs qs : List Span) {to : ℕ} (less : s′ ≤ s) (o : 
   compensated-cut e g t = settles-cut (asRead e) (e .compensatedBy) (deadline e) (carrier-le _ e g) t
 
 -- ---- rule 9
-pub prefix9 : (k n : ℕ) (es fs : List Entry) → rule9From n (es ++ fs) ≡ true → rule9From n (map (cut k) es) ≡ true
-unfolding rule9From shortened asRead
-prefix9 k n [] fs t = refl
-prefix9 k n (e ∷ es) fs t = and-both _ _ (and-left _ _ t) (prefix9 k _ es fs (and-right _ _ t))
+-- the entries of the stretch start by s
+pub data Started (s : ℕ) : List Entry → Type 0 where
+  nil : Started s []
+  cons : {e : Entry} {es : List Entry} → e .span .start ≤ s → Started s es → Started s (e ∷ es)
+
+pub started : (n p : ℕ) (earlier : List Entry) (bytes : List ℕ) {to from : ℕ} {rs : List Span} → Ordered to from rs → Started to (entriesFrom n p earlier rs bytes)
+unfolding entriesFrom
+started n p earlier bytes none = Started.nil
+started n p earlier bytes (next {r = r} l m d o) =
+    Started.cons {e = entryOf n p earlier r bytes} (omega arith) (started (suc n) (r .end) (entryOf n p earlier r bytes ∷ earlier) (drop entryBytes bytes) o)
+
+-- which daily rests count is the same in the stretch
+pub counts-cut : (k : ℕ) (xs ys : List ℕ) (e : Entry) → e .span .start ≤ judgedEnd xs → shortened (closedRests (xs ++ ys)) e ≡ shortened (closedRests xs) (cut k e)
+unfolding shortened asRead portionUnder
+counts-cut k xs ys e h =
+    ap (λ (b : Bool). not (isWeekly (asRead e)) and portionUnder fullPortion e and not (not (portionUnder secondPeriod e) and b)) (split-stretch xs ys (dayBefore e) h)
+
+pub prefix9 : (f g : Entry → Bool) (k n : ℕ) {s : ℕ} {es : List Entry} (fs : List Entry) → ((e : Entry) → e .span .start ≤ s → g e ≡ f (cut k e)) → Started s es
+    → rule9From g n (es ++ fs) ≡ true → rule9From f n (map (cut k) es) ≡ true
+unfolding rule9From asRead
+prefix9 f g k n fs same Started.nil t = refl
+prefix9 f g k n fs same (Started.cons {e = e} {es = es} h o) t =
+    let m : pick (isWeekly (asRead e)) 0 (n + one (g e)) ≡ pick (isWeekly (asRead e)) 0 (n + one (f (cut k e))) =
+    ap (λ (b : Bool). pick (isWeekly (asRead e)) 0 (n + one b)) (same e h) in
+    let u = subst (λ (x : ℕ). leb x shortenedAtMost and rule9From g x (es ++ fs) ≡ true) m t in
+    and-both _ _ (and-left _ _ u) (prefix9 f g k _ fs same o (and-right _ _ u))
 
 -- ---- rule 10: to an earlier judged end, or to a weekly rest that starts there or later, is no further
 gap-less : (q s′ s : ℕ) → s′ ≤ s → inGap q s ≡ true → inGap q s′ ≡ true

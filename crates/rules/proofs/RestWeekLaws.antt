@@ -7,7 +7,7 @@ use Prim.Native.Nat.{ℕ, _+_, _≤_}
 use native.Mathlib.Omega.{arith}
 use lib.Dec.{leb}
 use Rattle.recording.specs.Tests.{_and_, anyOf, pick, countOf}
-use Rattle.recording.specs.Rests.{judgedEnd, longRests}
+use Rattle.recording.specs.Rests.{closedRests, judgedEnd, longRests}
 use Rattle.recording.specs.Weeks.{weekStart, week, restOnly, inside}
 use Rattle.recording.specs.declared.Span.{Span}
 use Rattle.recording.proofs.TestLaws.{same-test}
@@ -15,7 +15,7 @@ use Rattle.recording.proofs.RestWeeks.{rest-week}
 use Rattle.rules.specs.Broken.{ifNone}
 use Rattle.rules.specs.Fixed.{fixedTest}
 use Rattle.rules.specs.Reading.{Entry, entries, isWeekly, isRegular}
-use Rattle.rules.specs.ReadingRules.{weeklyAtLeast, regularAtLeast, ofKind, countedIn, enoughIn, rule11, laterTest, readingTest}
+use Rattle.rules.specs.ReadingRules.{shortened, weeklyAtLeast, regularAtLeast, ofKind, countedIn, enoughIn, rule11, laterTest, readingTest}
 use Rattle.rules.proofs.ReadingPrefix.{pair-enough, pairs-enough}
 use Rattle.rules.specs.declared.Kind.{Kind}
 
@@ -44,13 +44,13 @@ module _ (p q : ℕ → Bool) (es : List Entry) where
 pub rule11-same : (p q : ℕ → Bool) (s : ℕ) (es : List Entry) → ((w : ℕ) → weekStart (w + 1) ≤ s → p w ≡ q w) → rule11 p s es ≡ rule11 q s es
 rule11-same p q s es e = same-test _ _ (rule11-from p q es s e) (rule11-from q p es s (λ w h. sym (e w h)))
 
-pub later-same : (p q : ℕ → Bool) (s : ℕ) (rs : List Span) (es : List Entry) → ((w : ℕ) → weekStart (w + 1) ≤ s → p w ≡ q w)
-    → laterTest p s rs es ≡ laterTest q s rs es
+pub later-same : (p q : ℕ → Bool) (counts : Entry → Bool) (s : ℕ) (rs : List Span) (es : List Entry) → ((w : ℕ) → weekStart (w + 1) ≤ s → p w ≡ q w)
+    → laterTest p counts s rs es ≡ laterTest q counts s rs es
 unfolding laterTest
-later-same p q s rs es e = rw (rule11-same p q s es e)
+later-same p q counts s rs es e = rw (rule11-same p q s es e)
 
 pub reading-by-rests : (ms bytes : List ℕ)
-    → readingTest ms bytes ≡ ifNone (fixedTest ms) (laterTest (insideRest (longRests ms)) (judgedEnd ms) (longRests ms) (entries (longRests ms) bytes))
+    → readingTest ms bytes ≡ ifNone (fixedTest ms) (laterTest (insideRest (longRests ms)) (shortened (closedRests ms)) (judgedEnd ms) (longRests ms) (entries (longRests ms) bytes))
 unfolding readingTest
 reading-by-rests ms bytes =
-    ap (ifNone (fixedTest ms)) (later-same (restOnly ms) (insideRest (longRests ms)) (judgedEnd ms) (longRests ms) (entries (longRests ms) bytes) (rest-week ms))
+    ap (ifNone (fixedTest ms)) (later-same (restOnly ms) (insideRest (longRests ms)) _ (judgedEnd ms) (longRests ms) (entries (longRests ms) bytes) (rest-week ms))

@@ -1,13 +1,13 @@
--- Public: document 01, "Readings", rules 6 to 11, over the entries of a reading.
+-- Public: document 01, "Readings", rules 6 to 11, over the entries of a reading; rule 9 with request 3 of document 02.
 -- Assumes nothing.
 use mathlib.Core.Bool.{Bool, true, false, not}
 use mathlib.Core.List.{List, [], _∷_}
 use Prim.Native.Nat.{ℕ, zero, suc, _+_, min}
 use lib.Dec.{leb, ltb, eqb}
 use lib.ListN.{length}
-use Rattle.recording.specs.Tests.{_and_, _or_, pick, one, allOf, allBelow, countOf}
-use Rattle.recording.specs.Rests.{judgedEnd, longRests}
-use Rattle.recording.specs.Weeks.{weekStart, weekOf, touches, restOnly}
+use Rattle.recording.specs.Tests.{_and_, _or_, pick, one, allOf, anyOf, allBelow, countOf}
+use Rattle.recording.specs.Rests.{lengthOf, closedRests, judgedEnd, longRests}
+use Rattle.recording.specs.Weeks.{weekStart, weekOf, touches, restOnly, inside}
 use Rattle.recording.specs.declared.Span.{Span}
 use Rattle.rules.specs.Broken.{unless, ifNone}
 use Rattle.rules.specs.Fixed.{fixedTest}
@@ -77,31 +77,56 @@ compensated s rs e = settles (asRead e) s rs (e .compensatedBy) (deadline e)
 unfoldable pub rule8 : ℕ → List Span → List Entry → Bool
 rule8 s rs es = allOf (compensated s rs) es
 
--- Rule 9, 8(4). "A daily rest's portion is min(start + own, P + 1,440) − start", under 660: both sides have start and the load added
+-- Rule 9, 8(4). "A daily rest's portion is min(start + own, P + 1,440) − start", under n minutes: both sides have start and the load added
 abbrev pub dailyWindow : ℕ
 dailyWindow = 1440
 
+unfoldable pub portionUnder : ℕ → Entry → Bool
+portionUnder n e = ltb (min (e .span .end) (e .before + dailyWindow + e .compensation)) (e .span .start + n + e .compensation)
+
+-- Document 02, request 3: ".. an earlier rest of 180 to 539 minutes", both included. It is the first period of a daily rest taken as two.
+abbrev pub firstPeriodAtLeast : ℕ
+firstPeriodAtLeast = 180
+
+abbrev pub firstPeriodAtMost : ℕ
+firstPeriodAtMost = 539
+
+abbrev pub isFirstPeriod : Span → Bool
+isFirstPeriod r = leb firstPeriodAtLeast (lengthOf r) and leb (lengthOf r) firstPeriodAtMost
+
+-- ".. if its day holds" one: its day runs from P to its start, and of the rests that are not open one lies in it
+abbrev pub dayBefore : Entry → Span
+dayBefore e = record { start = e .before; end = e .span .start }
+
+unfoldable pub splitDay : List Span → Span → Bool
+splitDay closed day = anyOf (λ r. inside r day and isFirstPeriod r) closed
+
+-- "A daily rest with portion 540 or more no longer counts under rule 9 if its day holds an earlier rest of 180 to 539 minutes." Those with portion
+-- under 660 count otherwise.
 abbrev pub fullPortion : ℕ
 fullPortion = 660
 
-unfoldable pub shortened : Entry → Bool
-shortened e =
-    not (isWeekly (asRead e)) and
-    ltb (min (e .span .end) (e .before + dailyWindow + e .compensation)) (e .span .start + fullPortion + e .compensation)
+abbrev pub secondPeriod : ℕ
+secondPeriod = 540
+
+unfoldable pub shortened : List Span → Entry → Bool
+shortened closed e =
+    not (isWeekly (asRead e)) and portionUnder fullPortion e and
+    not (not (portionUnder secondPeriod e) and splitDay closed (dayBefore e))
 
 -- "At most three daily rests with portion under 660 lie between two neighbouring weekly rests, before the first, after the last, or in all where
--- there is no weekly rest." There were n since the last weekly rest, or since the start.
+-- there is no weekly rest." By which daily rests count; there were n since the last weekly rest, or since the start.
 abbrev pub shortenedAtMost : ℕ
 shortenedAtMost = 3
 
-unfoldable pub rule9From : ℕ → List Entry → Bool
-rule9From n [] = true
-rule9From n (e ∷ es) =
-    let m = pick (isWeekly (asRead e)) 0 (n + one (shortened e)) in
-    leb m shortenedAtMost and rule9From m es
+unfoldable pub rule9From : (Entry → Bool) → ℕ → List Entry → Bool
+rule9From counts n [] = true
+rule9From counts n (e ∷ es) =
+    let m = pick (isWeekly (asRead e)) 0 (n + one (counts e)) in
+    leb m shortenedAtMost and rule9From counts m es
 
-unfoldable pub rule9 : List Entry → Bool
-rule9 es = rule9From 0 es
+unfoldable pub rule9 : (Entry → Bool) → List Entry → Bool
+rule9 counts es = rule9From counts 0 es
 
 -- Rule 10, 8(6). "From minute 0 or a weekly rest's end to the next weekly rest's start, or to S if none follows: at most 8,640." The last ended at q.
 abbrev pub weeklyGap : ℕ
@@ -142,12 +167,13 @@ enoughIn restWeek es w =
 unfoldable pub rule11 : (ℕ → Bool) → ℕ → List Entry → Bool
 rule11 restWeek s es = allBelow (weekOf s) (λ w. not (leb (weekStart (w + 2)) s) or enoughIn restWeek es w)
 
--- rules 6 to 11, where S is s and the long rests are rs
-unfoldable pub laterTest : (ℕ → Bool) → ℕ → List Span → List Entry → ℕ
-laterTest restWeek s rs es =
+-- rules 6 to 11, by which weeks are of rest minutes only and which daily rests count under rule 9, where S is s and the long rests are rs
+unfoldable pub laterTest : (ℕ → Bool) → (Entry → Bool) → ℕ → List Span → List Entry → ℕ
+laterTest restWeek counts s rs es =
     unless (rule6 (length rs) es) 6 (unless (rule7 es) 7 (unless (rule8 s rs es) 8
-    (unless (rule9 es) 9 (unless (rule10 s es) 10 (unless (rule11 restWeek s es) 11 0)))))
+    (unless (rule9 counts es) 9 (unless (rule10 s es) 10 (unless (rule11 restWeek s es) 11 0)))))
 
 -- "Later rules are read only when the earlier ones hold." 0, or the smallest broken rule of 1 to 11
 unfoldable pub readingTest : List ℕ → List ℕ → ℕ
-readingTest ms bytes = ifNone (fixedTest ms) (laterTest (restOnly ms) (judgedEnd ms) (longRests ms) (entries (longRests ms) bytes))
+readingTest ms bytes =
+    ifNone (fixedTest ms) (laterTest (restOnly ms) (shortened (closedRests ms)) (judgedEnd ms) (longRests ms) (entries (longRests ms) bytes))

@@ -7,4 +7,5 @@ pub mod AccountRight
 pub mod Steps
 pub mod PartRight
 pub mod NetLaws
+pub mod NetWalk
 pub mod Surveying

@@ -1,174 +1,210 @@
 -- The number of each long rest says rule 9's `shortened` for every compensation; and the numbers of a recording in order. Assumes nothing.
-use mathlib.Core.Path.{_≡_, refl, sym, ap, _∙_}
-use mathlib.Core.Bool.{Bool, true, false}
-use mathlib.Core.List.{List, [], _∷_, _++_, map}
+use mathlib.Core.Path.{_≡_, refl, sym, ap, ap₂, _∙_}
+use mathlib.Core.Logic.{_⊎_, inl, inr}
+use mathlib.Core.Bool.{Bool, true, false, not}
+use mathlib.Core.List.{List, [], _∷_, _++_, map, List·Memᴰ as In, List·Memᴰ·cases-cons, List·Memᴰ·not-nil}
 use Prim.Native.Nat.{ℕ, zero, suc, _+_, _-_, _≤_, _<_, min}
-use native.Mathlib.Numerals.{add-one}
 use native.Mathlib.Omega.{arith}
 use lib.Dec.{leb, ltb}
-use lib.ListN.{length, getD, take, drop, set, length-set}
-use lib.Seq.{sets, sets-eq, drop-cons, take-all, take-append-seam}
+use lib.ListN.{length, getD, take, drop}
+use lib.Seq.{sets, sets-eq, take-append-seam}
 use borrow.Author.Tests.{leb-true, leb-false, ltb-true, ltb-false, lt-ltb, le-ltb}
 use Rattle.recording.specs.Tests.{_and_, pick}
 use Rattle.recording.specs.Words.{minutesOf}
-use Rattle.recording.specs.Rests.{longRests, longRestsAtMost}
+use Rattle.recording.specs.Rests.{closedRests, judgedEnd, longRests, longRestsAtMost}
 use Rattle.recording.specs.Operations.{totalAtMost}
-use Rattle.recording.specs.Scan.{origin, Scanned}
-use Rattle.recording.specs.declared.Place.{Place}
 use Rattle.recording.specs.declared.Span.{Span}
-use Rattle.recording.proofs.LongRests.{Ordered, none, next, rests-ordered, few-rests}
+use Rattle.recording.proofs.TestLaws.{and-false}
 use Rattle.recording.proofs.Walks.{judged-within}
-use Rattle.recording.proofs.Scanning.{scan-total, scan-count, scan-written, written-length}
-use Rattle.recording.proofs.Listing.{in-front}
-use Rattle.rules.specs.Reading.{Entry, minutes, asRead, isWeekly}
-use Rattle.rules.specs.ReadingRules.{dailyWindow, fullPortion, shortened}
-use Rattle.rules_fixed.specs.Nets.{regularNet, netsFrom, netsIn, Within}
+use Rattle.recording.proofs.LongRests.{Ordered, none, next, rests-ordered, restsPast, rests-split, few-rests}
+use Rattle.rules.specs.Broken.{ifNone}
+use Rattle.rules.specs.Fixed.{fixedTest}
+use Rattle.rules.specs.Reading.{Entry, minutes, asRead, isWeekly, entryBytes, entryOf, entriesFrom, entries}
+use Rattle.rules.specs.ReadingRules.{dailyWindow, portionUnder, dayBefore, splitDay, fullPortion, secondPeriod, shortened, laterTest, readingTest}
+use Rattle.rules.proofs.SplitDays.{split-stretch}
+use Rattle.rules.proofs.RuleLaws.{later-counts}
+use Rattle.rules.proofs.RestWeekLaws.{insideRest, reading-by-rests}
+use Rattle.rules_fixed.specs.Nets.{neededPortion, regularNet, spanOf, netsFrom, netsOf, countsBy}
 use Rattle.rules_fixed.specs.Walk.{Surveyed}
 use Rattle.rules_fixed.specs.declared.Survey.{Survey}
 
--- ---- one rest: it is shortened where its length is under the number and its compensation
-pub net-test : (p start end compensation : ℕ) → start ≤ end
-    → ltb (min end (p + dailyWindow + compensation)) (start + fullPortion + compensation) ≡ ltb (end - start) (regularNet p start end + compensation)
-unfolding regularNet
-net-test p start end compensation h = at (leb (start + fullPortion) (p + dailyWindow)) (ltb (end - start) (fullPortion + compensation)) refl refl
+-- ---- one rest: its portion is under n where its length is under a number and its compensation
+abbrev netFor : ℕ → ℕ → ℕ → ℕ → ℕ
+netFor n p start end = pick (leb (start + n) (p + dailyWindow)) n (end - start + 1)
+
+net-test : (n p start end compensation : ℕ) → start ≤ end
+    → ltb (min end (p + dailyWindow + compensation)) (start + n + compensation) ≡ ltb (end - start) (netFor n p start end + compensation)
+net-test n p start end compensation h = at (leb (start + n) (p + dailyWindow)) (ltb (end - start) (n + compensation)) refl refl
   where
-    at : (b c : Bool) → leb (start + fullPortion) (p + dailyWindow) ≡ b → ltb (end - start) (fullPortion + compensation) ≡ c
-        → ltb (min end (p + dailyWindow + compensation)) (start + fullPortion + compensation) ≡ ltb (end - start) (pick b fullPortion (end - start + 1) + compensation)
+    at : (b c : Bool) → leb (start + n) (p + dailyWindow) ≡ b → ltb (end - start) (n + compensation) ≡ c
+        → ltb (min end (p + dailyWindow + compensation)) (start + n + compensation) ≡ ltb (end - start) (pick b n (end - start + 1) + compensation)
     at true true e l =
-        let a = leb-true (start + fullPortion) (p + dailyWindow) e in
-        let d = ltb-true (end - start) (fullPortion + compensation) l in
-        lt-ltb (min end (p + dailyWindow + compensation)) (start + fullPortion + compensation) (omega arith) ∙ sym l
+        let a = leb-true (start + n) (p + dailyWindow) e in
+        let d = ltb-true (end - start) (n + compensation) l in
+        lt-ltb (min end (p + dailyWindow + compensation)) (start + n + compensation) (omega arith) ∙ sym l
     at true false e l =
-        let a = leb-true (start + fullPortion) (p + dailyWindow) e in
-        let d = ltb-false (end - start) (fullPortion + compensation) l in
-        le-ltb (min end (p + dailyWindow + compensation)) (start + fullPortion + compensation) (omega arith) ∙ sym l
+        let a = leb-true (start + n) (p + dailyWindow) e in
+        let d = ltb-false (end - start) (n + compensation) l in
+        le-ltb (min end (p + dailyWindow + compensation)) (start + n + compensation) (omega arith) ∙ sym l
     at false c e l =
-        let a = leb-false (start + fullPortion) (p + dailyWindow) e in
-        lt-ltb (min end (p + dailyWindow + compensation)) (start + fullPortion + compensation) (omega arith)
+        let a = leb-false (start + n) (p + dailyWindow) e in
+        lt-ltb (min end (p + dailyWindow + compensation)) (start + n + compensation) (omega arith)
         ∙ sym (lt-ltb (end - start) (end - start + 1 + compensation) (omega arith))
 
--- it is at most the full portion or a minute more than the rest has
-pub net-most : (p start end : ℕ) → regularNet p start end ≤ fullPortion + (end - start + 1)
-unfolding regularNet
-net-most p start end = at (leb (start + fullPortion) (p + dailyWindow))
+-- a portion under 540 is under 660
+under-both : (e : Entry) → portionUnder fullPortion e and portionUnder secondPeriod e ≡ portionUnder secondPeriod e
+unfolding portionUnder _and_
+under-both e = at (portionUnder secondPeriod e) refl
   where
-    at : (b : Bool) → pick b fullPortion (end - start + 1) ≤ fullPortion + (end - start + 1)
-    at true = omega arith
-    at false = omega arith
+    at : (b : Bool) → portionUnder secondPeriod e ≡ b → portionUnder fullPortion e and b ≡ b
+    at true t =
+        let l = ltb-true (min (e .span .end) (e .before + dailyWindow + e .compensation)) (e .span .start + secondPeriod + e .compensation) t in
+        rw (lt-ltb (min (e .span .end) (e .before + dailyWindow + e .compensation)) (e .span .start + fullPortion + e .compensation) (omega (arith, l))) refl
+    at false t = and-false (portionUnder fullPortion e)
+
+-- what counts is a portion under what the day needs
+counted-portion : (split : Bool) (e : Entry) → portionUnder fullPortion e and not (not (portionUnder secondPeriod e) and split) ≡ portionUnder (neededPortion split) e
+unfolding _and_
+counted-portion true e = at (portionUnder secondPeriod e) refl
+  where
+    at : (b : Bool) → portionUnder secondPeriod e ≡ b → portionUnder fullPortion e and not (not b and true) ≡ portionUnder secondPeriod e
+    at true t = ap (λ (x : Bool). portionUnder fullPortion e and x) (sym t) ∙ under-both e
+    at false t = and-false (portionUnder fullPortion e) ∙ sym t
+counted-portion false e = at (portionUnder fullPortion e) (portionUnder secondPeriod e)
+  where
+    at : (a b : Bool) → a and not (not b and false) ≡ a
+    at true true = refl
+    at true false = refl
+    at false b = refl
 
 -- THE LAW: for every compensation the number says rule 9's `shortened`
-pub net-says : (e : Entry) → e .span .start ≤ e .span .end → isWeekly (asRead e) ≡ false
-    → shortened e ≡ ltb (minutes e) (regularNet (e .before) (e .span .start) (e .span .end) + e .compensation)
-unfolding shortened _and_
-net-says e h d = rw d (net-test (e .before) (e .span .start) (e .span .end) (e .compensation) h)
+pub net-says : (closed : List Span) (e : Entry) → e .span .start ≤ e .span .end → isWeekly (asRead e) ≡ false
+    → shortened closed e ≡ ltb (minutes e) (regularNet (splitDay closed (dayBefore e)) (e .before) (e .span .start) (e .span .end) + e .compensation)
+unfolding shortened portionUnder regularNet _and_
+net-says closed e h d =
+    let split : Bool = splitDay closed (dayBefore e) in
+    ap (λ (b : Bool). not b and portionUnder fullPortion e and not (not (portionUnder secondPeriod e) and split)) d
+    ∙ counted-portion split e
+    ∙ net-test (neededPortion split) (e .before) (e .span .start) (e .span .end) (e .compensation) h
 
--- no weekly rest is shortened
-pub weekly-full : (e : Entry) → isWeekly (asRead e) ≡ true → shortened e ≡ false
-unfolding shortened _and_
-weekly-full e w = rw w refl
-
--- ---- long rests in order: as many numbers, and the number at an index
-pub nets-length : (p : ℕ) (ss : List Span) → length (netsFrom p ss) ≡ length ss
+-- ---- the numbers in order: as many, and the number at an index
+pub nets-length : (closed : List Span) (p : ℕ) (ss : List Span) → length (netsFrom closed p ss) ≡ length ss
 unfolding netsFrom
-nets-length p [] = refl
-nets-length p (s ∷ ss) = ap suc (nets-length (s .end) ss)
+nets-length closed p [] = refl
+nets-length closed p (s ∷ ss) = ap suc (nets-length closed (s .end) ss)
 
-pub nets-at : (p : ℕ) (ss : List Span) (i : ℕ) → i < length ss → getD (netsFrom p ss) i 0
-    ≡ regularNet (getD (p ∷ map (λ (s : Span). s .end) ss) i 0) (getD (map (λ (s : Span). s .start) ss) i 0) (getD (map (λ (s : Span). s .end) ss) i 0)
+pub all-numbered : (ms : List ℕ) → length (netsOf ms) ≡ length (longRests ms)
+unfolding netsOf
+all-numbered ms = nets-length (closedRests ms) 0 (longRests ms)
+
+-- none is more than a minute more than the longest rest
+net-most : (split : Bool) (p start end : ℕ) → end ≤ totalAtMost → regularNet split p start end ≤ totalAtMost + 1
+unfolding regularNet
+net-most split p start end h = at (leb (start + neededPortion split) (p + dailyWindow)) split
+  where
+    at : (b split : Bool) → pick b (neededPortion split) (end - start + 1) ≤ totalAtMost + 1
+    at true true = omega arith
+    at true false = omega arith
+    at false split = omega arith
+
+most-from : (closed : List Span) (p : ℕ) {to from : ℕ} {rs : List Span} → Ordered to from rs → to ≤ totalAtMost → (i : ℕ) → i < length rs
+    → getD (netsFrom closed p rs) i 0 ≤ totalAtMost + 1
 unfolding netsFrom
-nets-at p [] i h = absurd (omega arith)
-nets-at p (s ∷ ss) zero h = refl
-nets-at p (s ∷ ss) (suc i) h = nets-at (s .end) ss i (omega arith)
+most-from closed p none h i l = absurd (omega arith)
+most-from closed p (next {r = r} a n e o) h zero l = net-most _ p (r .start) (r .end) (omega arith)
+most-from closed p (next {r = r} a n e o) h (suc i) l = most-from closed (r .end) o h i (omega arith)
 
--- ---- from starts and ends in front of two lists
-pub nets-in : (p : ℕ) (rs : List Span) (xs ys : List ℕ)
-    → netsIn (length rs) p (map (λ (r : Span). r .start) rs ++ xs) (map (λ (r : Span). r .end) rs ++ ys) ≡ netsFrom p rs
-unfolding netsIn netsFrom
-nets-in p [] xs ys = refl
-nets-in p (r ∷ rs) xs ys = ap (λ (l : List ℕ). regularNet p (r .start) (r .end) ∷ l) (nets-in (r .end) rs xs ys)
+pub nets-most : (ms : List ℕ) → length ms ≤ totalAtMost → (i : ℕ) → i < length (longRests ms) → getD (netsOf ms) i 0 ≤ totalAtMost + 1
+unfolding netsOf
+nets-most ms h i l = most-from (closedRests ms) 0 (rests-ordered ms) (omega (arith, judged-within ms)) i l
 
--- they start by their ends, within the judged stretch
-pub rests-within : {to from : ℕ} {rs : List Span} (xs ys : List ℕ) → Ordered to from rs → to ≤ totalAtMost
-    → Within (length rs) (map (λ (r : Span). r .start) rs ++ xs) (map (λ (r : Span). r .end) rs ++ ys)
-rests-within xs ys none h i l = absurd (omega arith)
-rests-within xs ys (next a n e o) h zero l = (omega arith, omega arith)
-rests-within xs ys (next a n e o) h (suc i) l = rests-within xs ys o h i (omega arith)
+-- ---- the entry of index i of a reading: its number, P, its start and its end
+record EntryAt (n p : ℕ) (rs : List Span) (i : ℕ) (e : Entry) : Type 0 where
+  within : i < length rs
+  number : e .number ≡ n + i
+  ordered : e .span .start ≤ e .span .end
+  before : e .before ≡ getD (p ∷ map (λ (s : Span). s .end) rs) i 0
+  start : e .span .start ≡ getD (map (λ (s : Span). s .start) rs) i 0
+  end : e .span .end ≡ getD (map (λ (s : Span). s .end) rs) i 0
 
--- ---- the walk over the rests, at the one of index i, where P is p
-pub record Numbering (starts ends nets₀ : List ℕ) (k : ℕ) (nets : List ℕ) (p i : ℕ) : Type 0 where
-  pub within : i ≤ k
-  pub bounded : p ≤ totalAtMost
-  pub long : length nets ≡ length nets₀
-  pub same : sets nets₀ 0 (netsIn k 0 starts ends) ≡ sets nets i (netsIn (k - i) p (drop i starts) (drop i ends))
+nets-at : (closed : List Span) (p : ℕ) (ss : List Span) (i : ℕ) → i < length ss → getD (netsFrom closed p ss) i 0
+    ≡ regularNet (splitDay closed (spanOf (getD (p ∷ map (λ (s : Span). s .end) ss) i 0) (getD (map (λ (s : Span). s .start) ss) i 0)))
+    (getD (p ∷ map (λ (s : Span). s .end) ss) i 0) (getD (map (λ (s : Span). s .start) ss) i 0) (getD (map (λ (s : Span). s .end) ss) i 0)
+unfolding netsFrom
+nets-at closed p [] i h = absurd (omega arith)
+nets-at closed p (s ∷ ss) zero h = refl
+nets-at closed p (s ∷ ss) (suc i) h = nets-at closed (s .end) ss i (omega arith)
 
-pub start-numbering : (starts ends nets : List ℕ) (k : ℕ) → Numbering starts ends nets k nets 0 0
-start-numbering starts ends nets k =
-    let z : k ≡ k - 0 = omega arith in
-    record { within = omega arith; bounded = omega arith; long = refl; same = ap (λ (n : ℕ). sets nets 0 (netsIn n 0 starts ends)) z }
+module _ (n p : ℕ) (earlier : List Entry) (bytes : List ℕ) (r : Span) (rs : List Span) (e : Entry) where
+  abbrev Later : Type 0
+  Later = In e (entriesFrom (suc n) (r .end) (entryOf n p earlier r bytes ∷ earlier) rs (drop entryBytes bytes))
 
-module _ {starts ends nets₀ : List ℕ} {k : ℕ} {nets : List ℕ} {p i : ℕ} (g : Numbering starts ends nets₀ k nets p i) where
-  pub number-on : {v : ℕ} → i < k → k ≤ length starts → k ≤ length ends → getD ends i 0 ≤ totalAtMost → v ≡ regularNet p (getD starts i 0) (getD ends i 0)
-      → Numbering starts ends nets₀ k (set nets i v) (getD ends i 0) (i + 1)
-  unfolding netsIn
-  number-on {v} h s e m q =
-      let z : k - i ≡ suc (k - (i + 1)) = omega arith in
-      record {
-        within = omega arith;
-        bounded = m;
-        long = length-set nets i v ∙ g .long;
-        same =
-            g .same
-            ∙ ap (λ (n : ℕ). sets nets i (netsIn n p (drop i starts) (drop i ends))) z
-            ∙ rw (drop-cons starts i 0 (omega arith), drop-cons ends i 0 (omega arith), q, add-one) refl;
-      }
+  this-or-later : r .start ≤ r .end → (e ≡ entryOf n p earlier r bytes) ⊎ Later → (Later → (i : ℕ) × EntryAt (suc n) (r .end) rs i e) → (i : ℕ) × EntryAt n p (r ∷ rs) i e
+  this-or-later h (inl q) ih = (0, rw q (record { within = omega arith; number = omega arith; ordered = h; before = refl; start = refl; end = refl }))
+  this-or-later h (inr j) ih =
+      let k = ih j in
+      let a = k .1 in
+      (suc (k .0), record { within = omega (arith, a .within); number = omega (arith, a .number); ordered = a .ordered; before = a .before; start = a .start; end = a .end })
 
-  pub number-done : i ≡ k → nets ≡ sets nets₀ 0 (netsIn k 0 starts ends)
-  unfolding netsIn
-  number-done h =
-      let z : k - i ≡ 0 = omega arith in
-      sym (g .same ∙ ap (λ (n : ℕ). sets nets i (netsIn n p (drop i starts) (drop i ends))) z)
+entry-at : (n p : ℕ) (earlier : List Entry) (bytes : List ℕ) {to from : ℕ} {rs : List Span} → Ordered to from rs → (e : Entry) → In e (entriesFrom n p earlier rs bytes)
+    → (i : ℕ) × EntryAt n p rs i e
+unfolding entriesFrom
+entry-at n p earlier bytes none e i = absurd (List·Memᴰ·not-nil i)
+entry-at n p earlier bytes (next {r = r} {rs = rs} l m d o) e i =
+    this-or-later n p earlier bytes r rs e (omega arith) (List·Memᴰ·cases-cons i)
+    (λ j. entry-at (suc n) (r .end) (entryOf n p earlier r bytes ∷ earlier) (drop entryBytes bytes) o e j)
 
--- ---- what a scan leaves in slices with room for all long rests
-module _ {ws starts ends starts′ ends′ : List ℕ} {p : Place} (q : Scanned ws starts ends p starts′ ends′) (within : length (minutesOf ws) ≤ totalAtMost)
-    (s-long : longRestsAtMost ≤ length starts) (e-long : longRestsAtMost ≤ length ends) where
-  few : length (longRests (minutesOf ws)) ≤ longRestsAtMost
-  few = few-rests (minutesOf ws) within
+-- ---- rules 6 to 11 by the numbers
+module _ (ms nets : List ℕ) (numbered : (i : ℕ) → i < length (longRests ms) → getD nets i 0 ≡ getD (netsOf ms) i 0) where
+  counts-right : (bytes : List ℕ) (e : Entry) → In e (entries (longRests ms) bytes) → isWeekly (asRead e) ≡ false → shortened (closedRests ms) e ≡ countsBy nets e
+  unfolding entries netsOf countsBy
+  counts-right bytes e i daily =
+      let k = entry-at 1 0 [] bytes (rests-ordered ms) e i in
+      let a = k .1 in
+      let z : e .number - 1 ≡ k .0 = omega (arith, a .number) in
+      let net : getD nets (e .number - 1) 0 ≡ regularNet (splitDay (closedRests ms) (dayBefore e)) (e .before) (e .span .start) (e .span .end) =
+      ap (λ (j : ℕ). getD nets j 0) z ∙ numbered (k .0) (a .within) ∙ nets-at (closedRests ms) 0 (longRests ms) (k .0) (a .within)
+      ∙ rw (← a .before, ← a .start, ← a .end) refl in
+      net-says (closedRests ms) e (a .ordered) daily ∙ ap (λ (x : ℕ). ltb (minutes e) (x + e .compensation)) (sym net)
 
-  count-is : p .count ≡ length (longRests (minutesOf ws))
-  count-is = ap (λ (x : Place). x .count) (q .place) ∙ scan-count ws
+  pub reading-by-numbers : (bytes : List ℕ)
+      → readingTest ms bytes ≡ ifNone (fixedTest ms) (laterTest (insideRest (longRests ms)) (countsBy nets) (judgedEnd ms) (longRests ms) (entries (longRests ms) bytes))
+  reading-by-numbers bytes =
+      reading-by-rests ms bytes
+      ∙ ap (ifNone (fixedTest ms)) (later-counts (insideRest (longRests ms)) _ _ (judgedEnd ms) (longRests ms) (entries (longRests ms) bytes) (counts-right bytes))
 
-  starts-are : starts′ ≡ map (λ (r : Span). r .start) (longRests (minutesOf ws)) ++ drop (length (map (λ (r : Span). r .start) (longRests (minutesOf ws)))) starts
-  starts-are = q .begun ∙ scan-written (λ r. r .start) ws starts ∙ in-front (λ r. r .start) (longRests (minutesOf ws)) starts (omega (arith, few))
+-- ---- a stretch has the first of the numbers
+nets-append : (closed : List Span) (p : ℕ) (rs qs : List Span) → (q : ℕ) × (netsFrom closed p (rs ++ qs) ≡ netsFrom closed p rs ++ netsFrom closed q qs)
+unfolding netsFrom
+nets-append closed p [] qs = (p, refl)
+nets-append closed p (r ∷ rs) qs =
+    let i = nets-append closed (r .end) rs qs in
+    (i .0, ap (λ (l : List ℕ). regularNet (splitDay closed (spanOf p (r .start))) p (r .start) (r .end) ∷ l) (i .1))
 
-  ends-are : ends′ ≡ map (λ (r : Span). r .end) (longRests (minutesOf ws)) ++ drop (length (map (λ (r : Span). r .end) (longRests (minutesOf ws)))) ends
-  ends-are = q .ended ∙ scan-written (λ r. r .end) ws ends ∙ in-front (λ r. r .end) (longRests (minutesOf ws)) ends (omega (arith, few))
+nets-stretch : (xs ys : List ℕ) (p : ℕ) {from : ℕ} {rs : List Span} → Ordered (judgedEnd xs) from rs → netsFrom (closedRests (xs ++ ys)) p rs ≡ netsFrom (closedRests xs) p rs
+unfolding netsFrom
+nets-stretch xs ys p none = refl
+nets-stretch xs ys p (next {r = r} l m d o) =
+    ap₂ (λ (b : Bool) (ns : List ℕ). regularNet b p (r .start) (r .end) ∷ ns) (split-stretch xs ys (spanOf p (r .start)) (omega arith)) (nets-stretch xs ys (r .end) o)
 
-  pub count-few : p .count ≤ longRestsAtMost
-  count-few = omega (arith, few, count-is)
-
-  pub starts-long : longRestsAtMost ≤ length starts′
-  starts-long = omega (arith, ap length (q .begun) ∙ written-length (λ r. r .start) origin ws starts)
-
-  pub ends-long : longRestsAtMost ≤ length ends′
-  ends-long = omega (arith, ap length (q .ended) ∙ written-length (λ r. r .end) origin ws ends)
-
-  pub spans-within : Within (p .count) starts′ ends′
-  spans-within = rw (count-is, starts-are, ends-are) (rests-within _ _ (rests-ordered (minutesOf ws)) (omega (arith, judged-within (minutesOf ws))))
-
-  pub nets-there : netsIn (p .count) 0 starts′ ends′ ≡ netsFrom 0 (longRests (minutesOf ws))
-  nets-there = rw (count-is, starts-are, ends-are) (nets-in 0 (longRests (minutesOf ws)) _ _)
-
-  pub all-there : take (p .now) (minutesOf ws) ≡ minutesOf ws
-  all-there = take-all (p .now) (minutesOf ws) (omega (arith, ap (λ (x : Place). x .now) (q .place) ∙ scan-total ws))
+pub first-nets : (xs ys : List ℕ) → netsOf xs ≡ take (length (longRests xs)) (netsOf (xs ++ ys))
+unfolding netsOf
+first-nets xs ys =
+    let closed = closedRests (xs ++ ys) in
+    let both = nets-append closed 0 (longRests xs) (restsPast xs ys) in
+    let same : netsFrom closed 0 (longRests xs) ≡ netsFrom (closedRests xs) 0 (longRests xs) = nets-stretch xs ys 0 (rests-ordered xs) in
+    sym (ap₂ (λ (k : ℕ) (l : List Span). take k (netsFrom closed 0 l)) (sym (nets-length closed 0 (longRests xs))) (rests-split xs ys)
+    ∙ ap (take (length (netsFrom closed 0 (longRests xs)))) (both .1)
+    ∙ take-append-seam (netsFrom closed 0 (longRests xs)) _
+    ∙ same)
 
 -- ---- the numbers that a survey leaves in a slice with room for all
 pub front : (vs l : List ℕ) → length vs ≤ length l → take (length vs) (sets l 0 vs) ≡ vs
 front vs l h = ap (take (length vs)) (sets-eq vs l 0 (omega arith)) ∙ take-append-seam vs _
 
 pub nets-found : {ws starts ends nets starts′ ends′ nets′ : List ℕ} {r : Survey} → Surveyed ws starts ends nets r starts′ ends′ nets′
-    → length (minutesOf ws) ≤ totalAtMost → longRestsAtMost ≤ length nets → take (length (longRests (minutesOf ws))) nets′ ≡ netsFrom 0 (longRests (minutesOf ws))
+    → length (minutesOf ws) ≤ totalAtMost → longRestsAtMost ≤ length nets → take (length (longRests (minutesOf ws))) nets′ ≡ netsOf (minutesOf ws)
 nets-found {ws} {nets = nets} {nets′ = nets′} v within room =
-    let rs : List Span = longRests (minutesOf ws) in
-    let few : length rs ≤ longRestsAtMost = few-rests (minutesOf ws) within in
-    let size : length (netsFrom 0 rs) ≡ length rs = nets-length 0 rs in
-    ap (λ (n : ℕ). take n nets′) (sym size) ∙ ap (take (length (netsFrom 0 rs))) (v .numbered) ∙ front (netsFrom 0 rs) nets (omega arith)
+    let few : length (longRests (minutesOf ws)) ≤ longRestsAtMost = few-rests (minutesOf ws) within in
+    let size : length (netsOf (minutesOf ws)) ≡ length (longRests (minutesOf ws)) = all-numbered (minutesOf ws) in
+    ap (λ (n : ℕ). take n nets′) (sym size) ∙ ap (take (length (netsOf (minutesOf ws)))) (v .numbered) ∙ front (netsOf (minutesOf ws)) nets (omega arith)

@@ -6,11 +6,10 @@ use Prim.Native.Nat.{ℕ, _+_, _≤_}
 use lib.ListN.{replicate}
 use lib.Seq.{sets}
 use Rattle.recording.specs.Words.{minutesOf}
-use Rattle.recording.specs.Rests.{longRests}
 use Rattle.recording.specs.Weeks.{weekMinutes}
 use Rattle.recording.specs.Scan.{origin, placeOf, writtenFrom}
 use Rattle.rules_fixed.specs.Account.{accountFrom, opening}
-use Rattle.rules_fixed.specs.Nets.{netsFrom}
+use Rattle.rules_fixed.specs.Nets.{netsOf}
 use Rattle.rules_fixed.specs.declared.Account.{Account}
 use Rattle.rules_fixed.specs.declared.Survey.{Survey}
 
@@ -36,5 +35,5 @@ pub record Surveyed (words starts ends nets : List ℕ) (r : Survey) (starts′ 
   pub place : r .place ≡ placeOf origin words
   pub begun : starts′ ≡ writtenFrom (λ s. s .start) origin words starts
   pub ended : ends′ ≡ writtenFrom (λ s. s .end) origin words ends
-  pub numbered : nets′ ≡ sets nets 0 (netsFrom 0 (longRests (minutesOf words)))
+  pub numbered : nets′ ≡ sets nets 0 (netsOf (minutesOf words))
   pub account : r .account ≡ accountFrom opening (minutesOf words)

@@ -6,13 +6,15 @@ ghost use mathlib.Core.Path.{_≡_};
 ghost use Prim.Native.Nat.{_+_, _<_, _≤_};
 ghost use lib.ListN.{length, take};
 ghost use lib.Seq.{sets};
+ghost use Rattle.recording.specs.Tests.{pick};
 ghost use Rattle.recording.specs.Words.{minutesOf};
 ghost use Rattle.recording.specs.Rests.{longRestsAtMost};
 ghost use Rattle.recording.specs.Operations.{totalAtMost};
+ghost use Rattle.recording.specs.Scan.{restAt};
 ghost use Rattle.rules.specs.Fixed.{cleared, rested};
 ghost use Rattle.rules.specs.Operations.{fixedTested};
 ghost use Rattle.rules_fixed.specs.Account.{dayAfter, weekNext, brokenAt, smaller, firstBreak, accountFrom, opening};
-ghost use Rattle.rules_fixed.specs.Nets.{regularNet, netsIn, Within};
+ghost use Rattle.rules_fixed.specs.Nets.{regularNet, spanOf, netsOf, freshDay, closes, dayOn, withNet};
 ghost use Rattle.rules_fixed.specs.Walk.{Bounded, Ran, Surveyed};
 ghost use Rattle.rules_fixed.specs.Tested.{tested};
 ghost use Rattle.rules_fixed.specs.Parts.{drivingOf, inWeek, accumulatedMore, dayMore, weekMore, partAfter, sameBreaches, Taken};
@@ -61,6 +63,12 @@ pub struct Survey {
     pub account: Account,
 }
 
+// The day that runs, as rule 9 asks of it: its start P, and whether it has held a rest of 180 to 539 minutes.
+pub struct OpenDay {
+    pub start: u32,
+    pub held: bool,
+}
+
 // What the fixed test answers.
 pub enum Tested {
     Refused(u32),
@@ -90,6 +98,10 @@ const DAY_LENGTH: u32 = 900;
 const DAILY_WINDOW: u32 = 1440;
 
 const FULL_PORTION: u32 = 660;
+
+const FIRST_PERIOD: u32 = 180;
+
+const SECOND_PERIOD: u32 = 540;
 
 // Rule 1: the driving sum where it starts, and where it is cleared.
 fn cleared_sum() -> Accumulated
@@ -381,15 +393,66 @@ fn run(s: Account, activity: u32, n: u32) -> Account
     t
 }
 
-// Rule 9: the least net length at which the rest from `start` to `end` is no shortened daily rest, where P is p.
-pub fn regular_net(p: u32, start: u32, end: u32) -> u32
+// Rule 9: the least net length at which the rest from `start` to `end` is no shortened daily rest, where P is p, by whether its day is
+// split.
+pub fn regular_net(split: bool, p: u32, start: u32, end: u32) -> u32
     requires { ⌜ (p ≤ totalAtMost) × (start ≤ end) × (end ≤ totalAtMost) ⌝ }
-    ensures { λ r. ⌜ r ≡ regularNet p start end ⌝ }
+    ensures { λ r. ⌜ r ≡ regularNet split p start end ⌝ }
 {
+    if split {
+        if start + SECOND_PERIOD <= p + DAILY_WINDOW {
+            return SECOND_PERIOD;
+        }
+        return end - start + 1;
+    }
     if start + FULL_PORTION <= p + DAILY_WINDOW {
         return FULL_PORTION;
     }
     end - start + 1
+}
+
+// Rule 9: the day that begins at a minute.
+fn fresh_day(start: u32) -> OpenDay
+    ensures { λ r. ⌜ r ≡ freshDay start ⌝ }
+{
+    OpenDay {
+        start: start,
+        held: false,
+    }
+}
+
+// A rest has ended that was not open: its number by rule 9 at k, if it is long, and the day that runs after it.
+fn close_rest(d: OpenDay, start: u32, end: u32, k: usize, nets: &mut [u32]) -> OpenDay
+    requires { ⌜ (d .start ≤ totalAtMost) × (start ≤ end) × (end ≤ totalAtMost) ⌝ }
+    ensures { λ r. ⌜ (r ≡ dayOn d (spanOf start end)) × (now (nets .exit) ≡ withNet d (spanOf start end) k (now (nets .entry))) ⌝ }
+{
+    let n = end - start;
+    if n < FIRST_PERIOD {
+        return d;
+    }
+    if n < recording::LONG_REST {
+        return OpenDay {
+            start: d.start,
+            held: true,
+        };
+    }
+    recording::put_word(nets, k, regular_net(d.held, d.start, start, end));
+    fresh_day(end)
+}
+
+// The day that runs once n minutes of this activity follow: unless they are rest, they end the rest before them.
+fn day_on(d: OpenDay, p: Place, activity: u32, n: u32, nets: &mut [u32]) -> OpenDay
+    requires { ⌜ (d .start ≤ p .from) × (p .from ≤ p .now) × (p .now ≤ totalAtMost) ⌝ }
+    ensures { λ r. ⌜ (r ≡ pick (closes activity n) (dayOn d (restAt p)) d)
+        × (now (nets .exit) ≡ pick (closes activity n) (withNet d (restAt p) (p .count) (now (nets .entry))) (now (nets .entry))) ⌝ }
+{
+    if n == 0 {
+        return d;
+    }
+    match activity {
+        0 => d,
+        1 | 2 | 3 | _ => close_rest(d, p.from, p.now, p.count as usize, nets),
+    }
 }
 
 // The account of the first m minutes, in one walk over the words.
@@ -426,18 +489,24 @@ fn account_of(words: &[u32], m: u32) -> Account
     s
 }
 
-// The number by rule 9 of each of k long rests, from where they start and end.
-fn put_nets(starts: &[u32], ends: &[u32], k: usize, nets: &mut [u32])
-    requires { ⌜ (k ≤ length (now starts)) × (k ≤ length (now ends)) × (k ≤ length (now nets)) × Within k (now starts) (now ends) ⌝ }
-    ensures { λ _. ⌜ now (nets .exit) ≡ sets (now (nets .entry)) 0 (netsIn k 0 (now (starts .entry)) (now (ends .entry))) ⌝ }
+// The number by rule 9 of each long rest, in one walk over the words.
+fn put_nets(words: &[u32], nets: &mut [u32])
+    requires { ⌜ length (minutesOf (now words)) ≤ totalAtMost ⌝ }
+    ensures { λ _. ⌜ now (nets .exit) ≡ sets (now (nets .entry)) 0 (netsOf (minutesOf (now (words .entry)))) ⌝ }
 {
-    let mut p = 0;
+    let mut p = Place {
+        now: 0,
+        from: 0,
+        count: 0,
+    };
+    let mut d = fresh_day(0);
     let mut i = 0;
-    while i < k {
-        let start = starts[i];
-        let end = ends[i];
-        nets[i] = regular_net(p, start, end);
-        p = end;
+    while i < words.len() {
+        let word = words[i];
+        let activity = word % 4;
+        let minutes = word / 4;
+        d = day_on(d, p, activity, minutes, nets);
+        p = recording::after_run(p, activity, minutes);
         i += 1;
     }
 }
@@ -449,7 +518,7 @@ pub fn survey_of(words: &[u32], starts: &mut [u32], ends: &mut [u32], nets: &mut
     ensures { λ r. ⌜ Surveyed (now (words .entry)) (now (starts .entry)) (now (ends .entry)) (now (nets .entry)) r (now (starts .exit)) (now (ends .exit)) (now (nets .exit)) ⌝ }
 {
     let place = recording::scan(words, starts, ends);
-    put_nets(starts, ends, place.count as usize, nets);
+    put_nets(words, nets);
     let account = account_of(words, place.now);
     Survey { place, account }
 }

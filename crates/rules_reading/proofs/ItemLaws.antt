@@ -9,13 +9,11 @@ use lib.ListN.{getD, set}
 use borrow.Author.Tests.{le-leb, lt-ltb, ltb-false, ne-eqb}
 use Rattle.recording.specs.Tests.{_and_, _or_, pick}
 use Rattle.recording.specs.Weeks.{weekStart, touches}
-use Rattle.recording.specs.Operations.{totalAtMost}
-use Rattle.rules.specs.Reading.{weeklyKind, regularMinutes, standingOf, asRead, isWeekly, reductionOf}
+use Rattle.rules.specs.Reading.{weeklyKind, regularMinutes, standingOf, asRead, reductionOf}
 use Rattle.rules.specs.declared.Kind.{Kind}
 use Rattle.rules.specs.declared.Kind.the-variants.{Weekly}
-use Rattle.rules.specs.ReadingRules.{weeklyLength, formedDaily, formedWeekly, formed, fullPortion, shortened}
-use Rattle.rules_fixed.proofs.NetLaws.{net-most, net-says}
-use Rattle.rules_reading.specs.Items.{entryBy, endBefore, endAt, Sane, standingFor, restBy, addedTo}
+use Rattle.rules.specs.ReadingRules.{weeklyLength, formedDaily, formedWeekly, formed}
+use Rattle.rules_reading.specs.Items.{entryBy, endBefore, endAt, standingFor, restBy, addedTo}
 use Rattle.rules_reading.specs.declared.LongRest.{LongRest}
 use Rattle.rules_reading.specs.declared.Item.{Item}
 
@@ -34,11 +32,6 @@ standing-reduction minutes compensation = by (ltb minutes (regularMinutes + comp
     by : (b : Bool) → ltb minutes (regularMinutes + compensation) ≡ b → reductionOf (Weekly (standingOf b (regularMinutes + compensation - minutes))) ≡ regularMinutes + compensation - minutes
     by true e = refl
     by false e = let h : regularMinutes + compensation ≤ minutes = ltb-false minutes (regularMinutes + compensation) e in omega arith
-
-pub or-none : (x : Bool) → x ≡ x or false
-unfolding _or_
-or-none true = refl
-or-none false = refl
 
 -- a weekly entry whose carrier is not 0: all but that there is such a rest
 pub formed-carried : (k : ℕ) (x : Item) → x .kind ≡ weeklyKind → weeklyLength ≤ x .end - x .start → x .start < weekStart (x .week + 1) → weekStart (x .week) < x .end
@@ -63,10 +56,3 @@ kind-is x e q = sym (ap (λ (r : LongRest). r .kind) e) ∙ q
 pub addedTo-suc : (compensations : List ℕ) (c d : ℕ) → (c ≡ 0 → ⊥) → addedTo compensations c d ≡ set compensations (c - 1) (getD compensations (c - 1) 0 + d)
 addedTo-suc compensations zero d h = absurd (h refl)
 addedTo-suc compensations (suc c) d h = let e : c ≡ suc c - 1 = omega arith in ap (λ (n : ℕ). set compensations n (getD compensations n 0 + d)) e
-
--- rule 9 by the number of an item
-pub item-net : (x : Item) → Sane x → x .net ≤ fullPortion + totalAtMost + 1
-item-net x h = omega (arith, h .net, net-most (x .before) (x .start) (x .end), h .end)
-
-pub item-shortened : (x : Item) → Sane x → isWeekly (asRead (entryBy x)) ≡ false → ltb (x .end - x .start) (x .net + x .compensation) ≡ shortened (entryBy x)
-item-shortened x h d = ap (λ (n : ℕ). ltb (x .end - x .start) (n + x .compensation)) (h .net) ∙ sym (net-says (entryBy x) (h .ordered) d)

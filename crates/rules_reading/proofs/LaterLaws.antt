@@ -27,16 +27,15 @@ use Rattle.rules.specs.Reading.{Entry, entryBytes, entries}
 use Rattle.rules.specs.ReadingRules.{rule6, rule7, rule8, rule9From, rule9, inGap, rule10From, rule10, rule11, laterTest, readingTest}
 use Rattle.rules.specs.Operations.{readingTested}
 use Rattle.rules.specs.Verdict.{lawful}
-use Rattle.rules.proofs.RestWeekLaws.{reading-by-rests}
 use Rattle.rules_fixed.specs.Account.{smaller}
-use Rattle.rules_fixed.specs.Nets.{regularNet, netsFrom}
+use Rattle.rules_fixed.specs.Nets.{netsOf, countsBy}
 use Rattle.rules_fixed.specs.Walk.{Surveyed}
 use Rattle.rules_fixed.specs.declared.Survey.{Survey}
 use Rattle.rules_fixed.specs.declared.Account.{Account}
 use Rattle.rules_fixed.proofs.AccountRight.{account-right}
-use Rattle.rules_fixed.proofs.NetLaws.{nets-length, nets-at}
+use Rattle.rules_fixed.proofs.NetLaws.{all-numbered, nets-most, reading-by-numbers}
 use Rattle.rules_reading.specs.declared.Tally.{Tally}
-use Rattle.rules_reading.specs.Items.{endBefore, spansFrom, spansIn, Laid, Zeros, testFrom, Through, rule11With, restWeeks, zeros, laterBy}
+use Rattle.rules_reading.specs.Items.{spansFrom, spansIn, Laid, Zeros, testFrom, Through, rule11With, restWeeks, zeros, laterBy}
 use Rattle.rules_reading.proofs.PairLaws.{rule11-with}
 
 -- ---- rules 8 to 10, then 11
@@ -51,7 +50,7 @@ unfolding spansFrom
 spans-length starts ends i zero = refl
 spans-length starts ends i (suc n) = ap suc (spans-length starts ends (suc i) n)
 
-module _ (starts ends reading : List ℕ) (k s : ℕ) where
+module _ (starts ends nets reading : List ℕ) (k s : ℕ) where
   abbrev rests : List Span
   rests = spansIn starts ends k
 
@@ -61,34 +60,35 @@ module _ (starts ends reading : List ℕ) (k s : ℕ) where
   six-is : rule6 (length (spansIn starts ends k)) (entries (spansIn starts ends k) reading) ≡ rule6 k (entries (spansIn starts ends k) reading)
   six-is = ap (λ (n : ℕ). rule6 n (entries (spansIn starts ends k) reading)) (spans-length starts ends 0 k)
 
-  pub later-six : false ≡ rule6 k (entries (spansIn starts ends k) reading) → 6 ≡ laterBy starts ends reading k s
+  pub later-six : false ≡ rule6 k (entries (spansIn starts ends k) reading) → 6 ≡ laterBy starts ends nets reading k s
   unfolding laterTest
   later-six t = rw (six-is ∙ sym t) refl
 
   module _ (six : true ≡ rule6 k (entries (spansIn starts ends k) reading)) where
-    pub later-seven : rule7 (entries (spansIn starts ends k) reading) ≡ false → 7 ≡ laterBy starts ends reading k s
+    pub later-seven : rule7 (entries (spansIn starts ends k) reading) ≡ false → 7 ≡ laterBy starts ends nets reading k s
     unfolding laterTest
     later-seven t = rw (six-is ∙ sym six, t) refl
 
-    module _ {t : Tally} {weekly regular : List ℕ} (h : Through s (spansIn starts ends k) (entries (spansIn starts ends k) reading) t weekly regular)
+    module _ {t : Tally} {weekly regular : List ℕ} (h : Through (countsBy nets) s (spansIn starts ends k) (entries (spansIn starts ends k) reading) t weekly regular)
         {g b : ℕ} (qg : g ≡ unless (inGap (t .last) s) 10 0) (qb : b ≡ smaller (t .rule) g) where
       -- what the tally comes to is what rules 8 to 10 say
       eight-to-ten : b ≡ unless (rule8 s (spansIn starts ends k) (entries (spansIn starts ends k) reading)) 8
-          (unless (rule9 (entries (spansIn starts ends k) reading)) 9 (unless (rule10 s (entries (spansIn starts ends k) reading)) 10 0))
+          (unless (rule9 (countsBy nets) (entries (spansIn starts ends k) reading)) 9 (unless (rule10 s (entries (spansIn starts ends k) reading)) 10 0))
       unfolding testFrom allOf rule9From rule10From rule8 rule9 rule10
       eight-to-ten = qb ∙ ap (smaller (t .rule)) qg ∙ sym (h .tally)
 
-      later-is : laterBy starts ends reading k s ≡ pick (eqb b 0) (unless (rule11 (restWeeks (spansIn starts ends k)) s (entries (spansIn starts ends k) reading)) 11 0) b
+      later-is : laterBy starts ends nets reading k s ≡ pick (eqb b 0) (unless (rule11 (restWeeks (spansIn starts ends k)) s (entries (spansIn starts ends k) reading)) 11 0) b
       unfolding laterTest
       later-is =
           rw (six-is ∙ sym six, h .seven)
-          (joined (rule8 s (spansIn starts ends k) (entries (spansIn starts ends k) reading)) (rule9 (entries (spansIn starts ends k) reading)) (rule10 s (entries (spansIn starts ends k) reading)) _
+          (joined (rule8 s (spansIn starts ends k) (entries (spansIn starts ends k) reading))
+          (rule9 (countsBy nets) (entries (spansIn starts ends k) reading)) (rule10 s (entries (spansIn starts ends k) reading)) _
           ∙ ap (λ (x : ℕ). pick (eqb x 0) (unless (rule11 (restWeeks (spansIn starts ends k)) s (entries (spansIn starts ends k) reading)) 11 0) x) (sym eight-to-ten))
 
-      pub later-broken : (b ≡ 0 → ⊥) → b ≡ laterBy starts ends reading k s
+      pub later-broken : (b ≡ 0 → ⊥) → b ≡ laterBy starts ends nets reading k s
       later-broken z = sym (later-is ∙ rw (ne-eqb b 0 z) refl)
 
-      pub later-last : {r : Bool} → b ≡ 0 → s ≤ totalAtMost → r ≡ rule11With (restWeeks (spansIn starts ends k)) s weekly regular → unless r 11 0 ≡ laterBy starts ends reading k s
+      pub later-last : {r : Bool} → b ≡ 0 → s ≤ totalAtMost → r ≡ rule11With (restWeeks (spansIn starts ends k)) s weekly regular → unless r 11 0 ≡ laterBy starts ends nets reading k s
       later-last {r} z l q =
           sym (later-is ∙ rw (eq-eqb b 0 z)
           (ap (λ (x : Bool). unless x 11 0) (sym (q ∙ rule11-with (restWeeks (spansIn starts ends k)) s (entries (spansIn starts ends k) reading) weekly regular l (h .weeklies) (h .regulars)))))
@@ -180,17 +180,10 @@ module _ (ws reading : List ℕ) {m : Measure} (q : measured ws ≡ answered m) 
   end-at : (i : ℕ) → i < length (longRests (minutesOf ws)) → getD ends i 0 ≡ getD (longRests (minutesOf ws)) i nowhere .end
   end-at i h = ap (λ (x : List ℕ). getD x i 0) ends-are ∙ front-at (λ x. x .end) (longRests (minutesOf ws)) i few h ∙ map-at (λ x. x .end) (longRests (minutesOf ws)) i nowhere h
 
-  end-before-at : (i : ℕ) → i < length (longRests (minutesOf ws)) → getD (0 ∷ map (λ (x : Span). x .end) (longRests (minutesOf ws))) i 0 ≡ endBefore ends i
-  end-before-at zero h = refl
-  end-before-at (suc i) h = sym (end-at i (omega arith) ∙ sym (map-at (λ x. x .end) (longRests (minutesOf ws)) i nowhere (omega arith)))
-
-  net-at : (i : ℕ) → i < length (longRests (minutesOf ws)) → getD nets i 0 ≡ regularNet (endBefore ends i) (getD starts i 0) (getD ends i 0)
+  net-at : (i : ℕ) → i < length (longRests (minutesOf ws)) → getD nets i 0 ≡ getD (netsOf (minutesOf ws)) i 0
   net-at i h =
-      let rs = longRests (minutesOf ws) in
-      let a : getD starts i 0 ≡ getD (map (λ (x : Span). x .start) rs) i 0 = start-at i h ∙ sym (map-at (λ x. x .start) rs i nowhere h) in
-      let b : getD ends i 0 ≡ getD (map (λ (x : Span). x .end) rs) i 0 = end-at i h ∙ sym (map-at (λ x. x .end) rs i nowhere h) in
-      ap (λ (x : List ℕ). getD x i 0) (v .numbered) ∙ first-at (netsFrom 0 rs) i (rw nets-length few) (rw nets-length h) ∙ nets-at 0 rs i h
-      ∙ λ t. regularNet (end-before-at i h t) (sym a t) (sym b t)
+      ap (λ (x : List ℕ). getD x i 0) (v .numbered)
+      ∙ first-at (netsOf (minutesOf ws)) i (rw (all-numbered (minutesOf ws)) few) (rw (all-numbered (minutesOf ws)) h)
 
   pub spans-rests : spansIn starts ends (m .count) ≡ longRests (minutesOf ws)
   spans-rests =
@@ -207,7 +200,7 @@ module _ (ws reading : List ℕ) {m : Measure} (q : measured ws ≡ answered m) 
     few = omega (arith, few, count-is);
     starts-in = omega (arith, few, count-is, sized starts (map (λ (x : Span). x .start) (longRests (minutesOf ws))) starts-are);
     ends-in = omega (arith, few, count-is, sized ends (map (λ (x : Span). x .end) (longRests (minutesOf ws))) ends-are);
-    nets-in = omega (arith, few, count-is, sized nets (netsFrom 0 (longRests (minutesOf ws))) (v .numbered));
+    nets-in = omega (arith, few, count-is, sized nets (netsOf (minutesOf ws)) (v .numbered));
     compensations-in = rw length-replicate (omega (arith, few, count-is));
     reading-in = e;
     ordered = λ i h.
@@ -216,7 +209,9 @@ module _ (ws reading : List ℕ) {m : Measure} (q : measured ws ≡ answered m) 
     limited = λ i h.
         let l : i < length (longRests (minutesOf ws)) = omega (arith, count-is) in
         omega (arith, end-at i l, in-order (rests-ordered (minutesOf ws)) i l .1, judged-within (minutesOf ws), within);
-    numbered = λ i h. net-at i (omega (arith, count-is));
+    numbered = λ i h.
+        let l : i < length (longRests (minutesOf ws)) = omega (arith, count-is) in
+        omega (arith, net-at i l, nets-most (minutesOf ws) within i l);
   }
 
   rule-is : r .account .rule ≡ fixedTest (minutesOf ws)
@@ -226,15 +221,15 @@ module _ (ws reading : List ℕ) {m : Measure} (q : measured ws ≡ answered m) 
   unfolding readingTested readingTest
   test-fixed e z = rw (q, eq-eqb (length reading) (entryBytes * m .count) e) (ap answered (rw (← rule-is) (sym (if-some (r .account .rule) _ z))))
 
-  pub test-later : {x : ℕ} → length reading ≡ entryBytes * m .count → r .account .rule ≡ 0 → x ≡ laterBy starts ends reading (m .count) (m .judged)
+  pub test-later : {x : ℕ} → length reading ≡ entryBytes * m .count → r .account .rule ≡ 0 → x ≡ laterBy starts ends nets reading (m .count) (m .judged)
       → answered x ≡ readingTested ws reading
   unfolding readingTested
   test-later {x} e z p =
       rw (q, eq-eqb (length reading) (entryBytes * m .count) e)
       (ap answered
-      (p ∙ ap₂ (λ (rs : List Span) (s : ℕ). laterTest (restWeeks rs) s rs (entries rs reading)) spans-rests judged-is
+      (p ∙ ap₂ (λ (rs : List Span) (s : ℕ). laterTest (restWeeks rs) (countsBy nets) s rs (entries rs reading)) spans-rests judged-is
       ∙ sym (if-zero (fixedTest (minutesOf ws)) _ (sym rule-is ∙ z))
-      ∙ sym (reading-by-rests (minutesOf ws) reading)))
+      ∙ sym (reading-by-numbers (minutesOf ws) nets net-at reading)))
 
 module _ (ws reading : List ℕ) where
   pub test-refused : {n : ℕ} → measured ws ≡ refused n → refused n ≡ readingTested ws reading

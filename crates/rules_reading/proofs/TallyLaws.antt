@@ -60,15 +60,15 @@ time-settles Daily s rs week c = refl
 time-settles (Weekly Regular) s rs week c = refl
 time-settles (Weekly (Reduced d)) s rs week c = by-test (eqb c 0) s rs c (weekStart (week + weeksToCompensate))
 
-pub test-next : (s : ℕ) (rs : List Span) (t : Tally) (e : Entry) (es : List Entry)
-    → testFrom s rs t (e ∷ es) ≡ testFrom s rs (tallyBy s (endOf rs (e .compensatedBy)) t e) es
+pub test-next : (counts : Entry → Bool) (s : ℕ) (rs : List Span) (t : Tally) (e : Entry) (es : List Entry)
+    → testFrom counts s rs t (e ∷ es) ≡ testFrom counts s rs (tallyBy (counts e) s (endOf rs (e .compensatedBy)) t e) es
 unfolding testFrom tallyBy brokenBy allOf rule9From rule10From shortAfter compensated
-test-next s rs t e es =
+test-next counts s rs t e es =
     let t8 = timeBy (asRead e) (e .week) (e .compensatedBy) (endOf rs (e .compensatedBy)) s in
-    let t9 = leb (shortAfter (t .short) e) shortenedAtMost in
+    let t9 = leb (shortAfter (counts e) (t .short) e) shortenedAtMost in
     let t10 = not (isWeekly (asRead e)) or inGap (t .last) (e .span .start) in
     let r8 = allOf (compensated s rs) es in
-    let r9 = rule9From (shortAfter (t .short) e) es in
+    let r9 = rule9From counts (shortAfter (counts e) (t .short) e) es in
     let r10 = rule10From (pick (isWeekly (asRead e)) (e .span .end) (t .last)) s es in
     ap (smaller (t .rule))
     (ap (λ (b : Bool). unless (b and r8) 8 (unless (t9 and r9) 9 (unless (t10 and r10) 10 0))) (sym (time-settles (asRead e) s rs (e .week) (e .compensatedBy)))

@@ -6,7 +6,7 @@ use Prim.Native.Nat.{ℕ, zero, suc, _+_, _-_, _*_, _≤_, _<_}
 use native.Mathlib.Nat.{le-refl, le-trans, le-of-eq}
 use native.Mathlib.Numerals.{add-one}
 use native.Mathlib.Omega.{arith}
-use lib.Dec.{leb, eqb}
+use lib.Dec.{leb, ltb, eqb}
 use lib.ListN.{length, drop, getD}
 use lib.Seq.{drop-drop, getD-drop}
 use Rattle.recording.specs.Tests.{_and_, pick, one, allOf, countOf}
@@ -14,13 +14,14 @@ use Rattle.recording.specs.Operations.{totalAtMost}
 use Rattle.recording.specs.declared.Span.{Span}
 use Rattle.recording.proofs.TestLaws.{one-most}
 use Rattle.rules.specs.Reading.{Entry, minutes, regularMinutes, asRead, isWeekly, isRegular, reductionOf, compensationOf, entryBytes, entryOf, entriesFrom, entries}
-use Rattle.rules.specs.ReadingRules.{formed, formedDaily, formedWeekly, rule6, leastNet, longEnough, rule7, endOf, shortened}
+use Rattle.rules.specs.ReadingRules.{formed, formedDaily, formedWeekly, rule6, leastNet, longEnough, rule7, endOf}
 use Rattle.rules.specs.ReadingRules.{ofKind}
 use Rattle.rules.specs.declared.Kind.{Kind}
+use Rattle.rules_fixed.specs.Nets.{countsBy}
 use Rattle.rules_reading.specs.declared.LongRest.{LongRest}
 use Rattle.rules_reading.specs.declared.Tally.{Tally}
 use Rattle.rules_reading.proofs.TallyLaws.{test-next, end-of-spans, addedTo-at, addedTo-length, addedTo-below, incremented-at, incremented-length, incremented-below, isOutstanding-little}
-use Rattle.rules_reading.specs.Items.{entryBy, endBefore, itemAt, compensationAtMost, Sane, restBy, enoughBy, endAt, Below, shortAfter, tallyBy, addedTo, incremented, spanAt}
+use Rattle.rules_reading.specs.Items.{entryBy, endBefore, itemAt, compensationAtMost, Sane, restBy, enoughBy, endAt, Below, shortBy, shortAfter, tallyBy, addedTo, incremented, spanAt}
 use Rattle.rules_reading.specs.Items.{spansFrom, spansIn, Laid, Zeros, testFrom, freshTally, Through}
 
 -- ---- the entries that are left at index i, after those before them
@@ -130,18 +131,26 @@ sane-item starts ends nets reading compensations k i l b h g = record {
   net = l .numbered i h;
 }
 
--- ---- bounds of a tally
-short-on : (s end : ℕ) (t : Tally) (e : Entry) → tallyBy s end t e .short ≤ t .short + 1
-unfolding tallyBy shortAfter
-short-on s end t e = at (isWeekly (asRead e))
-  where
-    at : (b : Bool) → pick b 0 (t .short + one (shortened e)) ≤ t .short + 1
-    at true = omega arith
-    at false = omega (arith, one-most (shortened e))
+-- ---- an item counts under rule 9 by its number
+item-counts : (starts ends nets reading compensations : List ℕ) (i : ℕ)
+    → countsBy nets (entryBy (itemAt starts ends nets reading compensations i)) ≡ shortBy (itemAt starts ends nets reading compensations i)
+unfolding countsBy
+item-counts starts ends nets reading compensations i =
+    let z : i + 1 - 1 ≡ i = omega arith in
+    ap (λ (j : ℕ). ltb (getD ends i 0 - getD starts i 0) (getD nets j 0 + getD compensations i 0)) z
 
-last-on : (s end : ℕ) (t : Tally) (e : Entry) → e .span .end ≤ totalAtMost → t .last ≤ totalAtMost → tallyBy s end t e .last ≤ totalAtMost
+-- ---- bounds of a tally
+short-on : (short : Bool) (s end : ℕ) (t : Tally) (e : Entry) → tallyBy short s end t e .short ≤ t .short + 1
+unfolding tallyBy shortAfter
+short-on short s end t e = at (isWeekly (asRead e))
+  where
+    at : (b : Bool) → pick b 0 (t .short + one short) ≤ t .short + 1
+    at true = omega arith
+    at false = omega (arith, one-most short)
+
+last-on : (short : Bool) (s end : ℕ) (t : Tally) (e : Entry) → e .span .end ≤ totalAtMost → t .last ≤ totalAtMost → tallyBy short s end t e .last ≤ totalAtMost
 unfolding tallyBy
-last-on s end t e h l = at (isWeekly (asRead e))
+last-on short s end t e h l = at (isWeekly (asRead e))
   where
     at : (b : Bool) → pick b (e .span .end) (t .last) ≤ totalAtMost
     at true = h
@@ -165,7 +174,8 @@ module _ (starts ends nets reading : List ℕ) (k s : ℕ) where
     pub outstanding : (j : ℕ) → i ≤ j → j < k → getD compensations j 0 ≡ compensationOf (suc j) earlier
     pub below : Below (regularMinutes * i) compensations
     pub seven : rule7 (entries (spansIn starts ends k) reading) ≡ allOf longEnough (left starts ends reading k i earlier)
-    pub tally : testFrom s (spansIn starts ends k) freshTally (entries (spansIn starts ends k) reading) ≡ testFrom s (spansIn starts ends k) t (left starts ends reading k i earlier)
+    pub tally : testFrom (countsBy nets) s (spansIn starts ends k) freshTally (entries (spansIn starts ends k) reading)
+        ≡ testFrom (countsBy nets) s (spansIn starts ends k) t (left starts ends reading k i earlier)
     pub short : t .short ≤ i
     pub last : t .last ≤ totalAtMost
     pub weeklies : (w : ℕ) → w < 256
@@ -187,7 +197,7 @@ module _ (starts ends nets reading : List ℕ) (k s : ℕ) where
     outstanding = λ j h g. z j;
     below = λ j. omega (arith, z j);
     seven = ap (allOf longEnough) (left-all starts ends reading k);
-    tally = ap (testFrom s (spansIn starts ends k) freshTally) (left-all starts ends reading k);
+    tally = ap (testFrom (countsBy nets) s (spansIn starts ends k) freshTally) (left-all starts ends reading k);
     short = omega arith;
     last = omega arith;
     weeklies = λ w h. omega (arith, zw w, ap (countOf (ofKind isWeekly w)) (left-all starts ends reading k));
@@ -245,7 +255,7 @@ module _ (starts ends nets reading : List ℕ) (k s : ℕ) where
     pub walk-on : {r : LongRest} {b : Bool} {end : ℕ} {t′ : Tally} {compensations′ weekly′ regular′ : List ℕ} {d : ℕ}
         → r ≡ restBy (itemAt starts ends nets reading compensations i) → b ≡ enoughBy r (getD compensations i 0) → b ≡ true
         → end ≡ endAt ends k (itemAt starts ends nets reading compensations i .carrier)
-        → t′ ≡ tallyBy s end t (entryBy (itemAt starts ends nets reading compensations i))
+        → t′ ≡ tallyBy (shortBy (itemAt starts ends nets reading compensations i)) s end t (entryBy (itemAt starts ends nets reading compensations i))
         → weekly′ ≡ incremented (isWeekly (r .kind)) weekly (itemAt starts ends nets reading compensations i .week)
         → regular′ ≡ incremented (isRegular (r .kind)) regular (itemAt starts ends nets reading compensations i .week)
         → d ≡ reductionOf (r .kind)
@@ -280,12 +290,13 @@ module _ (starts ends nets reading : List ℕ) (k s : ℕ) where
           below = λ j. let z = addedTo-below compensations (x .carrier) d (regularMinutes * i) regularMinutes (w .below) little j in omega (arith, ap (λ (y : List ℕ). getD y j 0) ql);
           seven = w .seven ∙ ap (allOf longEnough) next ∙ rw long refl;
           tally =
-              w .tally ∙ ap (testFrom s (spansIn starts ends k) t) next
-              ∙ test-next s (spansIn starts ends k) t this (left starts ends reading k (i + 1) (this ∷ w .earlier))
-              ∙ ap (λ (y : Tally). testFrom s (spansIn starts ends k) y (left starts ends reading k (i + 1) (this ∷ w .earlier)))
-              (sym (qt ∙ ap₂ (λ (e : ℕ) (y : Entry). tallyBy s e t y) (qe ∙ end-of-spans starts ends k (x .carrier) ∙ ap (endOf (spansIn starts ends k)) carried) here-item));
-          short = omega (arith, ap (λ (y : Tally). y .short) qt, short-on s end t (entryBy x), w .short);
-          last = le-trans (le-of-eq (ap (λ (y : Tally). y .last) qt)) (last-on s end t (entryBy x) (w .laid .limited i h) (w .last));
+              w .tally ∙ ap (testFrom (countsBy nets) s (spansIn starts ends k) t) next
+              ∙ test-next (countsBy nets) s (spansIn starts ends k) t this (left starts ends reading k (i + 1) (this ∷ w .earlier))
+              ∙ ap (λ (y : Tally). testFrom (countsBy nets) s (spansIn starts ends k) y (left starts ends reading k (i + 1) (this ∷ w .earlier)))
+              (sym (qt ∙ ap (λ (y : Bool). tallyBy y s end t (entryBy x)) (sym (item-counts starts ends nets reading compensations i))
+              ∙ ap₂ (λ (e : ℕ) (y : Entry). tallyBy (countsBy nets y) s e t y) (qe ∙ end-of-spans starts ends k (x .carrier) ∙ ap (endOf (spansIn starts ends k)) carried) here-item));
+          short = omega (arith, ap (λ (y : Tally). y .short) qt, short-on (shortBy x) s end t (entryBy x), w .short);
+          last = le-trans (le-of-eq (ap (λ (y : Tally). y .last) qt)) (last-on (shortBy x) s end t (entryBy x) (w .laid .limited i h) (w .last));
           weeklies = λ v l. increment-on isWeekly weekly weekly′ (r .kind) (x .week) v kind wk (w .weekly-size) l qw (w .weeklies v l);
           regulars = λ v l. increment-on isRegular regular regular′ (r .kind) (x .week) v kind wk (w .regular-size) l qg (w .regulars v l);
           few-weeklies = λ j. omega (arith, ap (λ (y : List ℕ). getD y j 0) qw, incremented-below (isWeekly (r .kind)) weekly (x .week) i (w .few-weeklies) j);
@@ -302,13 +313,13 @@ module _ (starts ends nets reading : List ℕ) (k s : ℕ) where
         (le-trans (isOutstanding-here this long (qd ∙ ap reductionOf kind)) (omega arith), λ j. omega (arith, w .below j, w .laid .few))
 
   pub walk-through : {i : ℕ} {t : Tally} {compensations weekly regular : List ℕ} → Walking i t compensations weekly regular → k ≤ i → i ≤ k
-      → Through s (spansIn starts ends k) (entries (spansIn starts ends k) reading) t weekly regular
+      → Through (countsBy nets) s (spansIn starts ends k) (entries (spansIn starts ends k) reading) t weekly regular
   unfolding allOf countOf
   walk-through {i} w h g =
       let none = left-none starts ends reading k (w .earlier) i h in
       record {
         seven = w .seven ∙ ap (allOf longEnough) none;
-        tally = w .tally ∙ ap (testFrom s (spansIn starts ends k) _) none;
+        tally = w .tally ∙ ap (testFrom (countsBy nets) s (spansIn starts ends k) _) none;
         last = w .last;
         weeklies = λ v l. omega (arith, w .weeklies v l, ap (countOf (ofKind isWeekly v)) none);
         regulars = λ v l. omega (arith, w .regulars v l, ap (countOf (ofKind isRegular v)) none);

@@ -13,13 +13,13 @@ use Rattle.recording.specs.Weeks.{weekStart, week, weekOf, inside}
 use Rattle.recording.specs.declared.Span.{Span}
 use Rattle.rules.specs.Broken.{unless}
 use Rattle.rules.specs.Reading.{Entry, regularMinutes, standingOf, asRead, isWeekly, isRegular, entryBytes, entries}
-use Rattle.rules.specs.ReadingRules.{leastNet, rule7, weeksToCompensate, compensated, shortened, shortenedAtMost, rule9From, inGap, rule10From, ofKind, weeklyAtLeast, regularAtLeast, laterTest}
+use Rattle.rules.specs.ReadingRules.{leastNet, rule7, weeksToCompensate, compensated, shortenedAtMost, rule9From, inGap, rule10From, ofKind, weeklyAtLeast, regularAtLeast, laterTest}
 use Rattle.rules.specs.declared.Kind.{Kind}
 use Rattle.rules.specs.declared.Kind.the-variants.{Daily, Weekly}
 use Rattle.rules.specs.declared.Standing.{Standing}
 use Rattle.rules.specs.declared.Standing.the-variants.{Regular, Reduced}
 use Rattle.rules_fixed.specs.Account.{smaller}
-use Rattle.rules_fixed.specs.Nets.{regularNet}
+use Rattle.rules_fixed.specs.Nets.{countsBy}
 use Rattle.rules_reading.specs.declared.Item.{Item}
 use Rattle.rules_reading.specs.declared.LongRest.{LongRest}
 use Rattle.rules_reading.specs.declared.Tally.{Tally}
@@ -57,9 +57,12 @@ itemAt starts ends nets reading compensations i = record {
   compensation = getD compensations i 0;
 }
 
--- an item whose numbers are in bounds, with its number by rule 9
+-- an item whose numbers are in bounds
 abbrev pub compensationAtMost : ℕ
 compensationAtMost = 1000000
+
+abbrev pub netAtMost : ℕ
+netAtMost = totalAtMost + 1
 
 pub record Sane (x : Item) : Type 0 where
   pub before : x .before ≤ totalAtMost
@@ -67,7 +70,7 @@ pub record Sane (x : Item) : Type 0 where
   pub end : x .end ≤ totalAtMost
   pub week : x .week ≤ 255
   pub compensation : x .compensation ≤ compensationAtMost
-  pub net : x .net ≡ regularNet (x .before) (x .start) (x .end)
+  pub net : x .net ≤ netAtMost
 
 -- ---- the standing of a weekly rest of so many minutes, with a compensation
 abbrev pub standingFor : ℕ → ℕ → Standing
@@ -96,20 +99,23 @@ gapBy q r = not (isWeekly (r .kind)) or inGap q (r .start)
 abbrev pub Below : ℕ → List ℕ → Type 0
 Below n xs = (i : ℕ) → getD xs i 0 ≤ n
 
--- ---- rules 8 to 10, an entry more: the carrier ends at `end`, S is s
-unfoldable pub shortAfter : ℕ → Entry → ℕ
-shortAfter n e = pick (isWeekly (asRead e)) 0 (n + one (shortened e))
+-- ---- rules 8 to 10, an entry more: as a daily rest it counts under rule 9 or not, the carrier ends at `end`, S is s
+abbrev pub shortBy : Item → Bool
+shortBy x = ltb (x .end - x .start) (x .net + x .compensation)
 
-unfoldable pub brokenBy : ℕ → ℕ → Tally → Entry → ℕ
-brokenBy s end t e =
+unfoldable pub shortAfter : Bool → ℕ → Entry → ℕ
+shortAfter short n e = pick (isWeekly (asRead e)) 0 (n + one short)
+
+unfoldable pub brokenBy : Bool → ℕ → ℕ → Tally → Entry → ℕ
+brokenBy short s end t e =
     unless (timeBy (asRead e) (e .week) (e .compensatedBy) end s) 8
-    (unless (leb (shortAfter (t .short) e) shortenedAtMost) 9
+    (unless (leb (shortAfter short (t .short) e) shortenedAtMost) 9
     (unless (not (isWeekly (asRead e)) or inGap (t .last) (e .span .start)) 10 0))
 
-unfoldable pub tallyBy : ℕ → ℕ → Tally → Entry → Tally
-tallyBy s end t e = record {
-  rule = smaller (t .rule) (brokenBy s end t e);
-  short = shortAfter (t .short) e;
+unfoldable pub tallyBy : Bool → ℕ → ℕ → Tally → Entry → Tally
+tallyBy short s end t e = record {
+  rule = smaller (t .rule) (brokenBy short s end t e);
+  short = shortAfter short (t .short) e;
   last = pick (isWeekly (asRead e)) (e .span .end) (t .last);
 }
 
@@ -133,7 +139,7 @@ spansFrom starts ends i (suc n) = spanAt starts ends i ∷ spansFrom starts ends
 abbrev pub spansIn : List ℕ → List ℕ → ℕ → List Span
 spansIn starts ends k = spansFrom starts ends 0 k
 
--- they stand in the slices, in order, within the limit, with their numbers by rule 9
+-- they stand in the slices, in order, within the limit
 pub record Laid (starts ends nets reading compensations : List ℕ) (k : ℕ) : Type 0 where
   pub few : k ≤ longRestsAtMost
   pub starts-in : k ≤ length starts
@@ -143,26 +149,26 @@ pub record Laid (starts ends nets reading compensations : List ℕ) (k : ℕ) : 
   pub reading-in : length reading ≡ entryBytes * k
   pub ordered : (i : ℕ) → i < k → getD starts i 0 ≤ getD ends i 0
   pub limited : (i : ℕ) → i < k → getD ends i 0 ≤ totalAtMost
-  pub numbered : (i : ℕ) → i < k → getD nets i 0 ≡ regularNet (endBefore ends i) (getD starts i 0) (getD ends i 0)
+  pub numbered : (i : ℕ) → i < k → getD nets i 0 ≤ netAtMost
 
 -- all zeros
 abbrev pub Zeros : List ℕ → Type 0
 Zeros xs = (i : ℕ) → getD xs i 0 ≡ 0
 
--- rules 8 to 10 from a tally on
-unfoldable pub testFrom : ℕ → List Span → Tally → List Entry → ℕ
-testFrom s rs t es =
+-- rules 8 to 10 from a tally on, by which daily rests count under rule 9
+unfoldable pub testFrom : (Entry → Bool) → ℕ → List Span → Tally → List Entry → ℕ
+testFrom counts s rs t es =
     smaller (t .rule)
-    (unless (allOf (compensated s rs) es) 8 (unless (rule9From (t .short) es) 9 (unless (rule10From (t .last) s es) 10 0)))
+    (unless (allOf (compensated s rs) es) 8 (unless (rule9From counts (t .short) es) 9 (unless (rule10From (t .last) s es) 10 0)))
 
 abbrev pub freshTally : Tally
 freshTally = record { rule = 0; short = 0; last = 0 }
 
 -- what the walk over the rests answers: a rest is too short net of its compensation, or all are through, with what is left of rules 8 to 10 and
 -- the rests counted in each week
-pub record Through (s : ℕ) (rs : List Span) (es : List Entry) (t : Tally) (weekly regular : List ℕ) : Type 0 where
+pub record Through (counts : Entry → Bool) (s : ℕ) (rs : List Span) (es : List Entry) (t : Tally) (weekly regular : List ℕ) : Type 0 where
   pub seven : rule7 es ≡ true
-  pub tally : testFrom s rs freshTally es ≡ testFrom s rs t []
+  pub tally : testFrom counts s rs freshTally es ≡ testFrom counts s rs t []
   pub last : t .last ≤ totalAtMost
   pub weeklies : (w : ℕ) → w < 256 → getD weekly w 0 ≡ countOf (ofKind isWeekly w) es
   pub regulars : (w : ℕ) → w < 256 → getD regular w 0 ≡ countOf (ofKind isRegular w) es
@@ -171,9 +177,9 @@ pub record Through (s : ℕ) (rs : List Span) (es : List Entry) (t : Tally) (wee
   pub weekly-size : length weekly ≡ 256
   pub regular-size : length regular ≡ 256
 
-abbrev pub Walked : ℕ → List Span → List Entry → Walk → List ℕ → List ℕ → Type 0
-Walked s rs es TooShort weekly regular = rule7 es ≡ false
-Walked s rs es (AllThrough t) weekly regular = Through s rs es t weekly regular
+abbrev pub Walked : (Entry → Bool) → ℕ → List Span → List Entry → Walk → List ℕ → List ℕ → Type 0
+Walked counts s rs es TooShort weekly regular = rule7 es ≡ false
+Walked counts s rs es (AllThrough t) weekly regular = Through counts s rs es t weekly regular
 
 -- ---- rule 11 by the counts of each week
 abbrev pub countedBy : (ℕ → Bool) → List ℕ → ℕ → ℕ
@@ -187,17 +193,14 @@ enoughWith restWeek weekly regular w =
 unfoldable pub rule11With : (ℕ → Bool) → ℕ → List ℕ → List ℕ → Bool
 rule11With restWeek s weekly regular = allBelow (weekOf s) (λ w. not (leb (weekStart (w + 2)) s) or enoughWith restWeek weekly regular w)
 
-abbrev pub spanOf : ℕ → ℕ → Span
-spanOf start end = record { start = start; end = end }
-
 -- the weeks that lie inside a long rest
 abbrev pub restWeeks : List Span → ℕ → Bool
 restWeeks rs w = anyOf (inside (week w)) rs
 
--- ---- rules 6 to 11 by the rests that stand in two slices
+-- ---- rules 6 to 11 by the rests that stand in three slices
 abbrev pub zeros : List ℕ
 zeros = replicate longRestsAtMost 0
 
-abbrev pub laterBy : List ℕ → List ℕ → List ℕ → ℕ → ℕ → ℕ
-laterBy starts ends reading k s =
-    laterTest (restWeeks (spansIn starts ends k)) s (spansIn starts ends k) (entries (spansIn starts ends k) reading)
+abbrev pub laterBy : List ℕ → List ℕ → List ℕ → List ℕ → ℕ → ℕ → ℕ
+laterBy starts ends nets reading k s =
+    laterTest (restWeeks (spansIn starts ends k)) (countsBy nets) s (spansIn starts ends k) (entries (spansIn starts ends k) reading)

@@ -13,12 +13,13 @@ ghost use Rattle.recording.specs.Weeks.{weekStart, week, inside};
 ghost use Rattle.recording.specs.Operations.{totalAtMost};
 ghost use Rattle.rules.specs.Broken.{unless};
 ghost use Rattle.rules.specs.Reading.{isWeekly, isRegular, reductionOf, entries};
-ghost use Rattle.rules.specs.ReadingRules.{formed, rule6, shortened, shortenedAtMost, inGap};
+ghost use Rattle.rules.specs.ReadingRules.{formed, rule6, shortenedAtMost, inGap};
 ghost use Rattle.rules.specs.Operations.{readingTested};
+ghost use Rattle.rules_fixed.specs.Nets.{spanOf, countsBy};
 ghost use Rattle.rules_fixed.specs.Tested.{tested};
 ghost use Rattle.rules_reading.specs.Items.{entryBy, endBefore, itemAt, Sane, compensationAtMost, Below, restBy, enoughBy};
-ghost use Rattle.rules_reading.specs.Items.{endAt, timeBy, gapBy, shortAfter, tallyBy, addedTo, incremented, spansIn, Laid};
-ghost use Rattle.rules_reading.specs.Items.{standingFor, Zeros, Walked, enoughWith, rule11With, restWeeks, spanOf, zeros, laterBy};
+ghost use Rattle.rules_reading.specs.Items.{endAt, timeBy, gapBy, shortBy, shortAfter, tallyBy, addedTo, incremented, spansIn, Laid};
+ghost use Rattle.rules_reading.specs.Items.{standingFor, Zeros, Walked, enoughWith, rule11With, restWeeks, zeros, laterBy};
 
 // A long rest with its entry: its number from 1, the end of the long rest before it or 0, its start and end, the least net length
 // at which it is no shortened daily rest, its three bytes, and the compensation that it gives, the document's load.
@@ -235,24 +236,20 @@ fn in_time(r: LongRest, week: u32, carrier: u32, end: u32, s: u32) -> bool
     }
 }
 
-// Rule 9: whether a rest is a shortened daily one.
-fn shortened_item(x: Item, r: LongRest) -> bool
-    requires { ⌜ Sane x × (r ≡ restBy x) ⌝ }
-    ensures { λ b. ⌜ b ≡ shortened (entryBy x) ⌝ }
+// Rule 9: whether a rest counts as shortened where it is daily, by its number.
+fn shortened_item(x: Item) -> bool
+    requires { ⌜ Sane x ⌝ }
+    ensures { λ b. ⌜ b ≡ shortBy x ⌝ }
 {
-    let kind = r.kind;
-    match kind {
-        Kind::Daily => x.end - x.start < x.net + x.compensation,
-        Kind::Weekly(_) => false,
-    }
+    x.end - x.start < x.net + x.compensation
 }
 
 // Rule 9: the shortened daily rests since the last weekly rest, with this one.
 fn short_after(n: u32, x: Item, r: LongRest) -> u32
     requires { ⌜ Sane x × (r ≡ restBy x) × (n < 1000) ⌝ }
-    ensures { λ b. ⌜ b ≡ shortAfter n (entryBy x) ⌝ }
+    ensures { λ b. ⌜ b ≡ shortAfter (shortBy x) n (entryBy x) ⌝ }
 {
-    let short = shortened_item(x, r);
+    let short = shortened_item(x);
     let kind = r.kind;
     match kind {
         Kind::Daily => {
@@ -307,7 +304,7 @@ fn broken_by(timely: bool, short: u32, near: bool) -> u32
 // Rules 8 to 10 with a rest more, whose carrier ends at `end`.
 fn tally_after(s: u32, end: u32, t: Tally, x: Item, r: LongRest) -> Tally
     requires { ⌜ Sane x × (r ≡ restBy x) × (t .short < 1000) × (t .last ≤ totalAtMost) ⌝ }
-    ensures { λ b. ⌜ b ≡ tallyBy s end t (entryBy x) ⌝ }
+    ensures { λ b. ⌜ b ≡ tallyBy (shortBy x) s end t (entryBy x) ⌝ }
 {
     let short = short_after(t.short, x, r);
     let last = last_after(t.last, r);
@@ -421,8 +418,8 @@ fn rest_walk(
 ) -> Walk
     requires { ⌜ Laid (now starts) (now ends) (now nets) (now reading) (now compensations) k × Zeros (now compensations) × Zeros (now weekly) × Zeros (now regular) × (length (now weekly) ≡ 256)
         × (length (now regular) ≡ 256) ⌝ }
-    ensures { λ r. ⌜ Walked s (spansIn (now (starts .entry)) (now (ends .entry)) k) (entries (spansIn (now (starts .entry)) (now (ends .entry)) k) (now (reading .entry)))
-        r (now (weekly .exit)) (now (regular .exit)) ⌝ }
+    ensures { λ r. ⌜ Walked (countsBy (now (nets .entry))) s (spansIn (now (starts .entry)) (now (ends .entry)) k)
+        (entries (spansIn (now (starts .entry)) (now (ends .entry)) k) (now (reading .entry))) r (now (weekly .exit)) (now (regular .exit)) ⌝ }
 {
     let mut t = Tally {
         rule: 0,
@@ -565,7 +562,7 @@ fn gap_rule(q: u32, s: u32) -> u32
 // Rules 6 to 11 of a reading, where the k long rests stand in `starts`, `ends` and `nets` and S is s: 0 or the smallest broken one.
 fn later_test(starts: &[u32], ends: &[u32], nets: &[u32], reading: &[u8], k: usize, s: u32) -> u32
     requires { ⌜ Laid (now starts) (now ends) (now nets) (now reading) zeros k × (s ≤ totalAtMost) ⌝ }
-    ensures { λ r. ⌜ r ≡ laterBy (now (starts .entry)) (now (ends .entry)) (now (reading .entry)) k s ⌝ }
+    ensures { λ r. ⌜ r ≡ laterBy (now (starts .entry)) (now (ends .entry)) (now (nets .entry)) (now (reading .entry)) k s ⌝ }
 {
     let mut compensations = [0u32; recording::LONG_RESTS];
     if !form_test(starts, ends, nets, reading, &compensations, k) {

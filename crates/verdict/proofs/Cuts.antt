@@ -7,7 +7,7 @@ use Prim.Native.Nat.{ℕ, zero, suc, _+_, _-_, _≤_, _<_}
 use native.Mathlib.Omega.{arith}
 use lib.Dec.{leb}
 use lib.ListN.{length, getD, take, drop, length-append, length-take, take-append-drop, List·getD-append}
-use lib.Seq.{length-take-le, getD-take, getD-drop, getD-append-add, take-at, take-add}
+use lib.Seq.{length-take-le, getD-take, getD-drop, getD-append-add, take-all, take-at, take-add}
 use Rattle.recording.specs.Tests.{pick, keep}
 use Rattle.recording.specs.Words.{rest}
 use Rattle.recording.specs.Rests.{longRestMinutes, endFrom, judgedEnd, closedFrom, longFrom, longRests}
@@ -17,6 +17,8 @@ use Rattle.recording.proofs.Walks.{judged-within, judged-append, long-rests-app
 use Rattle.recording.proofs.Runs.{trailing-judged}
 use Rattle.recording.proofs.LongRests.{long-busy, rests-ordered}
 use Rattle.rules.specs.Verdict.{prefix}
+use Rattle.rules_fixed.specs.Nets.{netsOf}
+use Rattle.rules_fixed.proofs.NetLaws.{all-numbered, first-nets}
 use Rattle.rules_reading.proofs.LaterLaws.{nowhere}
 use Rattle.verdict.proofs.Lawfulness.{neighbours}
 
@@ -117,3 +119,10 @@ module _ (ms : List ℕ) (m d : ℕ) (within : m + d ≤ length ms) (resting : (
   pub rests-rested : longRests (prefix (m + d) ms) ≡ longRests (prefix m ms)
   rests-rested =
       ap longRests (take-add m d ms) ∙ long-rests-append (prefix m ms) more ∙ ap (λ (l : List Span). longRests (prefix m ms) ++ l) (after .1) ∙ append-nil _
+
+  pub nets-rested : netsOf (prefix (m + d) ms) ≡ netsOf (prefix m ms)
+  nets-rested =
+      let k : length (netsOf (prefix (m + d) ms)) ≡ length (longRests (prefix m ms)) = all-numbered (prefix (m + d) ms) ∙ ap length rests-rested in
+      sym (first-nets (prefix m ms) more
+      ∙ ap (λ (l : List ℕ). take (length (longRests (prefix m ms))) (netsOf l)) (sym (take-add m d ms))
+      ∙ take-all (length (longRests (prefix m ms))) (netsOf (prefix (m + d) ms)) (omega (arith, k)))

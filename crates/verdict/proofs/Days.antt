@@ -8,8 +8,6 @@ use native.Mathlib.Nat.{eq-or-lt-of-le}
 use native.Mathlib.Omega.{arith}
 use lib.ListN.{length, take}
 use lib.Seq.{length-take-le, getD-take}
-use Rattle.rules_fixed.specs.Nets.{regularNet}
-use Rattle.rules_reading.specs.Items.{endBefore}
 use Rattle.verdict_completion.specs.Completable.{at, Lies}
 use Rattle.verdict_first_reading.specs.First.{restsOnly}
 use Rattle.verdict.specs.Verdicts.{HasKept, Some, firstRests, dayStart, DayReadable}
@@ -47,20 +45,11 @@ module _ {starts ends nets : List ℕ} {most : ℕ} (l : Lies (restsOnly starts 
     pub first-nets : n ≡ length (take n nets)
     first-nets = sym (length-take-le n nets (omega (arith, l .nets-too)))
 
-    before-in : (i : ℕ) → i < length (take n starts) → endBefore (take n ends) i ≡ endBefore ends i
-    before-in zero g = refl
-    before-in (suc i) g = end-in i (omega arith)
-
-    net-in : (i : ℕ) → i < length (take n starts)
-        → at (take n nets) i ≡ regularNet (endBefore (take n ends) i) (at (take n starts) i) (at (take n ends) i)
-    net-in i g =
-        rw (before-in i g, start-in i g, end-in i g) (getD-take n nets i 0 (omega (arith, first-starts)) ∙ l .net i (omega (arith, first-starts)))
-
     pub lies-first : (s : ℕ) → dayStart ends n ≤ s → Lies (restsOnly (take n starts) (take n ends) (take n nets) s)
     lies-first s g = record {
       ends-too = sym first-ends ∙ first-starts;
       nets-too = sym first-nets ∙ first-starts;
-      net = net-in;
+      net = λ i k. omega (arith, getD-take n nets i 0 (omega (arith, first-starts)), l .net i (omega (arith, first-starts)));
       proper = λ i k. omega (arith, start-in i k, end-in i k, l .proper i (omega (arith, first-starts)));
       ordered = λ i k. omega (arith, end-in i (omega arith), start-in (suc i) k, l .ordered i (omega (arith, first-starts)));
       judged = λ i k. omega (arith, end-in i k, over-by n h i (omega (arith, first-starts)));
@@ -75,12 +64,12 @@ day-start-is ends zero z = absurd (z refl)
 day-start-is ends (suc n) z = let e : suc n - 1 ≡ n = omega arith in ap (λ (m : ℕ). at ends m + 1) e
 
 -- ---- the answer for the shortest stretch with the first n
-module _ (starts ends : List ℕ) {bound n from : ℕ} (e : from ≡ dayStart ends n) where
-  pub over-bound : bound ≤ from → DayReadable starts ends bound n false
+module _ (starts ends nets : List ℕ) {bound n from : ℕ} (e : from ≡ dayStart ends n) where
+  pub over-bound : bound ≤ from → DayReadable starts ends nets bound n false
   over-bound l = record { yes = λ t. absurd (false≢true t); no = λ t h. absurd (omega arith) }
 
-  pub day-asked : from < bound → {r : Bool} → Some (firstRests starts ends n from) r → DayReadable starts ends bound n r
+  pub day-asked : from < bound → {r : Bool} → Some (firstRests starts ends nets n from) r → DayReadable starts ends nets bound n r
   day-asked l {r} s = record {
-    yes = λ t. (omega arith, subst (λ (d : ℕ). HasKept (firstRests starts ends n d)) e (s .yes t));
-    no = λ t h k. let k′ = subst (λ (d : ℕ). HasKept (firstRests starts ends n d)) (sym e) k in s .no t (k′ .0) (k′ .2);
+    yes = λ t. (omega arith, subst (λ (d : ℕ). HasKept (firstRests starts ends nets n d)) e (s .yes t));
+    no = λ t h k. let k′ = subst (λ (d : ℕ). HasKept (firstRests starts ends nets n d)) (sym e) k in s .no t (k′ .0) (k′ .2);
   }

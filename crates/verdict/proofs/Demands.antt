@@ -10,7 +10,8 @@ use lib.ListN.{length}
 use Rattle.recording.specs.Weeks.{weekStart, weekOf}
 use Rattle.rules.specs.ReadingRules.{weeklyGap}
 use Rattle.verdict_completion.specs.Completable.{at}
-use Rattle.verdict.specs.Verdicts.{HasKept, Some, Sooner, NextDemand, FirstWithout, restsAlone}
+use Rattle.verdict_first_reading.specs.First.{restsOnly}
+use Rattle.verdict.specs.Verdicts.{HasKept, Some, Sooner, NextDemand, FirstWithout}
 use Rattle.verdict.proofs.JudgedEnds.{has-too, sooner, before-next}
 
 -- the ends from index i on are through
@@ -47,25 +48,25 @@ pub demands-done : {ends : List ℕ} {s next i : ℕ} → Demands ends s next i 
 demands-done d e = record { past = d .past; week = d .week; from-start = d .from-start; from-rest = λ j h q. d .from-rest j (omega arith) h q }
 
 -- ---- the judged ends before `next` leave a reading, if `from` does
-pub record Asking (starts ends : List ℕ) (from next : ℕ) : Type 0 where
+pub record Asking (starts ends nets : List ℕ) (from next : ℕ) : Type 0 where
   pub past : from < next
-  pub before : HasKept (restsAlone starts ends from) → (t : ℕ) → suc t ≡ next → HasKept (restsAlone starts ends t)
+  pub before : HasKept (restsOnly starts ends nets from) → (t : ℕ) → suc t ≡ next → HasKept (restsOnly starts ends nets t)
 
-module _ (starts : List ℕ) {ends : List ℕ} {from next : ℕ} where
-  pub start-asking : NextDemand ends from next → Asking starts ends from next
-  start-asking n = record { past = n .past; before = λ h t e. has-too starts (before-next n t (omega arith)) h }
+module _ (starts nets : List ℕ) {ends : List ℕ} {from next : ℕ} where
+  pub start-asking : NextDemand ends from next → Asking starts ends nets from next
+  start-asking n = record { past = n .past; before = λ h t e. has-too starts nets (before-next n t (omega arith)) h }
 
-module _ {starts ends : List ℕ} {from next : ℕ} (k : Asking starts ends from next) where
-  pub ask-on : {r : ℕ} {a : Bool} → Some (restsAlone starts ends next) a → a ≡ true → NextDemand ends next r → Asking starts ends from r
-  ask-on s t n = record { past = omega (arith, k .past, n .past); before = λ h u e. has-too starts (before-next n u (omega arith)) (s .yes t) }
+module _ {starts ends nets : List ℕ} {from next : ℕ} (k : Asking starts ends nets from next) where
+  pub ask-on : {r : ℕ} {a : Bool} → Some (restsOnly starts ends nets next) a → a ≡ true → NextDemand ends next r → Asking starts ends nets from r
+  ask-on s t n = record { past = omega (arith, k .past, n .past); before = λ h u e. has-too starts nets (before-next n u (omega arith)) (s .yes t) }
 
-  pub found-none : {top : ℕ} {a : Bool} → next ≤ top → Some (restsAlone starts ends next) a → a ≡ false → FirstWithout starts ends from top next
+  pub found-none : {top : ℕ} {a : Bool} → next ≤ top → Some (restsOnly starts ends nets next) a → a ≡ false → FirstWithout starts ends nets from top next
   found-none l s f = record { past = k .past; within = omega arith; before = k .before; there = λ h i. s .no f (i .0) (i .2) }
 
-  pub all-asked : {top : ℕ} → from ≤ top → top < next → FirstWithout starts ends from top (top + 1)
+  pub all-asked : {top : ℕ} → from ≤ top → top < next → FirstWithout starts ends nets from top (top + 1)
   all-asked {top} f l = record {
     past = omega arith;
     within = omega arith;
-    before = λ h t e. has-too starts (sooner (next - 1) t (omega arith)) (k .before h (next - 1) (omega arith));
+    before = λ h t e. has-too starts nets (sooner (next - 1) t (omega arith)) (k .before h (next - 1) (omega arith));
     there = λ h. absurd (omega arith);
   }

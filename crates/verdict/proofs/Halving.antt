@@ -18,42 +18,43 @@ use Rattle.recording.proofs.TestLaws.{less-or-not}
 use Rattle.rules_reading.specs.Items.{spansFrom}
 use Rattle.verdict_completion.specs.States.{advance}
 use Rattle.verdict_completion.specs.Runs.{Runs}
+use Rattle.verdict_first_reading.specs.First.{restsOnly}
 use Rattle.verdict.specs.Outcomes.{broken, findingOf}
-use Rattle.verdict.specs.Verdicts.{HasKept, HasReading, Bound, firstRests, dayStart, DayReadable, LastDay, restsAlone}
+use Rattle.verdict.specs.Verdicts.{HasKept, HasReading, Bound, firstRests, dayStart, DayReadable, LastDay}
 use Rattle.verdict.proofs.Lawfulness.{fixed-first, from-has}
 
 -- no rests, at the beginning: the empty reading keeps the rules
-kept-nothing : HasKept (restsAlone [] [] 0)
+kept-nothing : HasKept (restsOnly [] [] [] 0)
 unfolding opened Runs advance spansFrom
 kept-nothing = ([], tt, record { six = refl; seven = refl; eight = refl; runs = (zero-le, tt) })
 
 -- between a number of long rests after which there is a reading that keeps rules 6 to 11 and one after which there is none, below the bound
-pub record Halving (starts ends : List ℕ) (bound low high : ℕ) : Type 0 where
+pub record Halving (starts ends nets : List ℕ) (bound low high : ℕ) : Type 0 where
   pub order : low < high
   pub within : high ≤ length starts + 1
   pub below : dayStart ends low < bound
-  pub kept : HasKept (firstRests starts ends low (dayStart ends low))
-  pub none : high ≤ length starts → dayStart ends high < bound → HasKept (firstRests starts ends high (dayStart ends high)) → ⊥
+  pub kept : HasKept (firstRests starts ends nets low (dayStart ends low))
+  pub none : high ≤ length starts → dayStart ends high < bound → HasKept (firstRests starts ends nets high (dayStart ends high)) → ⊥
 
-pub start-halving : (starts ends : List ℕ) {bound high : ℕ} → 0 < bound → high ≡ length starts + 1 → Halving starts ends bound 0 high
-start-halving starts ends h e = record { order = omega arith; within = omega arith; below = h; kept = kept-nothing; none = λ l. absurd (omega arith) }
+pub start-halving : (starts ends nets : List ℕ) {bound high : ℕ} → 0 < bound → high ≡ length starts + 1 → Halving starts ends nets bound 0 high
+start-halving starts ends nets h e = record { order = omega arith; within = omega arith; below = h; kept = kept-nothing; none = λ l. absurd (omega arith) }
 
-module _ {starts ends : List ℕ} {bound low high middle : ℕ} (h : Halving starts ends bound low high) {r : Bool} (a : DayReadable starts ends bound middle r) (above : low < middle)
+module _ {starts ends nets : List ℕ} {bound low high middle : ℕ} (h : Halving starts ends nets bound low high) {r : Bool} (a : DayReadable starts ends nets bound middle r) (above : low < middle)
     (below : middle < high) where
-  pub halve-up : r ≡ true → Halving starts ends bound middle high
+  pub halve-up : r ≡ true → Halving starts ends nets bound middle high
   halve-up t = record { order = below; within = h .within; below = a .yes t .0; kept = a .yes t .1; none = h .none }
 
-  pub halve-down : r ≡ false → Halving starts ends bound low middle
+  pub halve-down : r ≡ false → Halving starts ends nets bound low middle
   halve-down t = record { order = above; within = omega (arith, h .within); below = h .below; kept = h .kept; none = λ l. a .no t }
 
-pub halved : {starts ends : List ℕ} {bound low high : ℕ} → Halving starts ends bound low high → high - low ≤ 1 → LastDay starts ends bound low
-halved {starts} {ends} {bound} {low} {high} h l =
+pub halved : {starts ends nets : List ℕ} {bound low high : ℕ} → Halving starts ends nets bound low high → high - low ≤ 1 → LastDay starts ends nets bound low
+halved {starts} {ends} {nets} {bound} {low} {high} h l =
     let e : high ≡ suc low = omega (arith, h .order) in
     record {
       within = omega (arith, h .within, h .order);
       below = h .below;
       kept = h .kept;
-      next = subst (λ (n : ℕ). n ≤ length starts → dayStart ends n < bound → HasKept (firstRests starts ends n (dayStart ends n)) → ⊥) e (h .none);
+      next = subst (λ (n : ℕ). n ≤ length starts → dayStart ends n < bound → HasKept (firstRests starts ends nets n (dayStart ends n)) → ⊥) e (h .none);
     }
 
 -- a stretch without a lawful reading is not the empty one

@@ -23,9 +23,9 @@ use Rattle.verdict_completion.specs.declared.Brought.{Brought}
 use Rattle.verdict_completion.specs.declared.Brought.the-variants.{Broken}
 use Rattle.verdict_completion.specs.States.{pairKept, advance, After}
 use Rattle.verdict_completion.specs.Runs.{Ends, Takes, Runs}
-use Rattle.verdict_completion.specs.Completable.{at, spansOf, restWeek}
-use Rattle.verdict_first_reading.specs.First.{KeptBy}
-use Rattle.verdict.specs.Verdicts.{HasKept, AsksNoMore, NextDemand, restsAlone}
+use Rattle.verdict_completion.specs.Completable.{at, spansOf, restWeek, counts}
+use Rattle.verdict_first_reading.specs.First.{KeptBy, restsOnly}
+use Rattle.verdict.specs.Verdicts.{HasKept, AsksNoMore, NextDemand}
 
 -- ---- weeks
 module _ (restWeek : ℕ → Bool) where
@@ -57,22 +57,23 @@ module _ (s t : ℕ) (week : weekOf t ≤ weekOf s) where
   EachReaches (e ∷ es) = Reaches (e .span .end) × EachReaches es
 
   -- ---- rules 9 to 11
-  module _ (restWeek : ℕ → Bool) where
+  module _ (restWeek : ℕ → Bool) (counts : Entry → Bool) where
     ends-too : (st : State) → Reaches (st .ended) → Ends restWeek s st → Ends restWeek t st
     ends-too st r h = (r (h .0), fewer-weeks restWeek (weekOf t - st .week) (weekOf s - st .week) st (omega arith) (h .1))
 
-    takes-too : (e : Entry) (es : List Entry) → ((st : State) → Reaches (st .ended) → Runs restWeek s st es → Runs restWeek t st es) → Reaches (e .span .end)
+    takes-too : (e : Entry) (es : List Entry) → ((st : State) → Reaches (st .ended) → Runs restWeek counts s st es → Runs restWeek counts t st es) → Reaches (e .span .end)
         → (k : Kind) (here : State) → Reaches (here .ended)
-        → Takes restWeek s (λ next. Runs restWeek s next es) e k here → Takes restWeek t (λ next. Runs restWeek t next es) e k here
+        → Takes restWeek counts s (λ next. Runs restWeek counts s next es) e k here → Takes restWeek counts t (λ next. Runs restWeek counts t next es) e k here
     takes-too e es on q Daily here r h = (h .0, on _ r (h .1))
     takes-too e es on q (Weekly x) here r h = weeks-on restWeek _ _ (e .week - here .week) here (λ there p. on _ q) h
 
-    runs-too : (es : List Entry) → EachReaches es → (st : State) → Reaches (st .ended) → Runs restWeek s st es → Runs restWeek t st es
+    runs-too : (es : List Entry) → EachReaches es → (st : State) → Reaches (st .ended) → Runs restWeek counts s st es → Runs restWeek counts t st es
     unfolding Runs
     runs-too [] each st r h = ends-too st r h
     runs-too (e ∷ es) each st r h = (
       h .0,
-      weeks-on restWeek (Takes restWeek t (λ next. Runs restWeek t next es) e (asRead e)) (Takes restWeek s (λ next. Runs restWeek s next es) e (asRead e)) (weekOf (e .span .start) - st .week) st
+      weeks-on restWeek (Takes restWeek counts t (λ next. Runs restWeek counts t next es) e (asRead e))
+          (Takes restWeek counts s (λ next. Runs restWeek counts s next es) e (asRead e)) (weekOf (e .span .start) - st .week) st
           (λ here p. takes-too e es (runs-too es (each .1)) (each .0) (asRead e) here (subst Reaches (sym p) r)) (h .1),
     )
 
@@ -105,24 +106,24 @@ module _ (s t : ℕ) (week : weekOf t ≤ weekOf s) where
   each-reaches starts ends r (suc m) j n p past bytes = (r j, each-reaches starts ends r m (suc j) _ _ _ _)
 
 -- ---- all of them
-module _ (starts : List ℕ) {ends : List ℕ} {s t : ℕ} (a : AsksNoMore ends s t) where
+module _ (starts nets : List ℕ) {ends : List ℕ} {s t : ℕ} (a : AsksNoMore ends s t) where
   reaches : (i : ℕ) → (i < length ends) ⊎ (length ends ≤ i) → s ≤ at ends i + weeklyGap → t ≤ at ends i + weeklyGap
   reaches i (inl l) = a .from-rest i l
   reaches i (inr l) = let e : at ends i ≡ 0 = List·getD-eq-default ends 0 {n = i} l in λ h. omega (arith, a .from-start (omega arith))
 
-  pub kept-too : (bytes : List ℕ) → KeptBy (restsAlone starts ends s) bytes → KeptBy (restsAlone starts ends t) bytes
+  pub kept-too : (bytes : List ℕ) → KeptBy (restsOnly starts ends nets s) bytes → KeptBy (restsOnly starts ends nets t) bytes
   unfolding entries
   kept-too bytes k =
-      let c = restsAlone starts ends s in
+      let c = restsOnly starts ends nets s in
       record {
         six = k .six;
         seven = k .seven;
         eight = eight-too s t (a .week) (spansOf c) (entries (spansOf c) bytes) (k .eight);
-        runs = runs-too s t (a .week) (restWeek c) (entries (spansOf c) bytes)
+        runs = runs-too s t (a .week) (restWeek c) (counts c) (entries (spansOf c) bytes)
             (each-reaches s t (a .week) starts ends (λ i. reaches i (less-or-not i (length ends))) _ _ _ _ _ _) _ (a .from-start) (k .runs);
       }
 
-  pub has-too : HasKept (restsAlone starts ends s) → HasKept (restsAlone starts ends t)
+  pub has-too : HasKept (restsOnly starts ends nets s) → HasKept (restsOnly starts ends nets t)
   has-too h = (h .0, h .1, kept-too (h .0) (h .2))
 
 -- a sooner one, and one before the next demand

@@ -19,9 +19,8 @@ use Rattle.rules.specs.Reading.{entryBytes, readingSize, compensationOf, entrie
 use Rattle.rules.specs.ReadingRules.{readingTest}
 use Rattle.rules.specs.Order.{Bytes}
 use Rattle.rules.specs.Verdict.{lawful, isNone, firstLawful}
-use Rattle.rules.proofs.RestWeekLaws.{reading-by-rests}
 use Rattle.rules.proofs.Breach.{HasLawful, first-sound, first-least, is-none, some-first}
-use Rattle.rules_reading.specs.Items.{endBefore, spansFrom, spansIn, restWeeks, Zeros}
+use Rattle.rules_reading.specs.Items.{spansFrom, spansIn, restWeeks, Zeros}
 use Rattle.rules_reading.proofs.LaterLaws.{nowhere, map-at, spans-are, if-zero}
 use Rattle.verdict_completion.specs.States.{startState}
 use Rattle.verdict_completion.specs.Runs.{Kept}
@@ -29,10 +28,10 @@ use Rattle.verdict_completion.specs.Completable.{Course, at, count, restWeek, C
 use Rattle.verdict_completion.proofs.Carriers.{extend, extended}
 use Rattle.verdict_completion.proofs.RunLaws.{later-kept, kept-later}
 use Rattle.verdict_search.specs.Search.{Found, courseOf, Sound, Lent}
-use Rattle.rules_fixed.specs.Nets.{regularNet, netsFrom}
-use Rattle.rules_fixed.proofs.NetLaws.{nets-length, nets-at}
+use Rattle.rules_fixed.specs.Nets.{netsOf, countsBy}
+use Rattle.rules_fixed.proofs.NetLaws.{all-numbered, nets-most, reading-by-numbers}
 use Rattle.verdict_first_reading.specs.First.{KeptBy, Least, restsOnly}
-use Rattle.verdict.specs.Verdicts.{InFront, HasKept, Some, ByRule, HasReading, Readable, AllRests, Whole, restsAlone}
+use Rattle.verdict.specs.Verdicts.{InFront, HasKept, Some, ByRule, HasReading, Readable, AllRests, Whole}
 use Rattle.verdict.proofs.Days.{lies-later}
 use Rattle.verdict.specs.declared.Rests.{Rests}
 
@@ -72,7 +71,7 @@ module _ (starts ends nets compensations outstanding : List ℕ) (s : ℕ) (lies
   pub some-reading : {r : Bool} {outstanding′ nogoods : List ℕ}
       → Found (Completable (courseOf starts ends nets compensations s) (length starts) 0 (startState (restWeek (courseOf starts ends nets compensations s) 0)) outstanding) r outstanding outstanding′
       (Sound (courseOf starts ends nets compensations s) nogoods)
-      → Some (restsAlone starts ends s) r
+      → Some (restsOnly starts ends nets s) r
   unfolding entries compensationOf
   some-reading a =
       record {
@@ -81,12 +80,9 @@ module _ (starts ends nets compensations outstanding : List ℕ) (s : ℕ) (lies
             (λ i h. no-compensation i) bytes k);
       }
 
--- ---- the long rests of a recording, in two lists, and with their numbers
+-- ---- the long rests of a recording, with their numbers
 abbrev pub restsIn : List ℕ → Course
-restsIn ms = restsAlone (map (λ (r : Span). r .start) (longRests ms)) (map (λ (r : Span). r .end) (longRests ms)) (judgedEnd ms)
-
-abbrev pub numberedIn : List ℕ → Course
-numberedIn ms = restsOnly (map (λ (r : Span). r .start) (longRests ms)) (map (λ (r : Span). r .end) (longRests ms)) (netsFrom 0 (longRests ms)) (judgedEnd ms)
+restsIn ms = restsOnly (map (λ (r : Span). r .start) (longRests ms)) (map (λ (r : Span). r .end) (longRests ms)) (netsOf ms) (judgedEnd ms)
 
 module _ (rs : List Span) where
   abbrev starts : List ℕ
@@ -122,12 +118,12 @@ neighbours {to} {from} (next {r = r} {rs = rs} l n e o) (suc i) h =
     let q = neighbours o i (omega arith) in
     record { from-on = omega (arith, q .from-on); proper = q .proper; over = q .over; before-next = λ g. q .before-next (omega arith) }
 
-pub lies-in : (ms : List ℕ) → Lies (numberedIn ms)
-lies-in ms =
+pub lies-in : (ms : List ℕ) → length ms ≤ totalAtMost → Lies (restsIn ms)
+lies-in ms within =
     record {
       ends-too = length-map (longRests ms) (λ (r : Span). r .end) ∙ sym (size (longRests ms));
-      nets-too = nets-length 0 (longRests ms) ∙ sym (size (longRests ms));
-      net = λ i h. numbered i (there i h);
+      nets-too = all-numbered ms ∙ sym (size (longRests ms));
+      net = λ i h. nets-most ms within i (there i h);
       proper = λ i h. rw (at-start i (there i h), at-end i (there i h)) (neighbours (rests-ordered ms) i (there i h) .proper);
       ordered = λ i h. rw (at-end i (before i h), at-start (suc i) (there (suc i) h)) (omega (arith, neighbours (rests-ordered ms) i (before i h) .before-next (there (suc i) h)));
       judged = λ i h. rw (at-end i (there i h)) (omega (arith, neighbours (rests-ordered ms) i (there i h) .over));
@@ -145,22 +141,18 @@ lies-in ms =
     at-end : (i : ℕ) → i < length (longRests ms) → getD (ends (longRests ms)) i 0 ≡ getD (longRests ms) i nowhere .end
     at-end i h = map-at (λ r. r .end) (longRests ms) i nowhere h
 
-    numbered : (i : ℕ) → i < length (longRests ms)
-        → getD (netsFrom 0 (longRests ms)) i 0 ≡ regularNet (endBefore (ends (longRests ms)) i) (getD (starts (longRests ms)) i 0) (getD (ends (longRests ms)) i 0)
-    numbered zero h = nets-at 0 (longRests ms) zero h
-    numbered (suc i) h = nets-at 0 (longRests ms) (suc i) h
-
 -- ---- lawful, and kept
 module _ (ms : List ℕ) where
   abbrev KeptThere : List Span → List ℕ → Type 0
-  KeptThere rs bytes = Kept (restWeeks rs) (judgedEnd ms) rs (startState (restWeeks rs 0)) (entries rs bytes)
+  KeptThere rs bytes = Kept (restWeeks rs) (countsBy (netsOf ms)) (judgedEnd ms) rs (startState (restWeeks rs 0)) (entries rs bytes)
 
   pub lawful-kept : (bytes : List ℕ) → lawful ms bytes ≡ true → KeptBy (restsIn ms) bytes
   unfolding lawful
   lawful-kept bytes t =
       let z : readingTest ms bytes ≡ 0 = eqb-true (readingTest ms bytes) 0 t in
       let k : KeptThere (longRests ms) bytes =
-      later-kept (restWeeks (longRests ms)) (judgedEnd ms) (longRests ms) bytes (rests-ordered ms) (later-none (fixedTest ms) _ (sym (reading-by-rests ms bytes) ∙ z)) in
+      later-kept (restWeeks (longRests ms)) (countsBy (netsOf ms)) (judgedEnd ms) (longRests ms) bytes (rests-ordered ms)
+      (later-none (fixedTest ms) _ (sym (reading-by-numbers ms (netsOf ms) (λ i h. refl) bytes) ∙ z)) in
       subst (λ (rs : List Span). KeptThere rs bytes) (sym (spans-back (longRests ms))) k
     where
       later-none : (n x : ℕ) → ifNone n x ≡ 0 → x ≡ 0
@@ -171,8 +163,8 @@ module _ (ms : List ℕ) where
   unfolding lawful
   kept-lawful f bytes k =
       let k′ : KeptThere (longRests ms) bytes = subst (λ (rs : List Span). KeptThere rs bytes) (spans-back (longRests ms)) k in
-      let z = kept-later (restWeeks (longRests ms)) (judgedEnd ms) (longRests ms) bytes (rests-ordered ms) k′ in
-      eq-eqb (readingTest ms bytes) 0 (reading-by-rests ms bytes ∙ if-zero (fixedTest ms) _ f ∙ z)
+      let z = kept-later (restWeeks (longRests ms)) (countsBy (netsOf ms)) (judgedEnd ms) (longRests ms) bytes (rests-ordered ms) k′ in
+      eq-eqb (readingTest ms bytes) 0 (reading-by-numbers ms (netsOf ms) (λ i h. refl) bytes ∙ if-zero (fixedTest ms) _ f ∙ z)
 
   pub fixed-first : (bytes : List ℕ) → lawful ms bytes ≡ true → fixedTest ms ≡ 0
   unfolding lawful readingTest
@@ -190,7 +182,7 @@ module _ (ms : List ℕ) where
   unfolding readingSize
   as-few bytes b = subst (λ (n : ℕ). Bytes (entryBytes * n) bytes) (size (longRests ms)) b
 
-  pub least : {f : List ℕ} → firstLawful ms ≡ some f → Least (numberedIn ms) f
+  pub least : {f : List ℕ} → firstLawful ms ≡ some f → Least (restsIn ms) f
   least {f} e =
       let l = first-sound ms e in
       record {
@@ -240,7 +232,7 @@ module _ {ws : List ℕ} {r : Rests} {starts ends nets : List ℕ} (q : InFront 
   ends-size = q .count ∙ sym (length-map (longRests (minutesOf ws)) (λ (x : Span). x .end)) ∙ sym (ap length (q .whole .rests .ended))
 
   pub nets-size : r .count ≡ length (take (r .count) nets)
-  nets-size = q .count ∙ sym (nets-length 0 (longRests (minutesOf ws))) ∙ sym (ap length (q .whole .rests .numbered))
+  nets-size = q .count ∙ sym (all-numbered (minutesOf ws)) ∙ sym (ap length (q .whole .rests .numbered))
 
   pub reading-there : {n : ℕ} → n ≡ readingSize (minutesOf ws) → n ≡ entryBytes * length (take (r .count) starts)
   unfolding readingSize
@@ -248,12 +240,12 @@ module _ {ws : List ℕ} {r : Rests} {starts ends nets : List ℕ} (q : InFront 
 
 -- ---- the long rests of the whole, in three lists
 module _ {ms starts ends nets : List ℕ} (q : AllRests ms starts ends nets) (within : length ms ≤ totalAtMost) where
-  course-there : (s : ℕ) → s ≡ judgedEnd ms → restsOnly starts ends nets s ≡ numberedIn ms
+  course-there : (s : ℕ) → s ≡ judgedEnd ms → restsOnly starts ends nets s ≡ restsIn ms
   course-there s e = λ i. restsOnly (q .begun i) (q .ended i) (q .numbered i) (e i)
 
   pub all-lie : Lies (restsOnly starts ends nets totalAtMost)
   all-lie =
-      let l : Lies (restsOnly starts ends nets (judgedEnd ms)) = subst Lies (sym (course-there (judgedEnd ms) refl)) (lies-in ms) in
+      let l : Lies (restsOnly starts ends nets (judgedEnd ms)) = subst Lies (sym (course-there (judgedEnd ms) refl)) (lies-in ms within) in
       lies-later l (omega (arith, judged-within ms))
 
   pub all-few : length starts ≤ longRestsAtMost
@@ -263,12 +255,12 @@ module _ {ms starts ends nets : List ℕ} (q : AllRests ms starts ends nets) (wi
 module _ {ms starts ends nets : List ℕ} {r : Rests} (q : Whole ms starts ends nets r) (within : length ms ≤ totalAtMost) where
   pub whole-rests : Lies (restsOnly starts ends nets (r .judged)) × (length starts ≤ longRestsAtMost) × (r .judged ≤ totalAtMost)
   whole-rests =
-      (subst Lies (sym (course-there (q .rests) within (r .judged) (q .judged))) (lies-in ms), all-few (q .rests) within, omega (arith, q .judged, judged-within ms))
+      (subst Lies (sym (course-there (q .rests) within (r .judged) (q .judged))) (lies-in ms within), all-few (q .rests) within, omega (arith, q .judged, judged-within ms))
 
-  pub whole-lawful : {t : Bool} → ByRule (restsAlone starts ends (r .judged)) (r .rule) t → t ≡ not (isNone (firstLawful ms))
+  pub whole-lawful : {t : Bool} → ByRule (restsOnly starts ends nets (r .judged)) (r .rule) t → t ≡ not (isNone (firstLawful ms))
   whole-lawful {t} a =
       by-fixed ms (r .rule) (sym (q .fixed))
-      (subst (λ (c : Course). ByRule c (r .rule) t) (λ i. restsAlone (q .rests .begun i) (q .rests .ended i) (q .judged i)) a)
+      (subst (λ (c : Course). ByRule c (r .rule) t) (course-there (q .rests) within (r .judged) (q .judged)) a)
 
   pub whole-least : {f : List ℕ} → firstLawful ms ≡ some f → Least (restsOnly starts ends nets (r .judged)) f
   whole-least {f} e = subst (λ (c : Course). Least c f) (sym (course-there (q .rests) within (r .judged) (q .judged))) (least ms e)

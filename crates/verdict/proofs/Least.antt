@@ -1,10 +1,10 @@
 -- The breach minute, found among the long rests of the whole. Assumes nothing.
-use mathlib.Core.Path.{_≡_, refl, sym, ap, subst, _∙_}
+use mathlib.Core.Path.{_≡_, refl, sym, ap, ap₂, subst, _∙_}
 use mathlib.Core.Logic.{_⊎_, inl, inr}
 use mathlib.Core.List.{List, [], _∷_, map, List·Memᴰ as In, List·Memᴰ·head as here, List·Memᴰ·tail as there}
 use Prim.Native.Nat.{ℕ, zero, suc, _+_, _-_, _≤_, _<_}
 use native.Mathlib.Omega.{arith}
-use lib.ListN.{length, getD, take, length-map}
+use lib.ListN.{length, getD, take, drop, length-map, take-append-drop}
 use lib.Seq.{length-take-le}
 use Rattle.recording.specs.Words.{rest}
 use Rattle.recording.specs.Rests.{judgedEnd, longRests}
@@ -15,12 +15,15 @@ use Rattle.recording.proofs.LongRests.{rests-ordered, long-is}
 use Rattle.rules.specs.Fixed.{fixedTest}
 use Rattle.rules.specs.Verdict.{prefix, breachMinute}
 use Rattle.rules.proofs.Breach.{shorter-lawful, only-breach}
+use Rattle.rules_fixed.specs.Nets.{netsOf}
+use Rattle.rules_fixed.proofs.NetLaws.{first-nets}
 use Rattle.rules_reading.proofs.LaterLaws.{nowhere, map-at}
 use Rattle.verdict_completion.specs.Completable.{Course, at}
-use Rattle.verdict.specs.Verdicts.{HasKept, HasReading, Bound, AllRests, firstRests, dayStart, LastDay, DayTop, FirstWithout, NextActive, restsAlone}
+use Rattle.verdict_first_reading.specs.First.{restsOnly}
+use Rattle.verdict.specs.Verdicts.{HasKept, HasReading, Bound, AllRests, firstRests, dayStart, LastDay, DayTop, FirstWithout, NextActive}
 use Rattle.verdict.proofs.JudgedEnds.{has-too, sooner}
 use Rattle.verdict.proofs.Lawfulness.{neighbours, has-kept, kept-has, to-has, from-has}
-use Rattle.verdict.proofs.Cuts.{judged-most, over-there, rests-there, judged-there, judged-rested, rests-rested}
+use Rattle.verdict.proofs.Cuts.{judged-most, over-there, rests-there, judged-there, judged-rested, rests-rested, nets-rested}
 
 map-take : (f : Span → ℕ) (n : ℕ) (rs : List Span) → map f (take n rs) ≡ take n (map f rs)
 map-take f zero rs = refl
@@ -32,9 +35,15 @@ in-at [] i h = absurd (omega arith)
 in-at (r ∷ rs) zero h = here refl
 in-at (r ∷ rs) (suc i) h = there (in-at rs i (omega arith))
 
--- long rests as a course, where S is s
-abbrev spansCourse : List Span → ℕ → Course
-spansCourse rs s = restsAlone (map (λ (r : Span). r .start) rs) (map (λ (r : Span). r .end) rs) s
+-- long rests with their numbers as a course, where S is s
+abbrev spansCourse : List Span → List ℕ → ℕ → Course
+spansCourse rs nets s = restsOnly (map (λ (r : Span). r .start) rs) (map (λ (r : Span). r .end) rs) nets s
+
+-- a stretch with the first n long rests has their numbers
+nets-there : (ms : List ℕ) (m n : ℕ) → n ≤ length (longRests ms) → longRests (prefix m ms) ≡ take n (longRests ms) → netsOf (prefix m ms) ≡ take n (netsOf ms)
+nets-there ms m n h e =
+    let k : length (longRests (prefix m ms)) ≡ n = ap length e ∙ length-take-le n (longRests ms) h in
+    first-nets (prefix m ms) (drop m ms) ∙ ap₂ (λ (i : ℕ) (l : List ℕ). take i (netsOf l)) k (take-append-drop m ms)
 
 module _ {ms starts ends nets : List ℕ} (q : AllRests ms starts ends nets) where
   count-is : length starts ≡ length (longRests ms)
@@ -50,22 +59,23 @@ module _ {ms starts ends nets : List ℕ} (q : AllRests ms starts ends nets) whe
   run-at i h = long-is ms (in-at (longRests ms) i (omega (arith, count-is))) .rest .run
 
   -- ---- a stretch with n long rests
-  module _ (m n : ℕ) (within : m ≤ length ms) (e : longRests (prefix m ms) ≡ take n (longRests ms)) where
-    course-is : (s : ℕ) → spansCourse (longRests (prefix m ms)) s ≡ firstRests starts ends n s
+  module _ (m n : ℕ) (within : m ≤ length ms) (few : n ≤ length starts) (e : longRests (prefix m ms) ≡ take n (longRests ms)) where
+    course-is : (s : ℕ) → spansCourse (longRests (prefix m ms)) (netsOf (prefix m ms)) s ≡ firstRests starts ends nets n s
     course-is s =
-        ap (λ (l : List Span). spansCourse l s) e
-        ∙ (λ i. restsAlone ((map-take (λ r. r .start) n (longRests ms) ∙ ap (take n) (sym (q .begun))) i) ((map-take (λ r. r .end) n (longRests ms) ∙ ap (take n) (sym (q .ended))) i) s)
+        ap₂ (λ (l : List Span) (ns : List ℕ). spansCourse l ns s) e (nets-there ms m n (omega (arith, count-is)) e)
+        ∙ (λ i. restsOnly ((map-take (λ r. r .start) n (longRests ms) ∙ ap (take n) (sym (q .begun))) i)
+        ((map-take (λ r. r .end) n (longRests ms) ∙ ap (take n) (sym (q .ended))) i) (ap (take n) (sym (q .numbered)) i) s)
 
     -- a reading that keeps the rules up to its end is one of it
-    has-there : fixedTest (prefix m ms) ≡ 0 → HasKept (firstRests starts ends n m) → HasReading (prefix m ms)
+    has-there : fixedTest (prefix m ms) ≡ 0 → HasKept (firstRests starts ends nets n m) → HasReading (prefix m ms)
     has-there f h =
         kept-has (prefix m ms) f
-        (subst HasKept (sym (course-is (judgedEnd (prefix m ms)))) (has-too (take n starts) (sooner m (judgedEnd (prefix m ms)) (judged-most ms m within)) h))
+        (subst HasKept (sym (course-is (judgedEnd (prefix m ms)))) (has-too (take n starts) (take n nets) (sooner m (judgedEnd (prefix m ms)) (judged-most ms m within)) h))
 
     -- and one of it keeps them up to a judged end that is no later
-    kept-there : (t : ℕ) → t ≤ judgedEnd (prefix m ms) → HasReading (prefix m ms) → HasKept (firstRests starts ends n t)
+    kept-there : (t : ℕ) → t ≤ judgedEnd (prefix m ms) → HasReading (prefix m ms) → HasKept (firstRests starts ends nets n t)
     kept-there t l h =
-        has-too (take n starts) (sooner (judgedEnd (prefix m ms)) t l) (subst HasKept (course-is (judgedEnd (prefix m ms))) (has-kept (prefix m ms) h))
+        has-too (take n starts) (take n nets) (sooner (judgedEnd (prefix m ms)) t l) (subst HasKept (course-is (judgedEnd (prefix m ms))) (has-kept (prefix m ms) h))
 
   -- it has n, where it is no shorter than the shortest and the next is not over
   rests-at : (m n : ℕ) → m ≤ length ms → n ≤ length starts → dayStart ends n ≤ m → (n < length starts → m ≤ getD (longRests ms) n nowhere .end)
@@ -76,8 +86,8 @@ module _ {ms starts ends nets : List ℕ} (q : AllRests ms starts ends nets) whe
       (λ g. next (omega (arith, count-is)))
 
   -- ---- the breach minute
-  module _ {bound : ℕ} (b : Bound ms bound) {n top x r : ℕ} (day : LastDay starts ends bound n) (last : DayTop starts n bound top)
-      (first : FirstWithout (take n starts) (take n ends) (dayStart ends n) top x) (active : NextActive ms x bound r) where
+  module _ {bound : ℕ} (b : Bound ms bound) {n top x r : ℕ} (day : LastDay starts ends nets bound n) (last : DayTop starts n bound top)
+      (first : FirstWithout (take n starts) (take n ends) (take n nets) (dayStart ends n) top x) (active : NextActive ms x bound r) where
     -- the next rest starts past top
     next-over : (m : ℕ) → m ≤ top → n < length starts → m ≤ getD (longRests ms) n nowhere .end
     next-over m l h = omega (arith, last .before h, start-at n h, run-at n h .some)
@@ -85,7 +95,7 @@ module _ {ms starts ends nets : List ℕ} (q : AllRests ms starts ends nets) whe
     has-before : (y : ℕ) → suc y ≡ x → HasReading (prefix y ms)
     has-before y e =
         let w : y ≤ length ms = omega (arith, b .within, last .below, first .within) in
-        has-there y n w (rests-at y n w (day .within) (omega (arith, first .past)) (next-over y (omega (arith, first .within))))
+        has-there y n w (day .within) (rests-at y n w (day .within) (omega (arith, first .past)) (next-over y (omega (arith, first .within))))
         (b .fixed y (omega (arith, last .below, first .within))) (first .before (day .kept) y e)
 
     -- minutes of rest more
@@ -97,9 +107,10 @@ module _ {ms starts ends nets : List ℕ} (q : AllRests ms starts ends nets) whe
         let s : (i : ℕ) → i < d → getD ms (y + i) 0 ≡ rest = λ i h. active .resting (y + i) (omega arith) (omega arith) in
         let j = judged-rested ms y d w s in
         let k = rests-rested ms y d w s in
+        let u = nets-rested ms y d w s in
         subst (λ (m : ℕ). HasReading (prefix m ms)) g
         (kept-has (prefix (y + d) ms) (b .fixed (y + d) (omega (arith, active .within)))
-        (subst HasKept (λ i. spansCourse (sym k i) (sym j i)) (has-kept (prefix y ms) (has-before y e))))
+        (subst HasKept (λ i. spansCourse (sym k i) (sym u i) (sym j i)) (has-kept (prefix y ms) (has-before y e))))
 
     -- where the next rest starts first, the stretch with it is the breach
     none-after : n < length starts → top ≡ at starts n → x ≡ suc top → r < bound → HasReading (prefix r ms) → ⊥
@@ -110,7 +121,7 @@ module _ {ms starts ends nets : List ℕ} (q : AllRests ms starts ends nets) whe
         let there = rests-at (at ends n + 1) (suc n) w (omega arith) (omega arith) next-later in
         let size : length (longRests (prefix (at ends n + 1) ms)) ≡ suc n = ap length there ∙ length-take-le (suc n) (longRests ms) (omega (arith, count-is)) in
         day .next h (omega arith)
-        (kept-there (at ends n + 1) (suc n) w there (at ends n + 1) (omega (arith, over-there ms (at ends n + 1) w n (omega (arith, size))))
+        (kept-there (at ends n + 1) (suc n) w (omega arith) there (at ends n + 1) (omega (arith, over-there ms (at ends n + 1) w n (omega (arith, size))))
         (from-has (shorter-lawful ms (at ends n + 1) r (omega arith) (to-has k))))
       where
         ended : (getD (longRests ms) n nowhere .end < r) ⊎ (r ≤ getD (longRests ms) n nowhere .end) → getD (longRests ms) n nowhere .end < r
@@ -129,7 +140,7 @@ module _ {ms starts ends nets : List ℕ} (q : AllRests ms starts ends nets) whe
         let w : r ≤ length ms = omega (arith, b .within) in
         let j : judgedEnd (prefix r ms) ≡ r = judged-there ms r w (active .active l) in
         first .there t
-        (kept-there r n w (rests-at r n w (day .within) (omega (arith, first .past, active .from)) (λ h. running h (less-or-not (getD (longRests ms) n nowhere .end) r))) x
+        (kept-there r n w (day .within) (rests-at r n w (day .within) (omega (arith, first .past, active .from)) (λ h. running h (less-or-not (getD (longRests ms) n nowhere .end) r))) x
         (omega (arith, active .from)) k)
       where
         -- the next rest is not over: else the minute before it would be one of rest
@@ -171,14 +182,14 @@ module _ {ms starts ends nets : List ℕ} (q : AllRests ms starts ends nets) whe
   day-before (suc n) h =
       omega (arith, end-at n (omega arith), start-at (suc n) h, neighbours (rests-ordered ms) n (omega (arith, count-is)) .before-next (omega (arith, count-is)))
 
-  pub from-low : {bound n top : ℕ} → LastDay starts ends bound n → DayTop starts n bound top → dayStart ends n ≤ top
+  pub from-low : {bound n top : ℕ} → LastDay starts ends nets bound n → DayTop starts n bound top → dayStart ends n ≤ top
   from-low {bound} {n} {top} day last = upto (last .is)
     where
       upto : ((n < length starts) × (top ≡ at starts n)) ⊎ (suc top ≡ bound) → dayStart ends n ≤ top
       upto (inl h) = omega (arith, day-before n (h .0), h .1)
       upto (inr h) = omega (arith, day .below)
 
-  pub least-found : {bound n from top x r : ℕ} → Bound ms bound → LastDay starts ends bound n → from ≡ dayStart ends n → DayTop starts n bound top
-      → FirstWithout (take n starts) (take n ends) from top x → NextActive ms x bound r → r ≡ breachMinute ms
+  pub least-found : {bound n from top x r : ℕ} → Bound ms bound → LastDay starts ends nets bound n → from ≡ dayStart ends n → DayTop starts n bound top
+      → FirstWithout (take n starts) (take n ends) (take n nets) from top x → NextActive ms x bound r → r ≡ breachMinute ms
   least-found {n = n} {top = top} {x = x} b day e last first active =
-      least-is b day last (subst (λ (d : ℕ). FirstWithout (take n starts) (take n ends) d top x) e first) active
+      least-is b day last (subst (λ (d : ℕ). FirstWithout (take n starts) (take n ends) (take n nets) d top x) e first) active

@@ -3,7 +3,7 @@
 use mathlib.Core.Path.{_≡_}
 use mathlib.Core.Logic.{_⊎_}
 use mathlib.Core.Bool.{Bool, true, false}
-use mathlib.Core.List.{List, [], map}
+use mathlib.Core.List.{List, map}
 use Prim.Native.Nat.{ℕ, zero, suc, _+_, _-_, _*_, _≤_, _<_}
 use lib.ListN.{length, getD, take}
 use Rattle.recording.specs.Words.{rest, minutesOf}
@@ -17,7 +17,7 @@ use Rattle.rules.specs.Order.{Bytes}
 use Rattle.rules.specs.Reading.{entryBytes, readingSize}
 use Rattle.rules.specs.ReadingRules.{weeklyGap}
 use Rattle.verdict_completion.specs.Completable.{Course, at, count}
-use Rattle.rules_fixed.specs.Nets.{netsFrom}
+use Rattle.rules_fixed.specs.Nets.{netsOf}
 use Rattle.verdict_first_reading.specs.First.{KeptBy, Least, restsOnly}
 use Rattle.verdict.specs.Outcomes.{Finding, unbroken, broken}
 use Rattle.verdict.specs.declared.Rests.{Rests}
@@ -38,10 +38,7 @@ pub record WrittenIf (wanted : Bool) (c : Course) (old new : List ℕ) : Type 0 
   pub written : wanted ≡ true → (f : List ℕ) → Least c f → new ≡ f
   pub left : wanted ≡ false → new ≡ old
 
--- ---- a reading of long rests that keeps rules 6 to 11, and whether there is one; the numbers of the rests have no part in it
-abbrev pub restsAlone : List ℕ → List ℕ → ℕ → Course
-restsAlone starts ends s = restsOnly starts ends [] s
-
+-- ---- a reading of long rests that keeps rules 6 to 11, and whether there is one
 abbrev pub HasKept : Course → Type 0
 HasKept c = (bytes : List ℕ) × Bytes (entryBytes * count c) bytes × KeptBy c bytes
 
@@ -91,7 +88,7 @@ pub record NextDemand (ends : List ℕ) (s r : ℕ) : Type 0 where
 pub record AllRests (ms starts ends nets : List ℕ) : Type 0 where
   pub begun : starts ≡ map (λ (r : Span). r .start) (longRests ms)
   pub ended : ends ≡ map (λ (r : Span). r .end) (longRests ms)
-  pub numbered : nets ≡ netsFrom 0 (longRests ms)
+  pub numbered : nets ≡ netsOf ms
 
 -- with S, the smallest fixed rule that is broken, or 0, and the first such breach
 pub record Whole (ms starts ends nets : List ℕ) (r : Rests) : Type 0 where
@@ -107,8 +104,8 @@ pub record InFront (words : List ℕ) (r : Rests) (starts ends nets : List ℕ) 
   pub whole : Whole (minutesOf words) (take (r .count) starts) (take (r .count) ends) (take (r .count) nets) r
 
 -- the first n of them, where S is s
-abbrev pub firstRests : List ℕ → List ℕ → ℕ → ℕ → Course
-firstRests starts ends n s = restsAlone (take n starts) (take n ends) s
+abbrev pub firstRests : List ℕ → List ℕ → List ℕ → ℕ → ℕ → Course
+firstRests starts ends nets n s = restsOnly (take n starts) (take n ends) (take n nets) s
 
 -- the shortest stretch that has n of them
 abbrev pub dayStart : List ℕ → ℕ → ℕ
@@ -116,16 +113,16 @@ dayStart ends zero = 0
 dayStart ends (suc i) = at ends i + 1
 
 -- whether it lies below a bound and has a reading that keeps rules 6 to 11
-pub record DayReadable (starts ends : List ℕ) (bound n : ℕ) (r : Bool) : Type 0 where
-  pub yes : r ≡ true → (dayStart ends n < bound) × HasKept (firstRests starts ends n (dayStart ends n))
-  pub no : r ≡ false → dayStart ends n < bound → HasKept (firstRests starts ends n (dayStart ends n)) → ⊥
+pub record DayReadable (starts ends nets : List ℕ) (bound n : ℕ) (r : Bool) : Type 0 where
+  pub yes : r ≡ true → (dayStart ends n < bound) × HasKept (firstRests starts ends nets n (dayStart ends n))
+  pub no : r ≡ false → dayStart ends n < bound → HasKept (firstRests starts ends nets n (dayStart ends n)) → ⊥
 
 -- it does, and the next such stretch does not
-pub record LastDay (starts ends : List ℕ) (bound n : ℕ) : Type 0 where
+pub record LastDay (starts ends nets : List ℕ) (bound n : ℕ) : Type 0 where
   pub within : n ≤ length starts
   pub below : dayStart ends n < bound
-  pub kept : HasKept (firstRests starts ends n (dayStart ends n))
-  pub next : n < length starts → dayStart ends (suc n) < bound → HasKept (firstRests starts ends (suc n) (dayStart ends (suc n))) → ⊥
+  pub kept : HasKept (firstRests starts ends nets n (dayStart ends n))
+  pub next : n < length starts → dayStart ends (suc n) < bound → HasKept (firstRests starts ends nets (suc n) (dayStart ends (suc n))) → ⊥
 
 -- the stretch at which the next rest starts, or the last below the bound
 pub record DayTop (starts : List ℕ) (n bound r : ℕ) : Type 0 where
@@ -134,11 +131,11 @@ pub record DayTop (starts : List ℕ) (n bound r : ℕ) : Type 0 where
   pub is : ((n < length starts) × (r ≡ at starts n)) ⊎ (suc r ≡ bound)
 
 -- of the judged ends past `from` and up to `top`, the first that leaves no reading of these rests, or the one past them
-pub record FirstWithout (starts ends : List ℕ) (from top r : ℕ) : Type 0 where
+pub record FirstWithout (starts ends nets : List ℕ) (from top r : ℕ) : Type 0 where
   pub past : from < r
   pub within : r ≤ top + 1
-  pub before : HasKept (restsAlone starts ends from) → (t : ℕ) → suc t ≡ r → HasKept (restsAlone starts ends t)
-  pub there : r ≤ top → HasKept (restsAlone starts ends r) → ⊥
+  pub before : HasKept (restsOnly starts ends nets from) → (t : ℕ) → suc t ≡ r → HasKept (restsOnly starts ends nets t)
+  pub there : r ≤ top → HasKept (restsOnly starts ends nets r) → ⊥
 
 -- the later of two minutes
 abbrev pub laterOf : ℕ → ℕ → ℕ

@@ -18,7 +18,7 @@ ghost use Rattle.verdict_completion.specs.Completable.{at, count, Lies};
 ghost use Rattle.verdict_first_reading.specs.First.{restsOnly};
 ghost use Rattle.verdict.specs.Outcomes.{outcomeBy, broken, findingOf, found, findingBy};
 ghost use Rattle.verdict.specs.Verdicts.{findingIn, InFront, Some, ByRule, HasReading, Bound, AllRests, Whole, dayStart, DayReadable};
-ghost use Rattle.verdict.specs.Verdicts.{LastDay, DayTop, restsAlone, Sooner, NextDemand, FirstWithout, laterOf, NextActive, isUnbroken, WrittenIf};
+ghost use Rattle.verdict.specs.Verdicts.{LastDay, DayTop, Sooner, NextDemand, FirstWithout, laterOf, NextActive, isUnbroken, WrittenIf};
 
 // A breach: the length of the shortest stretch without a lawful reading, and its article, 1 to 6.
 pub struct Breach {
@@ -109,7 +109,7 @@ fn some_reading(
     other: &mut [u32],
 ) -> Swept
     requires { ⌜ (Lies (restsOnly (now starts) (now ends) (now nets) s)) × (length (now starts) ≤ longRestsAtMost) × (s ≤ totalAtMost) ⌝ }
-    ensures { λ r. ⌜ Some (restsAlone (now (starts .entry)) (now (ends .entry)) s) (r .yes) ⌝ }
+    ensures { λ r. ⌜ Some (restsOnly (now (starts .entry)) (now (ends .entry)) (now (nets .entry)) s) (r .yes) ⌝ }
 {
     let k = starts.len();
     let compensations = [0u32; recording::LONG_RESTS];
@@ -139,7 +139,7 @@ fn lawful_by(
     other: &mut [u32],
 ) -> Swept
     requires { ⌜ (Lies (restsOnly (now starts) (now ends) (now nets) s)) × (length (now starts) ≤ longRestsAtMost) × (s ≤ totalAtMost) ⌝ }
-    ensures { λ r. ⌜ ByRule (restsAlone (now (starts .entry)) (now (ends .entry)) s) rule (r .yes) ⌝ }
+    ensures { λ r. ⌜ ByRule (restsOnly (now (starts .entry)) (now (ends .entry)) (now (nets .entry)) s) rule (r .yes) ⌝ }
 {
     if rule != 0 {
         return Swept {
@@ -184,7 +184,7 @@ fn day_readable(
 ) -> Swept
     requires { ⌜ (Lies (restsOnly (now starts) (now ends) (now nets) totalAtMost)) × (length (now starts) ≤ longRestsAtMost) × (bound ≤ totalAtMost)
         × (n ≤ length (now starts)) ⌝ }
-    ensures { λ r. ⌜ DayReadable (now (starts .entry)) (now (ends .entry)) bound n (r .yes) ⌝ }
+    ensures { λ r. ⌜ DayReadable (now (starts .entry)) (now (ends .entry)) (now (nets .entry)) bound n (r .yes) ⌝ }
 {
     let from = day_start(ends, n);
     if bound <= from {
@@ -246,7 +246,7 @@ fn last_day(
     other: &mut [u32],
 ) -> usize
     requires { ⌜ (Lies (restsOnly (now starts) (now ends) (now nets) totalAtMost)) × (length (now starts) ≤ longRestsAtMost) × (bound ≤ totalAtMost) × (0 < bound) ⌝ }
-    ensures { λ r. ⌜ LastDay (now (starts .entry)) (now (ends .entry)) bound r ⌝ }
+    ensures { λ r. ⌜ LastDay (now (starts .entry)) (now (ends .entry)) (now (nets .entry)) bound r ⌝ }
 {
     let mut low = 0;
     let mut high = starts.len() + 1;
@@ -321,7 +321,7 @@ fn first_without(
     other: &mut [u32],
 ) -> u32
     requires { ⌜ (Lies (restsOnly (now starts) (now ends) (now nets) from)) × (length (now starts) ≤ longRestsAtMost) × (from ≤ top) × (top ≤ totalAtMost) ⌝ }
-    ensures { λ r. ⌜ FirstWithout (now (starts .entry)) (now (ends .entry)) from top r ⌝ }
+    ensures { λ r. ⌜ FirstWithout (now (starts .entry)) (now (ends .entry)) (now (nets .entry)) from top r ⌝ }
 {
     let mut next = next_demand(ends, from);
     while next <= top {

@@ -16,12 +16,12 @@ use Rattle.recording.specs.Weeks.{weekStart, weekOf}
 use Rattle.recording.specs.Operations.{totalAtMost}
 use Rattle.recording.proofs.TestLaws.{less-or-not}
 use Rattle.rules.specs.Reading.{Entry, minutes, dailyKind, weeklyKind, regularMinutes, asRead, isRegular, reductionOf, compensationOf, entryBytes, entryOf, entriesFrom}
-use Rattle.rules.specs.ReadingRules.{rule6, rule7, rule8, leastNet, deadline, endOf, shortened, shortenedAtMost, weeklyGap}
+use Rattle.rules.specs.ReadingRules.{rule6, rule7, rule8, leastNet, deadline, endOf, shortenedAtMost, weeklyGap}
 use Rattle.rules.specs.Order.{byteValues, Bytes}
 use Rattle.rules.specs.declared.Kind.the-variants.{Daily, Weekly}
 use Rattle.rules.specs.declared.Standing.the-variants.{Regular}
 use Rattle.rules.proofs.Prefix.{entry-more}
-use Rattle.rules_fixed.proofs.NetLaws.{net-test}
+use Rattle.rules_fixed.specs.Nets.{countsBy}
 use Rattle.rules_reading.specs.Items.{endBefore, spanAt, spansFrom, Zeros}
 use Rattle.rules_reading.proofs.TallyLaws.{end-of-spans}
 use Rattle.rules_reading.proofs.LaterLaws.{spans-length}
@@ -29,9 +29,9 @@ use Rattle.verdict_completion.specs.declared.State.{State}
 use Rattle.verdict_completion.specs.declared.Brought.the-variants.{To}
 use Rattle.verdict_completion.specs.States.{advance, afterDaily, afterWeekly}
 use Rattle.verdict_completion.specs.Runs.{Runs, Kept}
-use Rattle.verdict_completion.specs.Completable.{Course, at, count, spansOf, restWeek, lengthAt, amountOf, deadlineOf}
+use Rattle.verdict_completion.specs.Completable.{Course, at, count, spansOf, restWeek, counts, lengthAt, amountOf, deadlineOf}
 use Rattle.verdict_completion.specs.Completable.{outstandingOf, Overdue, shortens, ReadDaily, ReadWeekly, Reads, Completable, Lies}
-use Rattle.verdict_completion.proofs.Heads.{arrives, after, reduction-daily, reduction-weekly, regular-weekly, shortened-daily, Carried, DailyStep, WeeklyStep, kept-daily}
+use Rattle.verdict_completion.proofs.Heads.{arrives, after, reduction-daily, reduction-weekly, regular-weekly, Carried, DailyStep, WeeklyStep, kept-daily}
 use Rattle.verdict_completion.proofs.Heads.{kept-weekly, kept-head}
 use Rattle.verdict_completion.proofs.Compensations.{reduction-none, reduction-some, reduction-deadline, reduction-amount, share, brought}
 use Rattle.verdict_completion.proofs.Compensations.{share-none, share-other, brought-same, brought-last, brought-nothing, set-other}
@@ -66,17 +66,14 @@ module _ (c : Course) where
   entriesAt n j past bytes = entriesFrom (suc j) (endBefore (c .ends) j) past (spansFrom (c .starts) (c .ends) j n) bytes
 
   -- rule 9 sees of a daily rest its number
-  pub shortened-at : Lies c → (j : ℕ) → j < count c → (past : List Entry) (bytes : List ℕ) → entryAt j past bytes .kind ≡ dailyKind
-      → shortened (entryAt j past bytes) ≡ shortens c j (compensationOf (suc j) past)
-  shortened-at lies j inside past bytes z =
-      let compensation = compensationOf (suc j) past in
-      let l = lies .proper j inside in
-      shortened-daily (entryAt j past bytes) z
-      ∙ net-test (endBefore (c .ends) j) (at (c .starts) j) (at (c .ends) j) compensation (omega (arith, l))
-      ∙ ap (λ (x : ℕ). ltb (lengthAt c j) (x + compensation)) (sym (lies .net j inside))
+  pub shortened-at : (j : ℕ) (past : List Entry) (bytes : List ℕ) → counts c (entryAt j past bytes) ≡ shortens c j (compensationOf (suc j) past)
+  unfolding countsBy
+  shortened-at j past bytes =
+      let z : suc j - 1 ≡ j = omega arith in
+      ap (λ (i : ℕ). ltb (lengthAt c j) (at (c .nets) i + compensationOf (suc j) past)) z
 
   abbrev Keeps : State → List Entry → Type 0
-  Keeps st es = Kept (restWeek c) (c .judged) (spansOf c) st es
+  Keeps st es = Kept (restWeek c) (counts c) (c .judged) (spansOf c) st es
 
   compensations-next : (j : ℕ) (past : List Entry) (e : Entry) (f g : ℕ → ℕ) (outstanding next : List ℕ) → Compensations j past f outstanding
       → ((x : ℕ) → x < j → Moves (suc j) (f x) (at outstanding x) (g x) (at next x))
@@ -248,7 +245,7 @@ module _ (c : Course) where
     compensation-now past h =
         h j (le-refl _) ∙ sym (p .sum (suc j) (a .carrier) (λ x _ r s. not-now s (way-left x (omega arith))))
 
-    module _ (lies : Lies c) (few : count c < byteValues) {st here : State} (gap : at (c .starts) j ≤ st .ended + weeklyGap)
+    module _ (few : count c < byteValues) {st here : State} (gap : at (c .starts) j ≤ st .ended + weeklyGap)
         (reached : advance (restWeek c) (weekOf (at (c .starts) j) - st .week) st ≡ To here) where
       answer-daily : leastNet Daily + p .total ≤ lengthAt c j → here .short + one (shortens c j (p .total)) ≤ shortenedAtMost
           → st′ ≡ afterDaily (shortens c j (p .total)) here → at next j ≡ 0 → Answer (suc n) j st outstanding
@@ -261,11 +258,11 @@ module _ (c : Course) where
         kept = λ past h.
             let e : Entry = entryAt j past (dailyKind ∷ 0 ∷ 0 ∷ a .bytes) in
             let l : compensationOf (suc j) past ≡ p .total = compensation-now past h in
-            let b : shortened e ≡ shortens c j (p .total) = shortened-at lies j inside past (dailyKind ∷ 0 ∷ 0 ∷ a .bytes) refl ∙ ap (shortens c j) l in
+            let b : counts c e ≡ shortens c j (p .total) = shortened-at j past (dailyKind ∷ 0 ∷ 0 ∷ a .bytes) ∙ ap (shortens c j) l in
             let k : Keeps st′ (entriesAt n (suc j) (e ∷ past) (a .bytes)) =
             a .kept (e ∷ past) (compensations-next j past e by-now (a .carrier) outstanding next h moves-now
             (own-share e (a .carrier j) (at next j) (reduction-daily e refl ∙ ap amountOf (sym nothing)) (λ s. absurd (omega arith)))) in
-            kept-daily (restWeek c) (c .judged) (spansOf c) st e (entriesAt n (suc j) (e ∷ past) (a .bytes)) (record {
+            kept-daily (restWeek c) (counts c) (c .judged) (spansOf c) st e (entriesAt n (suc j) (e ∷ past) (a .bytes)) (record {
               here = here;
               head = record {
                 kind = refl;
@@ -307,7 +304,7 @@ module _ (c : Course) where
                 a .kept (e ∷ past) (compensations-next j past e by-now (a .carrier) outstanding next h moves-now
                 (own-share e (a .carrier j) (at next j) (reduction-weekly e refl ∙ sym (reduction-amount (minutes e) (e .compensation) (e .week) m) ∙ ap amountOf (o ∙ sym isOutstanding))
                 (λ s. ap (λ (x : ℕ). carrierOf x (a .carrier j)) (sym isOutstanding) ∙ carrier-some (at next j) (a .carrier j) s))) in
-                kept-weekly (restWeek c) (c .judged) (spansOf c) st e (entriesAt n (suc j) (e ∷ past) (a .bytes)) (record {
+                kept-weekly (restWeek c) (counts c) (c .judged) (spansOf c) st e (entriesAt n (suc j) (e ∷ past) (a .bytes)) (record {
                   here = here;
                   there = there;
                   head = record {
@@ -338,7 +335,7 @@ module _ (c : Course) where
       answer-read : Reads c (Completable c n (suc j)) j here (p .total) (p .left) → Answer (suc n) j st outstanding
       answer-read (inl d) =
           let a = ih (afterDaily (shortens c j (p .total)) here) (p .left) (p .size ∙ size) (λ x l. beyond x (omega arith)) (d .then) in
-          answer-daily inside on-time p (λ x l. refl) a lies few gap reached (d .net) (d .few) refl (beyond j (le-refl _))
+          answer-daily inside on-time p (λ x l. refl) a few gap reached (d .net) (d .few) refl (beyond j (le-refl _))
       answer-read (inr d) =
           let reduction : ℕ = outstandingOf (lengthAt c j) (p .total) (d .week) in
           let next : List ℕ = set (p .left) j reduction in
@@ -346,7 +343,7 @@ module _ (c : Course) where
           let a = ih _ next (length-set (p .left) j reduction ∙ p .size ∙ size)
           (λ x l. set-other (p .left) j x reduction (λ q. omega arith) ∙ beyond x (omega arith)) (t .holds) in
           let u : weekStart (d .week) < at (c .ends) j = d .upto in
-          answer-weekly inside on-time p (λ x l. set-other (p .left) j x reduction (λ q. omega arith)) a lies few gap reached
+          answer-weekly inside on-time p (λ x l. set-other (p .left) j x reduction (λ q. omega arith)) a few gap reached
           (d .week) (omega (arith, u, lies .judged j inside)) (d .net) (d .from) u (t .reached) refl
           (getD-set-same (p .left) j reduction 0 (omega (arith, p .size)))
 
@@ -425,10 +422,10 @@ module _ (c : Course) where
     abbrev rest : List Entry
     rest = entriesAt n (suc j) (entryAt j past bytes ∷ past) (drop entryBytes bytes)
 
-    step-daily : (d : DailyStep (restWeek c) (c .judged) (spansOf c) st this rest) (left : List ℕ) → Left (suc j) carrier j 0 outstanding left
+    step-daily : (d : DailyStep (restWeek c) (counts c) (c .judged) (spansOf c) st this rest) (left : List ℕ) → Left (suc j) carrier j 0 outstanding left
         → ReadDaily c (Completable c n (suc j)) j (d .here) (this .compensation) left
     step-daily d left l =
-        let b = shortened-at lies j inside past bytes (d .head .kind) in
+        let b = shortened-at j past bytes in
         let z : at left j ≡ 0 = l .beyond j (omega arith) ∙ fresh j (le-refl _) in
         record {
           net = d .head .net;
@@ -441,7 +438,7 @@ module _ (c : Course) where
               (subst (λ (x : Bool). Keeps (afterDaily x (d .here)) rest) b (d .then));
         }
 
-    step-weekly : (d : WeeklyStep (restWeek c) (c .judged) (spansOf c) st this rest) (left : List ℕ) → Left (suc j) carrier j 0 outstanding left
+    step-weekly : (d : WeeklyStep (restWeek c) (counts c) (c .judged) (spansOf c) st this rest) (left : List ℕ) → Left (suc j) carrier j 0 outstanding left
         → ReadWeekly c (Completable c n (suc j)) j (d .here) (this .compensation) left
     step-weekly d left l =
         let reduction : ℕ = reductionAfter this in
@@ -473,9 +470,9 @@ module _ (c : Course) where
 
     complete-next : Keeps st (entriesAt (suc n) j past bytes) → Completable c (suc n) j st outstanding
     unfolding Completable entriesFrom spansFrom
-    complete-next g = by (kept-head (restWeek c) (c .judged) (spansOf c) st this rest g)
+    complete-next g = by (kept-head (restWeek c) (counts c) (c .judged) (spansOf c) st this rest g)
       where
-        by : DailyStep (restWeek c) (c .judged) (spansOf c) st this rest ⊎ WeeklyStep (restWeek c) (c .judged) (spansOf c) st this rest → Completable c (suc n) j st outstanding
+        by : DailyStep (restWeek c) (counts c) (c .judged) (spansOf c) st this rest ⊎ WeeklyStep (restWeek c) (counts c) (c .judged) (spansOf c) st this rest → Completable c (suc n) j st outstanding
         by (inl d) = (
           d .gap,
           not-overdue lies j outstanding carrier inside fresh settled,
@@ -504,14 +501,14 @@ module _ (c : Course) (lies : Lies c) (few : count c < byteValues) (bound : c .j
   pub extend : (n j : ℕ) (st : State) (outstanding : List ℕ) (past : List Entry) → n + j ≡ count c → length outstanding ≡ count c → Zeros outstanding
       → ((i : ℕ) → j ≤ i → at (c .compensations) i ≡ compensationOf (suc i) past) → Completable c n j st outstanding
       → (bytes : List ℕ) × Bytes (entryBytes * n) bytes
-      × Kept (restWeek c) (c .judged) (spansOf c) st (entriesFrom (suc j) (endBefore (c .ends) j) past (spansFrom (c .starts) (c .ends) j n) bytes)
+      × Kept (restWeek c) (counts c) (c .judged) (spansOf c) st (entriesFrom (suc j) (endBefore (c .ends) j) past (spansFrom (c .starts) (c .ends) j n) bytes)
   extend n j st outstanding past k size z h g =
       let a = answer c lies few bound n j st outstanding k size (λ x l. z x) g in
       (a .bytes, a .are-bytes, a .kept past (λ i l. sym (h i l) ∙ no-more (at (c .compensations) i) (suc i) (a .carrier) outstanding j z))
 
   pub extended : (n j : ℕ) (st : State) (outstanding : List ℕ) (past : List Entry) → n + j ≡ count c → length outstanding ≡ count c → Zeros outstanding
       → ((i : ℕ) → j ≤ i → at (c .compensations) i ≡ compensationOf (suc i) past) → (bytes : List ℕ)
-      → Kept (restWeek c) (c .judged) (spansOf c) st (entriesFrom (suc j) (endBefore (c .ends) j) past (spansFrom (c .starts) (c .ends) j n) bytes)
+      → Kept (restWeek c) (counts c) (c .judged) (spansOf c) st (entriesFrom (suc j) (endBefore (c .ends) j) past (spansFrom (c .starts) (c .ends) j n) bytes)
       → Completable c n j st outstanding
   extended n j st outstanding past k size z h bytes g =
       complete c lies n j k st outstanding (λ x. 0) past bytes size (λ x l. z x) (λ x l. Way.none (z x))

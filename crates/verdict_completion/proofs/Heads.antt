@@ -4,7 +4,7 @@ use mathlib.Core.Path.{_≡_, refl, sym, ap, subst, _∙_}
 use mathlib.Core.Logic.{_⊎_, inl, inr}
 use mathlib.Core.Bool.{Bool, true, false}
 use mathlib.Core.List.{List, _∷_}
-use Prim.Native.Nat.{ℕ, _+_, _-_, _≤_, _<_, min}
+use Prim.Native.Nat.{ℕ, _+_, _-_, _≤_, _<_}
 use native.Mathlib.Omega.{arith}
 use lib.Dec.{leb, ltb, eqb}
 use lib.ListN.{length}
@@ -15,7 +15,7 @@ use Rattle.recording.specs.declared.Span.{Span}
 use Rattle.recording.proofs.TestLaws.{and-left, and-right, and-both, or-cases, or-left, or-right, clash}
 use Rattle.rules.specs.Reading.{Entry, minutes, dailyKind, weeklyKind, regularMinutes, standingOf, asRead, isRegular, reductionOf}
 use Rattle.rules.specs.ReadingRules.{formedDaily, weeklyLength, formedWeekly, formed, rule6, leastNet, longEnough, rule7, deadline, endOf, byDeadline, settles, compensated, rule8}
-use Rattle.rules.specs.ReadingRules.{dailyWindow, fullPortion, shortened, shortenedAtMost, weeklyGap}
+use Rattle.rules.specs.ReadingRules.{shortenedAtMost, weeklyGap}
 use Rattle.rules.specs.declared.Kind.{Kind}
 use Rattle.rules.specs.declared.Kind.the-variants.{Daily, Weekly}
 use Rattle.rules.specs.declared.Standing.{Standing}
@@ -70,19 +70,14 @@ regular-weekly e z = ap isRegular (as-weekly e z) ∙ by _ refl
     by true t = sym (lt-leb (regularMinutes + e .compensation) (minutes e) (ltb-true (minutes e) (regularMinutes + e .compensation) t))
     by false t = sym (le-leb (regularMinutes + e .compensation) (minutes e) (ltb-false (minutes e) (regularMinutes + e .compensation) t))
 
-pub shortened-daily : (e : Entry) → e .kind ≡ dailyKind
-    → shortened e ≡ ltb (min (e .span .end) (e .before + dailyWindow + e .compensation)) (e .span .start + fullPortion + e .compensation)
-unfolding shortened _and_
-shortened-daily e z = rw (as-daily e z) refl
-
 -- ---- what the first entry needs
 -- as a daily rest, in the state of the week in which it starts
-pub record DailyHead (here : State) (e : Entry) : Type 0 where
+pub record DailyHead (counts : Entry → Bool) (here : State) (e : Entry) : Type 0 where
   pub kind : e .kind ≡ dailyKind
   pub week : e .week ≡ 0
   pub compensatedBy : e .compensatedBy ≡ 0
   pub net : leastNet Daily + e .compensation ≤ minutes e
-  pub few : here .short + one (shortened e) ≤ shortenedAtMost
+  pub few : here .short + one (counts e) ≤ shortenedAtMost
 
 -- the carrier of a weekly rest: none, where it is regular or due after S, or a later rest that ends by the deadline
 pub data Carried (s : ℕ) (rs : List Span) (e : Entry) : Type 0 where
@@ -97,13 +92,13 @@ pub record WeeklyHead (s : ℕ) (rs : List Span) (e : Entry) : Type 0 where
   pub upto : weekStart (e .week) < e .span .end
   pub carried : Carried s rs e
 
-module _ (restWeek : ℕ → Bool) (s : ℕ) (rs : List Span) (st : State) (e : Entry) (es : List Entry) where
+module _ (restWeek : ℕ → Bool) (counts : Entry → Bool) (s : ℕ) (rs : List Span) (st : State) (e : Entry) (es : List Entry) where
   pub record DailyStep : Type 0 where
     pub here : State
-    pub head : DailyHead here e
+    pub head : DailyHead counts here e
     pub gap : e .span .start ≤ st .ended + weeklyGap
     pub reached : advance restWeek (weekOf (e .span .start) - st .week) st ≡ To here
-    pub then : Kept restWeek s rs (afterDaily (shortened e) here) es
+    pub then : Kept restWeek counts s rs (afterDaily (counts e) here) es
 
   pub record WeeklyStep : Type 0 where
     pub here : State
@@ -112,10 +107,10 @@ module _ (restWeek : ℕ → Bool) (s : ℕ) (rs : List Span) (st : State) (e : 
     pub gap : e .span .start ≤ st .ended + weeklyGap
     pub reached : advance restWeek (weekOf (e .span .start) - st .week) st ≡ To here
     pub counted : advance restWeek (e .week - here .week) here ≡ To there
-    pub then : Kept restWeek s rs (afterWeekly (restWeek (e .week)) (isRegular (asRead e)) (e .span .end) there) es
+    pub then : Kept restWeek counts s rs (afterWeekly (restWeek (e .week)) (isRegular (asRead e)) (e .span .end) there) es
 
   -- ---- a daily rest
-  pub kept-daily : DailyStep → Kept restWeek s rs st (e ∷ es)
+  pub kept-daily : DailyStep → Kept restWeek counts s rs st (e ∷ es)
   unfolding rule6 rule7 rule8 allOf formed formedDaily longEnough compensated Runs
   kept-daily d =
       let z = as-daily e (d .head .kind) in
@@ -130,7 +125,7 @@ module _ (restWeek : ℕ → Bool) (s : ℕ) (rs : List Span) (st : State) (e : 
         runs = (d .gap, after _ (d .reached) (rw z (d .head .few, d .then .runs)));
       }
 
-  daily-kept : Kept restWeek s rs st (e ∷ es) → formedDaily e ≡ true → DailyStep
+  daily-kept : Kept restWeek counts s rs st (e ∷ es) → formedDaily e ≡ true → DailyStep
   unfolding rule6 rule7 rule8 allOf formedDaily longEnough Runs
   daily-kept k t =
       let kind0 : e .kind ≡ dailyKind = eqb-true (e .kind) dailyKind (and-left _ _ (and-left _ _ t)) in
@@ -138,8 +133,8 @@ module _ (restWeek : ℕ → Bool) (s : ℕ) (rs : List Span) (st : State) (e : 
       let v : leb (leastNet Daily + e .compensation) (minutes e) ≡ true =
       subst (λ (m : Kind). leb (leastNet m + e .compensation) (minutes e) ≡ true) z (and-left _ _ (k .seven)) in
       let a = arrives _ _ (k .runs .1) in
-      let r : Takes restWeek s (λ next. Runs restWeek s next es) e Daily (a .state) =
-      subst (λ (m : Kind). Takes restWeek s (λ next. Runs restWeek s next es) e m (a .state)) z (a .holds) in
+      let r : Takes restWeek counts s (λ next. Runs restWeek counts s next es) e Daily (a .state) =
+      subst (λ (m : Kind). Takes restWeek counts s (λ next. Runs restWeek counts s next es) e m (a .state)) z (a .holds) in
       record {
         here = a .state;
         head = record {
@@ -191,14 +186,14 @@ module _ (restWeek : ℕ → Bool) (s : ℕ) (rs : List Span) (st : State) (e : 
           Carried.there (ltb-true (e .number) (e .compensatedBy) (and-left _ _ f)) (leb-true (e .compensatedBy) (length rs) (and-right _ _ f))
           (ltb-true (minutes e) (regularMinutes + e .compensation) t) (leb-true (endOf rs (e .compensatedBy)) (deadline e) d)
 
-  pub kept-weekly : WeeklyStep → Kept restWeek s rs st (e ∷ es)
+  pub kept-weekly : WeeklyStep → Kept restWeek counts s rs st (e ∷ es)
   unfolding rule6 rule7 rule8 allOf formed formedWeekly touches longEnough compensated Runs
   kept-weekly d =
       let h = d .head in
       let z = as-weekly e (h .kind) in
       let l : weeklyLength ≤ minutes e = omega (arith, h .net) in
-      let n : Kept restWeek s rs (afterWeekly (restWeek (e .week)) (isRegular (Weekly (standing e))) (e .span .end) (d .there)) es =
-      subst (λ (m : Kind). Kept restWeek s rs (afterWeekly (restWeek (e .week)) (isRegular m) (e .span .end) (d .there)) es) z (d .then) in
+      let n : Kept restWeek counts s rs (afterWeekly (restWeek (e .week)) (isRegular (Weekly (standing e))) (e .span .end) (d .there)) es =
+      subst (λ (m : Kind). Kept restWeek counts s rs (afterWeekly (restWeek (e .week)) (isRegular m) (e .span .end) (d .there)) es) z (d .then) in
       record {
         six =
             and-both _ _
@@ -212,7 +207,7 @@ module _ (restWeek : ℕ → Bool) (s : ℕ) (rs : List Span) (st : State) (e : 
         runs = (d .gap, after _ (d .reached) (rw z (after _ (d .counted) (n .runs))));
       }
 
-  weekly-kept : Kept restWeek s rs st (e ∷ es) → formedWeekly (length rs) e ≡ true → WeeklyStep
+  weekly-kept : Kept restWeek counts s rs st (e ∷ es) → formedWeekly (length rs) e ≡ true → WeeklyStep
   unfolding rule6 rule7 rule8 allOf formedWeekly touches longEnough compensated Runs
   weekly-kept k t =
       let t1 = and-left _ _ t in
@@ -225,10 +220,10 @@ module _ (restWeek : ℕ → Bool) (s : ℕ) (rs : List Span) (st : State) (e : 
       let q : settles (Weekly (standing e)) s rs (e .compensatedBy) (deadline e) ≡ true =
       subst (λ (m : Kind). settles m s rs (e .compensatedBy) (deadline e) ≡ true) z (and-left _ _ (k .eight)) in
       let a = arrives _ _ (k .runs .1) in
-      let r : Takes restWeek s (λ next. Runs restWeek s next es) e (Weekly (standing e)) (a .state) =
-      subst (λ (m : Kind). Takes restWeek s (λ next. Runs restWeek s next es) e m (a .state)) z (a .holds) in
+      let r : Takes restWeek counts s (λ next. Runs restWeek counts s next es) e (Weekly (standing e)) (a .state) =
+      subst (λ (m : Kind). Takes restWeek counts s (λ next. Runs restWeek counts s next es) e m (a .state)) z (a .holds) in
       let b = arrives _ _ r in
-      let n : Kept restWeek s rs (afterWeekly (restWeek (e .week)) (isRegular (Weekly (standing e))) (e .span .end) (b .state)) es =
+      let n : Kept restWeek counts s rs (afterWeekly (restWeek (e .week)) (isRegular (Weekly (standing e))) (e .span .end) (b .state)) es =
       record { six = and-right _ _ (k .six); seven = and-right _ _ (k .seven); eight = and-right _ _ (k .eight); runs = b .holds } in
       record {
         here = a .state;
@@ -243,11 +238,11 @@ module _ (restWeek : ℕ → Bool) (s : ℕ) (rs : List Span) (st : State) (e : 
         gap = k .runs .0;
         reached = a .reached;
         counted = b .reached;
-        then = subst (λ (m : Kind). Kept restWeek s rs (afterWeekly (restWeek (e .week)) (isRegular m) (e .span .end) (b .state)) es) (sym z) n;
+        then = subst (λ (m : Kind). Kept restWeek counts s rs (afterWeekly (restWeek (e .week)) (isRegular m) (e .span .end) (b .state)) es) (sym z) n;
       }
 
   -- one or the other
-  pub kept-head : Kept restWeek s rs st (e ∷ es) → DailyStep ⊎ WeeklyStep
+  pub kept-head : Kept restWeek counts s rs st (e ∷ es) → DailyStep ⊎ WeeklyStep
   unfolding rule6 allOf formed
   kept-head k = by (or-cases (formedDaily e) (formedWeekly (length rs) e) (and-left _ _ (k .six)))
     where

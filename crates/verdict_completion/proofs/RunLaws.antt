@@ -15,7 +15,7 @@ use Rattle.recording.specs.declared.Span.{Span}
 use Rattle.recording.proofs.TestLaws.{and-left, and-right, and-both, or-else, or-left, or-right}
 use Rattle.recording.proofs.LongRests.{Ordered}
 use Rattle.rules.specs.Reading.{Entry, asRead, isWeekly, isRegular, entryBytes, entryOf, entriesFrom, entries}
-use Rattle.rules.specs.ReadingRules.{formed, rule6, shortened, shortenedAtMost, rule9From, rule9, weeklyGap, inGap, rule10From, rule10, ofKind, enoughIn, laterTest}
+use Rattle.rules.specs.ReadingRules.{formed, rule6, shortenedAtMost, rule9From, rule9, weeklyGap, inGap, rule10From, rule10, ofKind, enoughIn, laterTest}
 use Rattle.rules.specs.declared.Kind.{Kind}
 use Rattle.rules.specs.declared.Kind.the-variants.{Daily, Weekly}
 use Rattle.rules.proofs.ReadingPrefix.{Starts, nil, cons, InItsWeek, in-its-week, none-counted, pair-enough, pairs-enough}
@@ -77,7 +77,7 @@ module _ (s : ℕ) where
       at false u ih = omega (arith, ih (and-right _ _ u))
 
   -- ---- rule 11: no later rest is counted in a week that is over. There are k long rests.
-  module _ (restWeek : ℕ → Bool) (k : ℕ) where
+  module _ (restWeek : ℕ → Bool) (counts : Entry → Bool) (k : ℕ) where
     read-alike : (past : List Entry) {t : ℕ} {es : List Entry} (w : ℕ) → InOrder t es → allOf (formed k) es ≡ true → weekStart (w + 1) ≤ t
         → Alike past (allRead past es) w
     read-alike past {es = es} w o g h = record {
@@ -86,7 +86,7 @@ module _ (s : ℕ) where
 
     -- rules 9 to 11, where past is read, the last weekly rest ended at q, and there were n shortened rests since
     pub record Holds (past : List Entry) (n q : ℕ) (es : List Entry) : Type 0 where
-      pub nine : rule9From n es ≡ true
+      pub nine : rule9From counts n es ≡ true
       pub ten : rule10From q s es ≡ true
       pub eleven : (w : ℕ) → weekStart (w + 2) ≤ s → enoughIn restWeek (allRead past es) w ≡ true
 
@@ -98,12 +98,12 @@ module _ (s : ℕ) where
 
     holds-at : {past es : List Entry} {n n′ q q′ : ℕ} → n ≡ n′ → q ≡ q′ → Holds past n q es → Holds past n′ q′ es
     holds-at {past} {es} {n} {n′} {q} {q′} a c h =
-        record { nine = subst (λ (x : ℕ). rule9From x es ≡ true) a (h .nine); ten = subst (λ (x : ℕ). rule10From x s es ≡ true) c (h .ten); eleven = h .eleven }
+        record { nine = subst (λ (x : ℕ). rule9From counts x es ≡ true) a (h .nine); ten = subst (λ (x : ℕ). rule10From x s es ≡ true) c (h .ten); eleven = h .eleven }
 
     -- where the next rest is daily, and where it is weekly
     record DailyHolds (past : List Entry) (n q : ℕ) (e : Entry) (es : List Entry) : Type 0 where
-      few : n + one (shortened e) ≤ shortenedAtMost
-      left : Holds (e ∷ past) (n + one (shortened e)) q es
+      few : n + one (counts e) ≤ shortenedAtMost
+      left : Holds (e ∷ past) (n + one (counts e)) q es
 
     record WeeklyHolds (past : List Entry) (q : ℕ) (e : Entry) (es : List Entry) : Type 0 where
       near : e .span .start ≤ q + weeklyGap
@@ -113,8 +113,8 @@ module _ (s : ℕ) where
       holds-daily : isWeekly (asRead e) ≡ false → Holds past n q (e ∷ es) → DailyHolds past n q e es
       unfolding rule9From rule10From allRead
       holds-daily z h =
-          let m = n + one (shortened e) in
-          let t : leb m shortenedAtMost and rule9From m es ≡ true = rw z at (h .nine) in
+          let m = n + one (counts e) in
+          let t : leb m shortenedAtMost and rule9From counts m es ≡ true = rw z at (h .nine) in
           record {
             few = leb-true m shortenedAtMost (and-left _ _ t);
             left = record { nine = and-right _ _ t; ten = and-right _ _ (rw z at (h .ten)); eleven = h .eleven };
@@ -123,7 +123,7 @@ module _ (s : ℕ) where
       daily-holds : isWeekly (asRead e) ≡ false → DailyHolds past n q e es → Holds past n q (e ∷ es)
       unfolding rule9From rule10From allRead
       daily-holds z d = record {
-        nine = rw z (and-both _ _ (le-leb (n + one (shortened e)) shortenedAtMost (d .few)) (d .left .nine));
+        nine = rw z (and-both _ _ (le-leb (n + one (counts e)) shortenedAtMost (d .few)) (d .left .nine));
         ten = rw z (and-both _ _ (or-left _ _ refl) (d .left .ten));
         eleven = d .left .eleven;
       }
@@ -206,28 +206,28 @@ module _ (s : ℕ) where
           ∙ over h (lies .rest) (and-right _ _ (b .form)) w c
 
       takes : Holds past (st .short) (st .ended) (e ∷ es)
-          → ((next : State) → Between (e ∷ past) next es → Holds (e ∷ past) (next .short) (next .ended) es → Runs restWeek s next es)
-          → (m : Kind) → asRead e ≡ m → Takes restWeek s (λ next. Runs restWeek s next es) e m here
+          → ((next : State) → Between (e ∷ past) next es → Holds (e ∷ past) (next .short) (next .ended) es → Runs restWeek counts s next es)
+          → (m : Kind) → asRead e ≡ m → Takes restWeek counts s (λ next. Runs restWeek counts s next es) e m here
       takes h ih Daily q =
           let d = holds-daily (ap isWeekly q) (holds-at (sym (r .short)) (sym (r .ended)) h) in
-          (d .few, ih (afterDaily (shortened e) here) (between-daily (shortened e) (ap isWeekly q)) (d .left))
+          (d .few, ih (afterDaily (counts e) here) (between-daily (counts e) (ap isWeekly q)) (d .left))
       takes h ih (Weekly t) q =
           let d = holds-weekly (ap isWeekly q) h in
           advance-on restWeek (e .week - here .week) here
-          (λ there. Runs restWeek s (afterWeekly (restWeek (e .week)) (isRegular (Weekly t)) (e .span .end) there) es) (r .seen)
+          (λ there. Runs restWeek counts s (afterWeekly (restWeek (e .week)) (isRegular (Weekly t)) (e .span .end) there) es) (r .seen)
           (over-weekly (ap isWeekly q) (d .left))
           (λ there r′. ih (afterWeekly (restWeek (e .week)) (isRegular (Weekly t)) (e .span .end) there) (between-weekly (Weekly t) q refl r′) (d .left))
 
       taken : e .span .start ≤ st .ended + weeklyGap
-          → ((next : State) → Between (e ∷ past) next es → Runs restWeek s next es → Holds (e ∷ past) (next .short) (next .ended) es)
-          → (m : Kind) → asRead e ≡ m → Takes restWeek s (λ next. Runs restWeek s next es) e m here → Holds past (st .short) (st .ended) (e ∷ es)
+          → ((next : State) → Between (e ∷ past) next es → Runs restWeek counts s next es → Holds (e ∷ past) (next .short) (next .ended) es)
+          → (m : Kind) → asRead e ≡ m → Takes restWeek counts s (λ next. Runs restWeek counts s next es) e m here → Holds past (st .short) (st .ended) (e ∷ es)
       taken g ih Daily q (f, a) =
           holds-at (r .short) (r .ended)
           (daily-holds (ap isWeekly q)
-          (record { few = f; left = ih (afterDaily (shortened e) here) (between-daily (shortened e) (ap isWeekly q)) a }))
+          (record { few = f; left = ih (afterDaily (counts e) here) (between-daily (counts e) (ap isWeekly q)) a }))
       taken g ih (Weekly t) q a =
           let d = advanced restWeek (e .week - here .week) here
-          (λ there. Runs restWeek s (afterWeekly (restWeek (e .week)) (isRegular (Weekly t)) (e .span .end) there) es) (r .seen) a in
+          (λ there. Runs restWeek counts s (afterWeekly (restWeek (e .week)) (isRegular (Weekly t)) (e .span .end) there) es) (r .seen) a in
           weekly-holds (ap isWeekly q)
           (record {
             near = g;
@@ -235,7 +235,7 @@ module _ (s : ℕ) where
           })
 
     -- ---- all of them
-    pub rules-run : {past : List Entry} {st : State} (es : List Entry) → Between past st es → Holds past (st .short) (st .ended) es → Runs restWeek s st es
+    pub rules-run : {past : List Entry} {st : State} (es : List Entry) → Between past st es → Holds past (st .short) (st .ended) es → Runs restWeek counts s st es
     unfolding Runs rule10From allRead
     rules-run {past} {st} [] b h = (
       leb-true s (st .ended + weeklyGap) (h .ten),
@@ -245,12 +245,12 @@ module _ (s : ℕ) where
         let o = this-next (b .order) in
         let near : InOrder (e .span .start) (e ∷ es) = next (le-refl _) (o .proper) (o .rest) in (
           no-late-rest (st .ended) near (h .ten),
-          advance-on restWeek (weekOf (e .span .start) - st .week) st (Takes restWeek s (λ next. Runs restWeek s next es) e (asRead e)) (b .seen)
+          advance-on restWeek (weekOf (e .span .start) - st .week) st (Takes restWeek counts s (λ next. Runs restWeek counts s next es) e (asRead e)) (b .seen)
               (λ w l. over h near (b .form) w (omega (arith, b .week, o .after)))
               (λ here r. takes b r h (λ next b′ h′. rules-run es b′ h′) (asRead e) refl),
         )
 
-    pub run-rules : {past : List Entry} {st : State} (es : List Entry) → Between past st es → Runs restWeek s st es → Holds past (st .short) (st .ended) es
+    pub run-rules : {past : List Entry} {st : State} (es : List Entry) → Between past st es → Runs restWeek counts s st es → Holds past (st .short) (st .ended) es
     unfolding Runs rule9From rule10From allRead
     run-rules {past} {st} [] b (g, a) =
         let d = advanced restWeek (weekOf s - st .week) st (λ there. Unit {0}) (b .seen) a in
@@ -260,12 +260,12 @@ module _ (s : ℕ) where
           eleven = λ w h. d .reached .seen .closed w (omega (arith, d .reached .week));
         }
     run-rules {past} {st} (e ∷ es) b (g, a) =
-        let d = advanced restWeek (weekOf (e .span .start) - st .week) st (Takes restWeek s (λ next. Runs restWeek s next es) e (asRead e)) (b .seen) a in
+        let d = advanced restWeek (weekOf (e .span .start) - st .week) st (Takes restWeek counts s (λ next. Runs restWeek counts s next es) e (asRead e)) (b .seen) a in
         taken b (d .reached) g (λ next b′ r′. run-rules es b′ r′) (asRead e) refl (d .then)
 
 -- ---- from the start
-module _ (restWeek : ℕ → Bool) (s : ℕ) (rs : List Span) (bytes : List ℕ) (o : Ordered s 0 rs) where
-  at-start : rule6 (length rs) (entries rs bytes) ≡ true → Between s restWeek (length rs) [] (startState (restWeek 0)) (entries rs bytes)
+module _ (restWeek : ℕ → Bool) (counts : Entry → Bool) (s : ℕ) (rs : List Span) (bytes : List ℕ) (o : Ordered s 0 rs) where
+  at-start : rule6 (length rs) (entries rs bytes) ≡ true → Between s restWeek counts (length rs) [] (startState (restWeek 0)) (entries rs bytes)
   unfolding rule6 entries
   at-start t = record { seen = seen-start restWeek; from = 0; order = in-order s 1 0 [] bytes zero-le zero-le o; week = zero-le; form = t }
 
@@ -276,26 +276,26 @@ module _ (restWeek : ℕ → Bool) (s : ℕ) (rs : List Span) (bytes : List ℕ)
   start-enough : (w : ℕ) → enoughIn restWeek (allRead [] (entries rs bytes)) w ≡ enoughIn restWeek (entries rs bytes) w
   start-enough w = enough-alike restWeek w (start-alike w) (start-alike (w + 1))
 
-  pub later-kept : laterTest restWeek s rs (entries rs bytes) ≡ 0 → Kept restWeek s rs (startState (restWeek 0)) (entries rs bytes)
+  pub later-kept : laterTest restWeek counts s rs (entries rs bytes) ≡ 0 → Kept restWeek counts s rs (startState (restWeek 0)) (entries rs bytes)
   unfolding rule9 rule10
   later-kept t =
-      let l = later-rules restWeek s rs (entries rs bytes) t in
+      let l = later-rules restWeek counts s rs (entries rs bytes) t in
       record {
         six = l .six;
         seven = l .seven;
         eight = l .eight;
-        runs = rules-run s restWeek (length rs) (entries rs bytes) (at-start (l .six)) (record {
+        runs = rules-run s restWeek counts (length rs) (entries rs bytes) (at-start (l .six)) (record {
           nine = l .nine;
           ten = l .ten;
           eleven = λ w h. start-enough w ∙ pair-enough restWeek s (entries rs bytes) (l .eleven) w h;
         });
       }
 
-  pub kept-later : Kept restWeek s rs (startState (restWeek 0)) (entries rs bytes) → laterTest restWeek s rs (entries rs bytes) ≡ 0
+  pub kept-later : Kept restWeek counts s rs (startState (restWeek 0)) (entries rs bytes) → laterTest restWeek counts s rs (entries rs bytes) ≡ 0
   unfolding rule9 rule10
   kept-later a =
-      let h = run-rules s restWeek (length rs) (entries rs bytes) (at-start (a .six)) (a .runs) in
-      rules-later restWeek s rs (entries rs bytes) (record {
+      let h = run-rules s restWeek counts (length rs) (entries rs bytes) (at-start (a .six)) (a .runs) in
+      rules-later restWeek counts s rs (entries rs bytes) (record {
         six = a .six;
         seven = a .seven;
         eight = a .eight;

@@ -11,12 +11,12 @@ use lib.ListN.{length, getD, set}
 use Rattle.recording.specs.Tests.{pick, one}
 use Rattle.recording.specs.Weeks.{weekStart, weekOf}
 use Rattle.recording.specs.declared.Span.{Span}
-use Rattle.rules.specs.Reading.{regularMinutes}
+use Rattle.rules.specs.Reading.{Entry, regularMinutes}
 use Rattle.rules.specs.ReadingRules.{leastNet, weeksToCompensate, shortenedAtMost, weeklyGap}
 use Rattle.rules.specs.declared.Kind.the-variants.{Daily, Weekly}
 use Rattle.rules.specs.declared.Standing.the-variants.{Regular}
-use Rattle.rules_fixed.specs.Nets.{regularNet}
-use Rattle.rules_reading.specs.Items.{endBefore, spansIn, restWeeks}
+use Rattle.rules_fixed.specs.Nets.{countsBy}
+use Rattle.rules_reading.specs.Items.{netAtMost, spansIn, restWeeks}
 use Rattle.verdict_completion.specs.declared.State.{State}
 use Rattle.verdict_completion.specs.States.{advance, After, afterDaily, afterWeekly}
 use Rattle.verdict_completion.specs.Runs.{Ends}
@@ -42,6 +42,10 @@ module _ (c : Course) where
 
   abbrev pub restWeek : ℕ → Bool
   restWeek = restWeeks spansOf
+
+  -- which daily rests count under rule 9
+  abbrev pub counts : Entry → Bool
+  counts = countsBy (c .nets)
 
   abbrev pub lengthAt : ℕ → ℕ
   lengthAt j = at (c .ends) j - at (c .starts) j
@@ -116,11 +120,11 @@ module _ (c : Course) where
       × (Overdue outstanding (at (c .ends) j) → ⊥)
       × After (advance (restWeek c) (weekOf (at (c .starts) j) - st .week) st) (λ here. Tries (Completable n (suc j)) j here outstanding)
 
--- the long rests lie in order, within the judged stretch, and have their numbers
+-- the long rests lie in order, within the judged stretch, and each has a number
 pub record Lies (c : Course) : Type 0 where
   pub ends-too : length (c .ends) ≡ length (c .starts)
   pub nets-too : length (c .nets) ≡ length (c .starts)
-  pub net : (i : ℕ) → i < count c → at (c .nets) i ≡ regularNet (endBefore (c .ends) i) (at (c .starts) i) (at (c .ends) i)
+  pub net : (i : ℕ) → i < count c → at (c .nets) i ≤ netAtMost
   pub proper : (i : ℕ) → i < count c → at (c .starts) i < at (c .ends) i
   pub ordered : (i : ℕ) → suc i < count c → at (c .ends) i ≤ at (c .starts) (suc i)
   pub judged : (i : ℕ) → i < count c → at (c .ends) i ≤ c .judged

@@ -15,7 +15,7 @@ use Rattle.recording.specs.Tests.{pick, one}
 use Rattle.recording.specs.Weeks.{weekStart, weekOf}
 use Rattle.recording.specs.Operations.{totalAtMost}
 use Rattle.rules.specs.Reading.{Entry, dailyKind, weeklyKind, regularMinutes, asRead, isRegular, reductionOf, compensationOf, entryBytes, entryOf, entriesFrom}
-use Rattle.rules.specs.ReadingRules.{leastNet, deadline, endOf, shortened, shortenedAtMost, weeklyGap}
+use Rattle.rules.specs.ReadingRules.{leastNet, deadline, endOf, shortenedAtMost, weeklyGap}
 use Rattle.rules.specs.Order.{byteValues, Bytes, NotAfter}
 use Rattle.rules.specs.declared.Kind.the-variants.{Daily, Weekly}
 use Rattle.rules.specs.declared.Standing.the-variants.{Regular}
@@ -25,7 +25,7 @@ use Rattle.verdict_completion.specs.declared.Brought.{Brought}
 use Rattle.verdict_completion.specs.declared.Brought.the-variants.{Broken, To}
 use Rattle.verdict_completion.specs.States.{advance, After, afterDaily, afterWeekly}
 use Rattle.verdict_completion.specs.Runs.{Kept}
-use Rattle.verdict_completion.specs.Completable.{Course, at, count, spansOf, restWeek, lengthAt, shortens, Tries, Completable, Lies}
+use Rattle.verdict_completion.specs.Completable.{Course, at, count, spansOf, restWeek, counts, lengthAt, shortens, Tries, Completable, Lies}
 use Rattle.verdict_completion.proofs.Heads.{arrives, after, reduction-weekly, regular-weekly, Carried, DailyStep, WeeklyStep, kept-daily, kept-weekly, kept-head}
 use Rattle.verdict_completion.proofs.Compensations.{set-other}
 use Rattle.verdict_completion.proofs.Carriers.{end-at, rests, shortened-at, extend, extended}
@@ -135,11 +135,11 @@ module _ (c : Course) (n j : ℕ) (st : State) (past : List Entry) where
   after-it e rest = entriesFrom (suc (suc j)) (endBefore (c .ends) (suc j)) (e ∷ past) (spansFrom (c .starts) (c .ends) (suc j) n) rest
 
   keeps-out : (a b d : ℕ) (rest : List ℕ) → KeepsFrom c (suc n) j st past (a ∷ b ∷ d ∷ rest)
-      → Kept (restWeek c) (c .judged) (spansOf c) st (entry c j past a b d ∷ after-it (entry c j past a b d) rest)
+      → Kept (restWeek c) (counts c) (c .judged) (spansOf c) st (entry c j past a b d ∷ after-it (entry c j past a b d) rest)
   unfolding entriesFrom spansFrom
   keeps-out a b d rest h = h
 
-  keeps-in : (a b d : ℕ) (rest : List ℕ) → Kept (restWeek c) (c .judged) (spansOf c) st (entry c j past a b d ∷ after-it (entry c j past a b d) rest)
+  keeps-in : (a b d : ℕ) (rest : List ℕ) → Kept (restWeek c) (counts c) (c .judged) (spansOf c) st (entry c j past a b d ∷ after-it (entry c j past a b d) rest)
       → KeepsFrom c (suc n) j st past (a ∷ b ∷ d ∷ rest)
   unfolding entriesFrom spansFrom
   keeps-in a b d rest h = h
@@ -170,8 +170,8 @@ module _ (c : Course) (n j : ℕ) (st : State) (past : List Entry) where
     own-compensation : compensationOf (suc j) past ≡ compensationAt c j
     own-compensation = sym (compensations j (le-refl _))
 
-    daily-short : Lies c → j < count c → shortened (daily c j past) ≡ shortly c j past
-    daily-short lies inside = shortened-at c lies j inside past (dailyKind ∷ 0 ∷ 0 ∷ []) refl ∙ ap (shortens c j) own-compensation
+    daily-short : counts c (daily c j past) ≡ shortly c j past
+    daily-short = shortened-at c j past (dailyKind ∷ 0 ∷ 0 ∷ []) ∙ ap (shortens c j) own-compensation
 
     daily-compensations : (i : ℕ) → suc j ≤ i → at (c .compensations) i ≡ compensationOf (suc i) (daily c j past ∷ past)
     unfolding compensationOf
@@ -212,11 +212,11 @@ module _ (c : Course) (n j : ℕ) (st : State) (past : List Entry) where
           ∙ ap (λ (m : ℕ). pick (eqb x (suc i)) (reductionAt c j) 0 + m) (compensations i (omega arith))
           ∙ ap (λ (m : ℕ). pick (eqb x (suc i)) m 0 + compensationOf (suc i) past) (sym weekly-reduction)
 
-    module _ (lies : Lies c) (inside : j < count c) (here : State) (reached : advance (restWeek c) (weekOf (at (c .starts) j) - st .week) st ≡ To here) where
+    module _ (here : State) (reached : advance (restWeek c) (weekOf (at (c .starts) j) - st .week) st ≡ To here) where
       daily-keeps : (rest : List ℕ) → DailyFirst here rest → KeepsFrom c (suc n) j st past (dailyKind ∷ 0 ∷ 0 ∷ rest)
       daily-keeps rest h =
           keeps-in dailyKind 0 0 rest
-          (kept-daily (restWeek c) (c .judged) (spansOf c) st (daily c j past) (after-it (daily c j past) rest)
+          (kept-daily (restWeek c) (counts c) (c .judged) (spansOf c) st (daily c j past) (after-it (daily c j past) rest)
           (record {
             here = here;
             head = record {
@@ -224,17 +224,17 @@ module _ (c : Course) (n j : ℕ) (st : State) (past : List Entry) where
               week = refl;
               compensatedBy = refl;
               net = omega (arith, own-compensation, h .net);
-              few = subst (λ (b : Bool). here .short + one b ≤ shortenedAtMost) (sym (daily-short lies inside)) (h .few);
+              few = subst (λ (b : Bool). here .short + one b ≤ shortenedAtMost) (sym daily-short) (h .few);
             };
             gap = h .gap;
             reached = reached;
-            then = subst (λ (b : Bool). KeepsFrom c n (suc j) (afterDaily b here) (daily c j past ∷ past) rest) (sym (daily-short lies inside)) (h .then);
+            then = subst (λ (b : Bool). KeepsFrom c n (suc j) (afterDaily b here) (daily c j past ∷ past) rest) (sym daily-short) (h .then);
           }))
 
       weekly-keeps : (w x : ℕ) (rest : List ℕ) → WeeklyFirst here w x rest → KeepsFrom c (suc n) j st past (weeklyKind ∷ w ∷ x ∷ rest)
       weekly-keeps w x rest h =
           keeps-in weeklyKind w x rest
-          (kept-weekly (restWeek c) (c .judged) (spansOf c) st (weekly c j past w x) (after-it (weekly c j past w x) rest)
+          (kept-weekly (restWeek c) (counts c) (c .judged) (spansOf c) st (weekly c j past w x) (after-it (weekly c j past w x) rest)
           (record {
             here = here;
             there = h .there;
@@ -250,7 +250,7 @@ module _ (c : Course) (n j : ℕ) (st : State) (past : List Entry) where
       same-here : {there : State} → advance (restWeek c) (weekOf (at (c .starts) j) - st .week) st ≡ To there → there ≡ here
       same-here {there} e = cc
 
-      daily-begins : (rest : List ℕ) → DailyStep (restWeek c) (c .judged) (spansOf c) st (daily c j past) (after-it (daily c j past) rest)
+      daily-begins : (rest : List ℕ) → DailyStep (restWeek c) (counts c) (c .judged) (spansOf c) st (daily c j past) (after-it (daily c j past) rest)
           → DailyFirst here rest
       daily-begins rest d =
           let e = same-here (d .reached) in
@@ -259,14 +259,14 @@ module _ (c : Course) (n j : ℕ) (st : State) (past : List Entry) where
             net = omega (arith, own-compensation, d .head .net);
             few =
                 subst (λ (s : State). s .short + one (shortly c j past) ≤ shortenedAtMost) e
-                (subst (λ (b : Bool). d .here .short + one b ≤ shortenedAtMost) (daily-short lies inside) (d .head .few));
+                (subst (λ (b : Bool). d .here .short + one b ≤ shortenedAtMost) daily-short (d .head .few));
             then =
                 subst (λ (s : State). KeepsFrom c n (suc j) (afterDaily (shortly c j past) s) (daily c j past ∷ past) rest) e
-                (subst (λ (b : Bool). KeepsFrom c n (suc j) (afterDaily b (d .here)) (daily c j past ∷ past) rest) (daily-short lies inside) (d .then));
+                (subst (λ (b : Bool). KeepsFrom c n (suc j) (afterDaily b (d .here)) (daily c j past ∷ past) rest) daily-short (d .then));
           }
 
       weekly-begins : (w x : ℕ) (rest : List ℕ)
-          → WeeklyStep (restWeek c) (c .judged) (spansOf c) st (weekly c j past w x) (after-it (weekly c j past w x) rest) → WeeklyFirst here w x rest
+          → WeeklyStep (restWeek c) (counts c) (c .judged) (spansOf c) st (weekly c j past w x) (after-it (weekly c j past w x) rest) → WeeklyFirst here w x rest
       weekly-begins w x rest d = record {
         gap = d .gap;
         net = omega (arith, own-compensation, d .head .net);
@@ -282,10 +282,10 @@ module _ (c : Course) (n j : ℕ) (st : State) (past : List Entry) where
 
       begins : (a b d : ℕ) (rest : List ℕ) → KeepsFrom c (suc n) j st past (a ∷ b ∷ d ∷ rest) → Begins here (a ∷ b ∷ d ∷ rest)
       begins a b d rest h =
-          by a b d (kept-head (restWeek c) (c .judged) (spansOf c) st (entry c j past a b d) (after-it (entry c j past a b d) rest) (keeps-out a b d rest h))
+          by a b d (kept-head (restWeek c) (counts c) (c .judged) (spansOf c) st (entry c j past a b d) (after-it (entry c j past a b d) rest) (keeps-out a b d rest h))
         where
-          by : (a b d : ℕ) → DailyStep (restWeek c) (c .judged) (spansOf c) st (entry c j past a b d) (after-it (entry c j past a b d) rest)
-              ⊎ WeeklyStep (restWeek c) (c .judged) (spansOf c) st (entry c j past a b d) (after-it (entry c j past a b d) rest) → Begins here (a ∷ b ∷ d ∷ rest)
+          by : (a b d : ℕ) → DailyStep (restWeek c) (counts c) (c .judged) (spansOf c) st (entry c j past a b d) (after-it (entry c j past a b d) rest)
+              ⊎ WeeklyStep (restWeek c) (counts c) (c .judged) (spansOf c) st (entry c j past a b d) (after-it (entry c j past a b d) rest) → Begins here (a ∷ b ∷ d ∷ rest)
           by zero zero zero (inl s) = daily-first rest (daily-begins rest s)
           by zero zero (suc d) (inl s) = absurd (omega (arith, s .head .compensatedBy))
           by zero (suc b) d (inl s) = absurd (omega (arith, s .head .week))
@@ -379,7 +379,7 @@ module _ (c : Course) (lies : Lies c) (few : count c < byteValues) (bound : c .j
       first = λ t b g.
           after-entry dailyKind 0 0 rest t
           (l .first (dailyKind ∷ 0 ∷ 0 ∷ t) (with-bytes n dailyKind 0 0 t (omega arith) (omega arith) (omega arith) b)
-          (daily-keeps c n j st past compensations lies (omega arith) here reached t (record { gap = h .gap; net = h .net; few = h .few; then = g })));
+          (daily-keeps c n j st past compensations here reached t (record { gap = h .gap; net = h .net; few = h .few; then = g })));
     };
     compensations = daily-compensations c n j st past compensations;
   }
@@ -401,7 +401,7 @@ module _ (c : Course) (lies : Lies c) (few : count c < byteValues) (bound : c .j
       first = λ t b g.
           after-entry weeklyKind w x rest t
           (l .first (weeklyKind ∷ w ∷ x ∷ t) (with-bytes n weeklyKind w x t (omega arith) (week-byte w (h .upto)) (carrier-byte w x (h .carried)) b)
-          (weekly-keeps c n j st past compensations lies (omega arith) here reached w x t (record {
+          (weekly-keeps c n j st past compensations here reached w x t (record {
             gap = h .gap;
             net = h .net;
             from = h .from;
@@ -423,7 +423,7 @@ module _ (c : Course) (lies : Lies c) (few : count c < byteValues) (bound : c .j
   how-begins r l =
       let e = entered n r (l .bytes) in
       let h : KeepsFrom c (suc n) j st past (e .kind ∷ e .week ∷ e .carrier ∷ e .rest) = subst (KeepsFrom c (suc n) j st past) (e .begins) (l .keeps) in
-      subst (Begins c n j st past here) (sym (e .begins)) (begins c n j st past compensations lies (omega arith) here reached (e .kind) (e .week) (e .carrier) (e .rest) h)
+      subst (Begins c n j st past here) (sym (e .begins)) (begins c n j st past compensations here reached (e .kind) (e .week) (e .carrier) (e .rest) h)
 
   -- a rest too short for a weekly one
   must-be-daily : (r : List ℕ) → LeastFrom c (suc n) j st past r → lengthAt c j < leastNet (Weekly Regular) + compensationAt c j → Begins c n j st past here r
@@ -438,7 +438,7 @@ module _ (c : Course) (lies : Lies c) (few : count c < byteValues) (bound : c .j
         let t = can-be-daily outstanding size zeros (h .gap) g in
         let o = entry-order weeklyKind w x dailyKind 0 0 rest (t .rest)
         (l .first (dailyKind ∷ 0 ∷ 0 ∷ t .rest) (with-bytes n dailyKind 0 0 (t .rest) (omega arith) (omega arith) (omega arith) (t .bytes))
-        (daily-keeps c n j st past compensations lies (omega arith) here reached (t .rest) (t .holds))) in
+        (daily-keeps c n j st past compensations here reached (t .rest) (t .holds))) in
         absurd (omega (arith, o .first))
 
     is-weekly : (r : List ℕ) (w x : ℕ) → LeastFrom c (suc n) j st past r → (CanBeDaily c j here outstanding → ⊥) → CanBeRead c j here outstanding
@@ -452,7 +452,7 @@ module _ (c : Course) (lies : Lies c) (few : count c < byteValues) (bound : c .j
         let o = entry-order weeklyKind w′ x′ weeklyKind w x rest (t .rest)
         (l .first (weeklyKind ∷ w ∷ x ∷ t .rest)
         (with-bytes n weeklyKind w x (t .rest) (omega arith) (week-byte w (g .upto)) (carrier-byte w x (g .carried)) (t .bytes))
-        (weekly-keeps c n j st past compensations lies (omega arith) here reached w x (t .rest) (t .holds))) in
+        (weekly-keeps c n j st past compensations here reached w x (t .rest) (t .holds))) in
         let m = both (f .first w′ x′ mine) (o .second refl) (o .third refl) in
         subst (λ (y : ℕ). NextWeekly c j past here w y (weeklyKind ∷ w′ ∷ x′ ∷ rest)) (m .1)
         (subst (λ (v : ℕ). NextWeekly c j past here v x′ (weeklyKind ∷ w′ ∷ x′ ∷ rest)) (m .0)
@@ -484,14 +484,14 @@ module _ (c : Course) (lies : Lies c) (few : count c < byteValues) (bound : c .j
   step-broken (suc n) k l e =
       let t = entered n r (l .bytes) in
       go (t .kind) (t .week) (t .carrier) _
-      (kept-head (restWeek c) (c .judged) (spansOf c) st _ _
+      (kept-head (restWeek c) (counts c) (c .judged) (spansOf c) st _ _
       (keeps-out c n j st past (t .kind) (t .week) (t .carrier) (t .rest) (subst (KeepsFrom c (suc n) j st past) (t .begins) (l .keeps))))
     where
       differ : (here : State) → Brought-to here → ⊥
       differ here q = let z : _≡_ {A = ℕ} 0 1 = cc in omega arith
 
-      go : (a b d : ℕ) (xs : List Entry) → DailyStep (restWeek c) (c .judged) (spansOf c) st (entry c j past a b d) xs
-          ⊎ WeeklyStep (restWeek c) (c .judged) (spansOf c) st (entry c j past a b d) xs → ⊥
+      go : (a b d : ℕ) (xs : List Entry) → DailyStep (restWeek c) (counts c) (c .judged) (spansOf c) st (entry c j past a b d) xs
+          ⊎ WeeklyStep (restWeek c) (counts c) (c .judged) (spansOf c) st (entry c j past a b d) xs → ⊥
       go a b d xs (inl s) = differ (s .here) (s .reached)
       go a b d xs (inr s) = differ (s .here) (s .reached)
 

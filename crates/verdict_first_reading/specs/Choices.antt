@@ -19,7 +19,7 @@ use Rattle.verdict_completion.specs.declared.State.{State}
 use Rattle.verdict_completion.specs.declared.Brought.the-variants.{To}
 use Rattle.verdict_completion.specs.States.{advance, After, afterDaily, afterWeekly}
 use Rattle.verdict_completion.specs.Runs.{Kept}
-use Rattle.verdict_completion.specs.Completable.{Course, at, count, spansOf, restWeek, lengthAt, shortens, ReadDaily, Tries}
+use Rattle.verdict_completion.specs.Completable.{Course, at, count, spansOf, restWeek, counts, lengthAt, shortens, ReadDaily, Tries}
 use Rattle.verdict_nogoods.specs.Table.{Empty}
 use Rattle.verdict_search.specs.Search.{Later, Sound, Sized, Lent, Before}
 
@@ -89,7 +89,7 @@ module _ (c : Course) where
   -- n rests from index j on, after the entries of the past, keep rules 6 to 11 with these bytes
   abbrev pub KeepsFrom : ℕ → ℕ → State → List Entry → List ℕ → Type 0
   KeepsFrom n j st past bytes =
-      Kept (restWeek c) (c .judged) (spansOf c) st (entriesFrom (suc j) (endBefore (c .ends) j) past (spansFrom (c .starts) (c .ends) j n) bytes)
+      Kept (restWeek c) (counts c) (c .judged) (spansOf c) st (entriesFrom (suc j) (endBefore (c .ends) j) past (spansFrom (c .starts) (c .ends) j n) bytes)
 
   -- the first bytes for them
   pub record LeastFrom (n j : ℕ) (st : State) (past : List Entry) (r : List ℕ) : Type 0 where

@@ -6,11 +6,11 @@ use Rattle.rules.specs.Reading.{entryBytes, entries}
 use Rattle.rules.specs.Order.{Bytes, NotAfter}
 use Rattle.verdict_completion.specs.States.{startState}
 use Rattle.verdict_completion.specs.Runs.{Kept}
-use Rattle.verdict_completion.specs.Completable.{Course, count, spansOf, restWeek}
+use Rattle.verdict_completion.specs.Completable.{Course, count, spansOf, restWeek, counts}
 
 -- a reading of all long rests that keeps rules 6 to 11
 abbrev pub KeptBy : Course → List ℕ → Type 0
-KeptBy c bytes = Kept (restWeek c) (c .judged) (spansOf c) (startState (restWeek c 0)) (entries (spansOf c) bytes)
+KeptBy c bytes = Kept (restWeek c) (counts c) (c .judged) (spansOf c) (startState (restWeek c 0)) (entries (spansOf c) bytes)
 
 -- it stands before every other
 pub record Least (c : Course) (r : List ℕ) : Type 0 where

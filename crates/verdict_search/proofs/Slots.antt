@@ -11,14 +11,12 @@ use lib.Seq.{getD-set-other}
 use Rattle.recording.specs.Operations.{totalAtMost}
 use Rattle.recording.specs.Weeks.{weekStart, weekOf}
 use Rattle.recording.proofs.TestLaws.{one-most, less-or-not}
-use Rattle.rules.specs.ReadingRules.{fullPortion, shortenedAtMost}
-use Rattle.rules_fixed.proofs.NetLaws.{net-most}
-use Rattle.rules_reading.specs.Items.{endBefore}
+use Rattle.rules.specs.ReadingRules.{shortenedAtMost}
 use Rattle.verdict_completion.specs.declared.State.{State}
 use Rattle.verdict_completion.specs.declared.Brought.{Brought}
 use Rattle.verdict_completion.specs.declared.Brought.the-variants.{To}
 use Rattle.verdict_completion.specs.States.{startState, advance, After, afterDaily, afterWeekly}
-use Rattle.verdict_completion.specs.Completable.{Course, at, count, restWeek, lengthAt, Lies, Stands}
+use Rattle.verdict_completion.specs.Completable.{Course, at, count, restWeek, Lies, Stands}
 use Rattle.verdict_completion.specs.Better.{Small, AtRest}
 use Rattle.verdict_completion.proofs.Monotone.{Carried, advanced, counted-week, daily-stands, daily-small, weekly-stands, weekly-small}
 use Rattle.verdict_steps.specs.Steps.{Ordered}
@@ -79,9 +77,6 @@ module _ (c : Course) (lies : Lies c) where
 
   pub starts-low : (j : ℕ) → j < count c → at (c .starts) j ≤ c .judged
   starts-low j l = omega (arith, lies .proper j l, lies .judged j l)
-
-  pub net-low : (j : ℕ) → j < count c → at (c .nets) j ≤ fullPortion + lengthAt c j + 1
-  net-low j l = omega (arith, lies .net j l, net-most (endBefore (c .ends) j) (at (c .starts) j) (at (c .ends) j))
 
   -- the rest before that of index j + 1
   pub reached-at : (j : ℕ) {week : ℕ} → weekOf (at (c .starts) j) ≤ week → weekOf (at (c .starts) (j + 1 - 1)) ≤ week

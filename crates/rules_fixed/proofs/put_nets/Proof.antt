@@ -1,42 +1,44 @@
 -- `rules_fixed::put_nets` meets its contract. Assumes nothing.
-use native.Mathlib.Omega.{arith}
-use borrow.Author.Needs.{needs}
 use Prim.Native.Nat.{_-_}
-use Rattle.rules_fixed.proofs.NetLaws.{Numbering, start-numbering, number-on, number-done}
+use native.Mathlib.Omega.{arith}
+use lib.ListN.{length}
+use borrow.Author.Needs.{needs}
+use Rattle.recording.proofs.Scanning.{run-room}
+use Rattle.rules_fixed.proofs.NetWalk.{Noting, start-noting, note-on, note-done, as-long}
 use Rattle.rules_fixed.proofs.put_nets.Statement.{statement}
 use Rattle.rules_fixed.proofs.put_nets.Tie as tie
 
 abbrev Inv-loop : tie.InvT-loop
-Inv-loop starts ends k nets₀ p₀ i₀ nets p i = Numbering starts ends nets₀ k nets p i
+Inv-loop words nets₀ p₀ d₀ i₀ nets p d i = Noting words nets₀ nets p d i
 
 abbrev μ-loop : tie.MeasureT-loop
-μ-loop starts ends k nets₀ p₀ i₀ nets p i = k - i
+μ-loop words nets₀ p₀ d₀ i₀ nets p d i = length words - i
 
 loop-holds : tie.Need-loop-holds Inv-loop μ-loop
-loop-holds c = start-numbering _ _ _ _
+loop-holds c = rw (c .fresh-day .ensures) (start-noting _ _ (c .before .before .before .pre))
 
-regular-net-requires : tie.Need-regular-net-requires Inv-loop μ-loop
-regular-net-requires c κs =
-    let turn = c .before .before .before in
-    let fits = (turn .before .before .before .before) .pre .3 (turn .loop .i) (omega arith) in
-    (turn .loop .inv .bounded, omega (arith, fits .0), fits .1)
+day-on-requires : tie.Need-day-on-requires Inv-loop μ-loop
+day-on-requires c κs =
+    let inv = c .before .before .before .loop .inv in
+    (inv .begun, inv .walking .from, omega (arith, inv .walking .room))
 
-slice-write-nets : tie.Need-slice-write-nets Inv-loop μ-loop
-slice-write-nets c =
-    let turn = c .before .before .before .before in
-    omega (arith, turn .loop .inv .long)
+after-run-requires : tie.Need-after-run-requires Inv-loop μ-loop
+after-run-requires c κs =
+    let turn = c .before .before .before .before .before in
+    let inv = turn .before .loop .inv in
+    (inv .walking .from, inv .walking .count, run-room (inv .walking) (omega arith))
 
 loop-again : tie.Need-loop-again Inv-loop μ-loop
 loop-again c =
-    let turn = c .before .before .before .before in
-    let pre = (turn .before .before .before .before) .pre in
-    number-on (turn .loop .inv) (omega arith) (pre .0) (pre .1) (pre .3 (turn .loop .i) (omega arith) .1) (c .regular-net .ensures)
+    let noted = c .before .before .before in
+    let turn = noted .before .before .before in
+    note-on (turn .before .loop .inv) (omega arith) (c .after-run .ensures) (noted .day-on .ensures .0) (noted .day-on .ensures .1)
 
 same-length : tie.Need-same-length Inv-loop μ-loop
-same-length c = c .before .loop .inv .long
+same-length c = as-long (c .before .loop .inv)
 
 returns : tie.Need-returns Inv-loop μ-loop
-returns c = number-done (c .before .loop .inv) (omega arith)
+returns c = note-done (c .before .loop .inv) (omega arith)
 
 pub put-nets-spec : {M : Type 1} → statement M
 put-nets-spec =
@@ -44,14 +46,12 @@ put-nets-spec =
     (tie.spec
     Inv-loop
     μ-loop
+    (λ c κs. search needs)
     loop-holds
     (λ c. search needs)
     (λ c. search needs)
-    (λ c. search needs)
-    (λ c. search needs)
-    regular-net-requires
-    (λ c. search needs)
-    slice-write-nets
+    day-on-requires
+    after-run-requires
     (λ c. search needs)
     (λ c. search needs)
     loop-again

@@ -1,11 +1,13 @@
 -- `rules_reading::formed_item` meets its contract. Assumes nothing.
+use mathlib.Core.Path.{sym}
 use native.Mathlib.Omega.{arith}
 use borrow.Author.Needs.{needs}
 use borrow.Author.Tests.{eq-eqb, ne-eqb, le-leb, lt-leb, le-ltb, lt-ltb}
 use Rattle.recording.specs.Tests.{_and_, _or_}
 use Rattle.recording.specs.Weeks.{touches}
+use Rattle.recording.proofs.TestLaws.{or-false}
 use Rattle.rules.specs.ReadingRules.{formed, formedDaily, formedWeekly}
-use Rattle.rules_reading.proofs.ItemLaws.{or-none, formed-carried}
+use Rattle.rules_reading.proofs.ItemLaws.{formed-carried}
 use Rattle.rules_reading.proofs.formed_item.Statement.{statement}
 use Rattle.rules_reading.proofs.formed_item.Tie as tie
 
@@ -15,7 +17,7 @@ returns c = simp (c .before .before .if1 .taken, ne-eqb _ _ (c .if2 .taken))
 
 returns-2 : tie.Need-returns-2
 unfolding formed formedDaily formedWeekly touches _and_ _or_
-returns-2 c = simp (c .before .before .before .if1 .taken, c .before .if2 .left) (or-none _)
+returns-2 c = simp (c .before .before .before .if1 .taken, c .before .if2 .left) (sym (or-false _))
 
 returns-3 : tie.Need-returns-3
 unfolding formed formedDaily formedWeekly touches _and_ _or_

@@ -13,7 +13,7 @@ form-test-requires c κs =
     (start .pre .0, zeros-at longRestsAtMost)
 
 returns : tie.Need-returns
-returns c = later-six _ _ _ _ _ (sym (not-true _ (c .if1 .taken)) ∙ c .before .form-test .ensures)
+returns c = later-six _ _ _ _ _ _ (sym (not-true _ (c .if1 .taken)) ∙ c .before .form-test .ensures)
 
 rest-walk-requires : tie.Need-rest-walk-requires
 rest-walk-requires c κs =
@@ -28,7 +28,7 @@ returns-2 c =
     let n = not-false _ (at-if1 .if1 .left) in
     let f = at-form-test .form-test .ensures in
     let w = at-rest-walk .rest-walk .ensures in
-    later-seven _ _ _ _ _ (sym n ∙ f) (rw (c .enum-told .given .1) at w)
+    later-seven _ _ _ _ _ _ (sym n ∙ f) (rw (c .enum-told .given .1) at w)
 
 gap-rule-requires : tie.Need-gap-rule-requires
 gap-rule-requires c κs =
@@ -44,7 +44,7 @@ returns-3 c =
     let f = at-form-test .form-test .ensures in
     let w = at-rest-walk .rest-walk .ensures in
     let h = rw (c .before .before .before .before .t .given .1) at w in
-    later-broken _ _ _ _ _ (sym n ∙ f) h (c .before .before .gap-rule .ensures) (c .before .smaller-of .ensures) (c .if2 .taken)
+    later-broken _ _ _ _ _ _ (sym n ∙ f) h (c .before .before .gap-rule .ensures) (c .before .smaller-of .ensures) (c .if2 .taken)
 
 pairs-test-requires : tie.Need-pairs-test-requires
 pairs-test-requires c κs =
@@ -72,7 +72,7 @@ returns-4 c =
     let h = rw (at-t .t .given .1) at w in
     let g = at-gap-rule .gap-rule .ensures in
     let m = at-smaller-of .smaller-of .ensures in
-    rw (c .if3 .taken) at (later-last _ _ _ _ _ (sym n ∙ f) h g m (c .before .before .before .before .if2 .left) (p .1) (c .before .pairs-test .ensures))
+    rw (c .if3 .taken) at (later-last _ _ _ _ _ _ (sym n ∙ f) h g m (c .before .before .before .before .if2 .left) (p .1) (c .before .pairs-test .ensures))
 
 returns-5 : tie.Need-returns-5
 returns-5 c =
@@ -90,7 +90,7 @@ returns-5 c =
     let h = rw (at-t .t .given .1) at w in
     let g = at-gap-rule .gap-rule .ensures in
     let m = at-smaller-of .smaller-of .ensures in
-    rw (c .if3 .left) at (later-last _ _ _ _ _ (sym n ∙ f) h g m (c .before .before .before .before .if2 .left) (p .1) (c .before .pairs-test .ensures))
+    rw (c .if3 .left) at (later-last _ _ _ _ _ _ (sym n ∙ f) h g m (c .before .before .before .before .if2 .left) (p .1) (c .before .pairs-test .ensures))
 
 pub later-test-spec : {M : Type 1} → statement M
 later-test-spec =

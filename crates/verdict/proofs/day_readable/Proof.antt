@@ -14,7 +14,7 @@ day-start-requires c κs =
     )
 
 returns : tie.Need-returns
-returns c = over-bound _ _ (c .before .before .before .day-start .ensures) (c .before .before .if1 .taken)
+returns c = over-bound _ _ _ (c .before .before .before .day-start .ensures) (c .before .before .if1 .taken)
 
 slice-aggregate-some-reading : tie.Need-slice-aggregate-some-reading
 slice-aggregate-some-reading c =
@@ -62,7 +62,7 @@ some-reading-requires c κs =
 returns-2 : tie.Need-returns-2
 returns-2 c =
     let at-some-reading = c .before .before .before .before .before .before in
-    day-asked _ _ (at-some-reading .before .before .before .before .before .before .before .before .day-start .ensures) (omega arith)
+    day-asked _ _ _ (at-some-reading .before .before .before .before .before .before .before .before .day-start .ensures) (omega arith)
     (at-some-reading .some-reading .ensures)
 
 pub day-readable-spec : {M : Type 1} → statement M

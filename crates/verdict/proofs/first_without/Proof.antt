@@ -11,7 +11,7 @@ use Rattle.verdict.proofs.first_without.Tie as tie
 
 abbrev Inv-loop : tie.InvT-loop
 Inv-loop starts ends nets from top nogoods₀ front₀ other₀ next₀ nogoods front other next =
-    Asking starts ends from next × (length nogoods ≡ length nogoods₀) × (length front ≡ length front₀) × (length other ≡ length other₀)
+    Asking starts ends nets from next × (length nogoods ≡ length nogoods₀) × (length front ≡ length front₀) × (length other ≡ length other₀)
 
 abbrev μ-loop : tie.MeasureT-loop
 μ-loop starts ends nets from top nogoods₀ front₀ other₀ next₀ nogoods front other next = top + 1 - next
@@ -24,7 +24,7 @@ next-demand-requires c κs =
     )
 
 loop-holds : tie.Need-loop-holds Inv-loop μ-loop
-loop-holds c = (start-asking _ (c .next-demand .ensures), refl, refl, refl)
+loop-holds c = (start-asking _ _ (c .next-demand .ensures), refl, refl, refl)
 
 some-reading-requires : tie.Need-some-reading-requires Inv-loop μ-loop
 some-reading-requires c κs =

@@ -10,7 +10,7 @@ use Rattle.verdict.proofs.last_day.Tie as tie
 
 abbrev Inv-loop : tie.InvT-loop
 Inv-loop starts ends nets bound guess nogoods₀ front₀ other₀ low₀ high₀ hint₀ nogoods front other low high hint =
-    Halving starts ends bound low high × (length nogoods ≡ length nogoods₀) × (length front ≡ length front₀) × (length other ≡ length other₀)
+    Halving starts ends nets bound low high × (length nogoods ≡ length nogoods₀) × (length front ≡ length front₀) × (length other ≡ length other₀)
 
 abbrev μ-loop : tie.MeasureT-loop
 μ-loop starts ends nets bound guess nogoods₀ front₀ other₀ low₀ high₀ hint₀ nogoods front other low high hint = high - low
@@ -18,7 +18,7 @@ abbrev μ-loop : tie.MeasureT-loop
 loop-holds : tie.Need-loop-holds Inv-loop μ-loop
 loop-holds c =
     let start = c .before .before .before .before .before .before in
-    (start-halving _ _ (start .pre .3) (omega arith), refl, refl, refl)
+    (start-halving _ _ _ (start .pre .3) (omega arith), refl, refl, refl)
 
 sub-loop : tie.Need-sub-loop Inv-loop μ-loop
 sub-loop c = omega (arith, c .loop .inv .0 .order)

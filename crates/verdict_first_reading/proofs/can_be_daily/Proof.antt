@@ -6,7 +6,7 @@ use native.Mathlib.Omega.{arith}
 use denote.Ref.{now}
 use Rattle.verdict_completion.specs.Completable.{at}
 use Rattle.verdict_search.specs.Search.{courseOf}
-use Rattle.verdict_search.proofs.Slots.{net-low, before-daily}
+use Rattle.verdict_search.proofs.Slots.{before-daily}
 use Rattle.verdict_search.proofs.Chain.{too-many, as-daily}
 use Rattle.verdict_first_reading.proofs.Placing.{if-no, if-carry}
 use Rattle.verdict_first_reading.proofs.can_be_daily.Statement.{statement}
@@ -20,9 +20,8 @@ sub-is-short c =
 is-short-requires : tie.Need-is-short-requires
 is-short-requires c κs =
     let s = (c .before .before .before .before .before .before .before .before .before .before .before .before .before .before) in
-    let k = courseOf (now (s .args .starts)) (now (s .args .ends)) (now (s .args .nets)) (now (s .args .compensations)) (s .args .s) in
     let h = s .pre .0 .sized in
-    (omega (arith, net-low k (h .lies) (s .args .j) (s .pre .1 .within), h .lies .judged (s .args .j) (s .pre .1 .within), h .judged), omega (arith, h .compensations-low (s .args .j)))
+    (omega (arith, h .lies .net (s .args .j) (s .pre .1 .within)), omega (arith, h .compensations-low (s .args .j)))
 
 after-daily-requires : tie.Need-after-daily-requires
 after-daily-requires c κs = (c .before .before .before .before .before .before .before .before .before .before .before .before .before .before .before) .pre .1 .small .short

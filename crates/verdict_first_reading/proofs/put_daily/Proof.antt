@@ -7,7 +7,7 @@ use denote.Ref.{now}
 use Rattle.verdict_completion.specs.declared.State.{State}
 use Rattle.verdict_completion.specs.States.{afterDaily}
 use Rattle.verdict_search.specs.Search.{courseOf}
-use Rattle.verdict_search.proofs.Slots.{net-low, before-daily}
+use Rattle.verdict_search.proofs.Slots.{before-daily}
 use Rattle.verdict_first_reading.proofs.Placing.{before-here}
 use Rattle.verdict_first_reading.proofs.put_daily.Statement.{statement}
 use Rattle.verdict_first_reading.proofs.put_daily.Tie as tie
@@ -18,9 +18,8 @@ sub-is-short c = let s = (c .before .before .before .before .before .before .bef
 is-short-requires : tie.Need-is-short-requires
 is-short-requires c κs =
     let s = (c .before .before .before .before .before .before .before .before .before .before .before .before .before) in
-    let k = courseOf (now (s .args .starts)) (now (s .args .ends)) (now (s .args .nets)) (now (s .args .compensations)) (s .args .s) in
     let h = s .pre .0 in
-    (omega (arith, net-low k (h .lies) (s .args .j) (s .pre .1 .within), h .lies .judged (s .args .j) (s .pre .1 .within), h .judged), omega (arith, h .compensations-low (s .args .j)))
+    (omega (arith, h .lies .net (s .args .j) (s .pre .1 .within)), omega (arith, h .compensations-low (s .args .j)))
 
 returns : tie.Need-returns
 returns c =

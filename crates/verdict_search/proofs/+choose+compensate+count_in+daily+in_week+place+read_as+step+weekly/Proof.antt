@@ -474,11 +474,10 @@ daily-sub-is-short t c =
 daily-is-short-requires : (t : ℕ) → daily-lts.Need-is-short-requires (daily-calls t) (daily-at t) daily.Post
 daily-is-short-requires t c κs =
     let s = (c .before .before .before .before .before .before .before .before .before .before) in
-    let k = courseOf (now (s .args .starts)) (now (s .args .ends)) (now (s .args .nets)) (now (s .args .compensations)) (s .args .s) in
     let g = s .pre .1 .0 in
     let lies = g .slots .sized .lies in
     let in-time = lies .judged (s .args .j) (s .pre .1 .1 .within) in
-    (omega (arith, law.net-low k lies (s .args .j) (s .pre .1 .1 .within), in-time, g .slots .sized .judged), omega (arith, s .pre .1 .2, in-time, g .slots .sized .judged))
+    (omega (arith, lies .net (s .args .j) (s .pre .1 .1 .within)), omega (arith, s .pre .1 .2, in-time, g .slots .sized .judged))
 
 daily-after-daily-requires : (t : ℕ) → daily-lts.Need-after-daily-requires (daily-calls t) (daily-at t) daily.Post
 daily-after-daily-requires t c κs = (c .before .before .before .before .before .before .before .before .before .before .before) .pre .1 .1 .small .short
