@@ -14,6 +14,10 @@ fn main() {
         (0..400).map(|seed| grow::ordinary(&mut Dice::new(seed))),
     );
     report(
+        "split",
+        (0..200).map(|seed| grow::split(&mut Dice::new(seed))),
+    );
+    report(
         "grown",
         (0..200).map(|seed| grow::grown(&mut Dice::new(seed))),
     );

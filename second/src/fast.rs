@@ -16,10 +16,11 @@ pub struct Judge<'a> {
 impl<'a> Judge<'a> {
     /// The words must be such that weighing does not turn them away.
     pub fn new(words: &[u32], limits: &'a Limits) -> Judge<'a> {
-        Judge {
-            course: Course::new(words, limits),
-            steps: 0,
-        }
+        Judge::of(Course::new(words, limits))
+    }
+
+    pub fn of(course: Course<'a>) -> Judge<'a> {
+        Judge { course, steps: 0 }
     }
 
     /// k

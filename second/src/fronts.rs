@@ -7,6 +7,7 @@
 
 use crate::limits::Limits;
 use crate::recording::Span;
+use crate::runs::LongRest;
 
 /// What a reduced weekly rest owes. Debts are kept in the order of their dues.
 #[derive(Clone, Copy, PartialEq, Eq)]
@@ -48,7 +49,7 @@ impl Counted {
 struct State {
     /// The end of the last weekly rest, or 0.
     weekly_end: i64,
-    /// The daily rests with portion under 660 since then.
+    /// The daily rests since then that count under rule 9.
     shortened: usize,
     /// The weekly rests of the week before, and of the week reached.
     before: Counted,
@@ -125,9 +126,9 @@ impl Front {
 
     /// The front after one more long rest. It is given up, and `None`, where it
     /// would be wider than this.
-    pub fn after(&self, rest: Span, widest: usize) -> Option<Front> {
+    pub fn after(&self, rest: LongRest, widest: usize) -> Option<Front> {
         let mut next = Front {
-            reached: rest.end,
+            reached: rest.span.end,
             states: Vec::new(),
             ..*self
         };
@@ -148,15 +149,24 @@ impl Front {
             start: self.judged_end,
             end: self.judged_end,
         };
-        let step = self.step(end);
+        let step = self.step(self.rest(end));
         (self.states.iter()).any(|state| state.debts.is_empty() && step.reach(state).is_some())
     }
 
-    fn step(&self, rest: Span) -> Step<'_> {
+    /// The next long rest, after a day without any rest of 180 to 539 minutes.
+    pub fn rest(&self, span: Span) -> LongRest {
+        LongRest {
+            span,
+            previous_end: self.reached,
+            earlier_rest: false,
+        }
+    }
+
+    fn step(&self, long_rest: LongRest) -> Step<'_> {
         Step {
             limits: &self.limits,
-            rest,
-            previous_end: self.reached,
+            rest: long_rest.span,
+            long_rest,
             judged_end: self.judged_end,
         }
     }
@@ -176,8 +186,8 @@ impl Front {
 struct Step<'a> {
     limits: &'a Limits,
     rest: Span,
-    /// P
-    previous_end: i64,
+    /// The same rest, with what rule 9 asks of it.
+    long_rest: LongRest,
     judged_end: i64,
 }
 
@@ -200,7 +210,7 @@ impl Step<'_> {
         if self.rest.start - state.weekly_end > self.limits.between_weekly_rests {
             return None;
         }
-        let from = self.limits.week_of(self.previous_end);
+        let from = self.limits.week_of(self.long_rest.previous_end);
         let to = self.limits.week_of(self.rest.start);
         self.pass_weeks(state.clone(), from, to)
     }
@@ -227,9 +237,9 @@ impl Step<'_> {
             limits.week_of(self.rest.end - 1),
         );
         let after = limits.week_of(self.rest.end);
-        let portion = limits.portion(self.rest.start, own, self.previous_end);
+        let shortened = self.long_rest.is_shortened(own, limits);
         let daily = State {
-            shortened: state.shortened + usize::from(portion < limits.regular_daily_rest),
+            shortened: state.shortened + usize::from(shortened),
             ..state.clone()
         };
         if daily.shortened <= limits.reduced_daily_rests {

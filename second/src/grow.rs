@@ -78,6 +78,56 @@ fn ordinary_week(dice: &mut Dice, draft: &mut Draft, monday: u32, days: u32) {
     }
 }
 
+/// Twelve ordinary weeks in which many days hold a rest of three hours or more, and
+/// a rest of nine to eleven hours follows them: in one week of three nearly all of
+/// its days, in the others one in four.
+pub fn split(dice: &mut Dice) -> Vec<u32> {
+    let mut draft = Draft::default();
+    let mut days = 5;
+    for week in 0..12 {
+        days = if days == 5 && dice.one_in(4) { 6 } else { 5 };
+        split_week(dice, &mut draft, week * WEEK, days);
+    }
+    draft.words
+}
+
+/// Duty on so many days from Monday on. The last one is ordinary: a weekly rest
+/// follows it.
+fn split_week(dice: &mut Dice, draft: &mut Draft, monday: u32, days: u32) {
+    let nearly_all = dice.one_in(3);
+    let starts: Vec<u32> = (0..days)
+        .map(|day| monday + day * DAY + dice.between(545, 620))
+        .collect();
+    for (day, &start) in starts.iter().enumerate() {
+        draft.rest_until(start);
+        let split = if nearly_all {
+            !dice.one_in(8)
+        } else {
+            dice.one_in(4)
+        };
+        match starts.get(day + 1) {
+            Some(next) if split => split_duty(dice, draft, next - start),
+            _ => ordinary_duty(dice, draft),
+        }
+    }
+}
+
+/// A duty in two, up to 15 hours with the rest of three hours or more in between,
+/// that leaves nine to eleven hours of so many minutes up to the next one.
+fn split_duty(dice: &mut Dice, draft: &mut Draft, to_the_next: u32) {
+    let long_rest = dice.between(540.max(to_the_next - 900), 659);
+    let (work, first_drive) = (dice.between(1, 30), dice.between(120, 240));
+    let (second_drive, availability) = (dice.between(60, 200), dice.between(1, 40));
+    let left = to_the_next - long_rest - work - first_drive - second_drive - availability;
+    let rest = dice.between(180, 539.min(left - 1));
+    draft.push(Activity::Work, work);
+    draft.push(Activity::Driving, first_drive);
+    draft.push(Activity::Rest, rest);
+    draft.push(Activity::Driving, second_drive);
+    draft.push(Activity::Availability, availability);
+    draft.push(Activity::Work, left - rest);
+}
+
 /// A day's duty of nine hours or so, with a break after each long drive, but
 /// for a rare one forgotten.
 fn ordinary_duty(dice: &mut Dice, draft: &mut Draft) {
@@ -293,7 +343,7 @@ pub fn climbed(dice: &mut Dice, candidates: u32, widest: usize) -> Vec<u32> {
             let (work, rest) = climb.day(dice);
             let start = i64::from(reached + work);
             let end = start + i64::from(rest);
-            let after = front.after(Span { start, end }, widest)?;
+            let after = front.after(front.rest(Span { start, end }), widest)?;
             (after.width() > 0).then_some(((work, rest), after))
         });
         match fronts_after.max_by_key(|(_, after)| after.width()) {

@@ -1,4 +1,4 @@
-//! The numbers of document 01, in one place.
+//! The numbers of the documents, in one place.
 //!
 //! Every rule takes its numbers from a [`Limits`]. The public operations use
 //! [`Limits::document`]; tests also use smaller ones, so that many weeks fit
@@ -50,6 +50,12 @@ pub struct Limits {
     pub day_and_rest: i64,
     /// Rule 9: "portion under 660".
     pub regular_daily_rest: i64,
+    /// Rule 9 by request 3: "an earlier rest of 180 to 539 minutes", the least.
+    pub earlier_rest_least: i64,
+    /// And the most.
+    pub earlier_rest_most: i64,
+    /// Rule 9 by request 3: "A daily rest with portion 540 or more".
+    pub later_portion: i64,
     /// Rule 9: "At most three daily rests".
     pub reduced_daily_rests: usize,
     /// Rule 10: "at most 8,640".
@@ -57,7 +63,7 @@ pub struct Limits {
 }
 
 impl Limits {
-    /// The numbers of the document.
+    /// The numbers of the documents.
     pub const fn document() -> Limits {
         Limits {
             total: 120_960,
@@ -79,6 +85,9 @@ impl Limits {
             due_weeks: 4,
             day_and_rest: 1_440,
             regular_daily_rest: 660,
+            earlier_rest_least: 180,
+            earlier_rest_most: 539,
+            later_portion: 540,
             reduced_daily_rests: 3,
             between_weekly_rests: 8_640,
         }

@@ -243,7 +243,7 @@ impl<'a> Read<'a> {
         for index in self.indices() {
             if self.entries[index].is_weekly() {
                 reduced_daily_rests = 0;
-            } else if self.portion(index) < self.limits().regular_daily_rest {
+            } else if counts_under_rule_9(self.recording, self.rest(index), self.own[index]) {
                 reduced_daily_rests += 1;
             }
             if reduced_daily_rests > self.limits().reduced_daily_rests {
@@ -251,13 +251,6 @@ impl<'a> Read<'a> {
             }
         }
         true
-    }
-
-    /// "A daily rest's portion is min(start + own, P + 1,440) − start."
-    fn portion(&self, index: usize) -> i64 {
-        let start = self.rest(index).start;
-        let previous_end = self.recording.previous_end(start);
-        self.limits().portion(start, self.own[index], previous_end)
     }
 
     /// Rule 10, 8(6). "From minute 0 or a weekly rest's end to the next weekly
@@ -302,6 +295,38 @@ impl<'a> Read<'a> {
         let regular = weekly.clone().filter(|&index| self.is_regular(index));
         (weekly.count(), regular.count())
     }
+}
+
+/// Rule 9 counts daily rests "with portion under 660". Request 3: "A daily rest
+/// with portion 540 or more no longer counts under rule 9 if its day holds an
+/// earlier rest of 180 to 539 minutes."
+pub fn counts_under_rule_9(recording: &Recording, rest: Span, own: i64) -> bool {
+    let limits = recording.limits;
+    let portion = limits.portion(rest.start, own, recording.previous_end(rest.start));
+    portion < limits.regular_daily_rest
+        && !(portion >= limits.later_portion && day_holds_an_earlier_rest(recording, rest))
+}
+
+/// Whether, in the day that runs from P to this rest's start, minutes of rest
+/// come to 180 to 539 in a row before one that is not rest. The day's last minute
+/// is not rest, nor is its first one after a long rest.
+fn day_holds_an_earlier_rest(recording: &Recording, rest: Span) -> bool {
+    let limits = recording.limits;
+    let day = Span {
+        start: recording.previous_end(rest.start),
+        end: rest.start,
+    };
+    let mut in_a_row = 0;
+    for &activity in recording.activities(day) {
+        if activity == Activity::Rest {
+            in_a_row += 1;
+        } else if in_a_row >= limits.earlier_rest_least && in_a_row <= limits.earlier_rest_most {
+            return true;
+        } else {
+            in_a_row = 0;
+        }
+    }
+    false
 }
 
 /// "So each long rest is daily, regular weekly or reduced weekly."

@@ -44,12 +44,33 @@ pub fn cut_at_weeks(span: Span, limits: &Limits) -> impl Iterator<Item = Span> +
     })
 }
 
-/// A long rest, with P of its start.
+/// A long rest, with P of its start and what its day holds.
 #[derive(Clone, Copy, Debug, PartialEq, Eq)]
 pub struct LongRest {
     pub span: Span,
     /// P
     pub previous_end: i64,
+    /// "its day holds an earlier rest of 180 to 539 minutes"
+    pub earlier_rest: bool,
+}
+
+impl LongRest {
+    /// Whether it counts under rule 9 as a daily rest with this own.
+    pub fn is_shortened(&self, own: i64, limits: &Limits) -> bool {
+        let portion = limits.portion(self.span.start, own, self.previous_end);
+        portion < self.full_portion(limits)
+    }
+
+    /// The portion from which on it does not count under rule 9. Request 3: "A
+    /// daily rest with portion 540 or more no longer counts under rule 9 if its
+    /// day holds an earlier rest of 180 to 539 minutes."
+    pub fn full_portion(&self, limits: &Limits) -> i64 {
+        if self.earlier_rest {
+            limits.later_portion.min(limits.regular_daily_rest)
+        } else {
+            limits.regular_daily_rest
+        }
+    }
 }
 
 /// A recording run by run, with its long rests.
@@ -81,15 +102,25 @@ impl<'a> Course<'a> {
         course
     }
 
+    /// Rest by rest: a long rest ends its day, and the next one holds nothing yet.
     fn find_long_rests(&self) -> Vec<LongRest> {
+        let earlier_rest = self.limits.earlier_rest_least..=self.limits.earlier_rest_most;
         let mut long_rests = Vec::new();
         let mut previous_end = 0;
-        for run in self.runs.iter().filter(|run| self.is_long_rest(run)) {
-            long_rests.push(LongRest {
-                span: run.span,
-                previous_end,
-            });
-            previous_end = run.span.end;
+        let mut held = false;
+        let is_rest = |run: &&Run| run.activity == Activity::Rest;
+        for run in self.runs.iter().filter(is_rest) {
+            if self.is_long_rest(run) {
+                long_rests.push(LongRest {
+                    span: run.span,
+                    previous_end,
+                    earlier_rest: held,
+                });
+                previous_end = run.span.end;
+                held = false;
+            } else {
+                held |= earlier_rest.contains(&run.span.length());
+            }
         }
         long_rests
     }

@@ -53,7 +53,7 @@ impl Tally {
 struct State {
     /// The end of the last weekly rest, or 0.
     weekly_end: i64,
-    /// The daily rests with portion under 660 since then.
+    /// The daily rests since then that count under rule 9.
     reduced_daily_rests: usize,
     /// The tally of the week before the one in which the next rest starts (S,
     /// after the last rest).
@@ -351,7 +351,8 @@ impl<'a> Search<'a> {
         let (open, promised): (Vec<Debt>, Vec<Debt>) =
             debts.into_iter().partition(|debt| debt.carrier == 0);
         let mut found = Vec::new();
-        for least in [self.limits.regular_daily_rest, self.limits.daily_rest] {
+        let full = self.rests[position].full_portion(self.limits);
+        for least in [full, self.limits.daily_rest] {
             for payment in largest_payments(&open, room - least) {
                 let own = room - payment.amount();
                 let left = joined(payment.left, &promised);
@@ -397,8 +398,7 @@ impl<'a> Search<'a> {
     /// The state after a daily rest, if rules 7, 9 and 11 hold so far.
     fn daily(&self, position: usize, state: &State, own: i64, debts: Vec<Debt>) -> Option<State> {
         let rest = self.rests[position];
-        let portion = self.limits.portion(rest.span.start, own, rest.previous_end);
-        let reduced = portion < self.limits.regular_daily_rest;
+        let reduced = rest.is_shortened(own, self.limits);
         let next = State {
             reduced_daily_rests: state.reduced_daily_rests + usize::from(reduced),
             debts,

@@ -10,8 +10,9 @@ use crate::recording::{total_minutes, word, word_activity, word_minutes, Activit
 pub fn limits(dice: &mut Dice) -> Limits {
     let mut pick = |least: u32, most: u32| i64::from(dice.between(least, most));
     let week = pick(12, 40);
-    let long_rest = pick(1, 3);
+    let long_rest = pick(1, 4);
     let weekly_rest = long_rest + pick(2, 5);
+    let earlier_rest_least = pick(1, 2);
     Limits {
         total: 12 * week,
         week,
@@ -32,6 +33,9 @@ pub fn limits(dice: &mut Dice) -> Limits {
         due_weeks: [1, 1, 2, 2, 3, 4][pick(0, 5) as usize],
         day_and_rest: pick(8, 28),
         regular_daily_rest: long_rest + pick(0, 2),
+        earlier_rest_least,
+        earlier_rest_most: earlier_rest_least + pick(0, 2),
+        later_portion: long_rest + pick(0, 1),
         reduced_daily_rests: pick(0, 3) as usize,
         between_weekly_rests: week * pick(2, 16) / 8,
     }
@@ -100,13 +104,20 @@ fn shortened(dice: &mut Dice, words: &[u32]) -> Vec<u32> {
     words
 }
 
-/// Duty, mostly of work, then a rest near one of the limits.
+/// Duty, mostly of work, then a rest near one of the limits. One day in four holds
+/// a rest such as frees the later one.
 fn push_day(dice: &mut Dice, limits: &Limits, taste: &[u32], words: &mut Vec<u32>) {
     let longest = match dice.below(3) {
         0 => limits.day_length / 8 + 1,
         1 => limits.day_length / 2,
         _ => limits.day_length,
     };
+    if dice.one_in(4) {
+        let (least, most) = (limits.earlier_rest_least, limits.earlier_rest_most);
+        let before = dice.between(1, longest as u32 / 4 + 1);
+        let rest = dice.between(least as u32, most as u32);
+        words.extend([word(before, Activity::Work), word(rest, Activity::Rest)]);
+    }
     let duty = dice.between(1, longest as u32);
     let activity = Activity::ALL[dice.weighted(&[0, 1, 8, 1])];
     words.push(word(duty, activity));

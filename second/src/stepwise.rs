@@ -6,7 +6,7 @@
 
 use crate::fixed;
 use crate::plain::candidates;
-use crate::reading::{broken_reading_rule, bytes, Entry};
+use crate::reading::{broken_reading_rule, bytes, counts_under_rule_9, Entry};
 use crate::recording::Recording;
 
 /// Not known after so many steps.
@@ -50,7 +50,7 @@ struct Walk<'a> {
 struct Beginning {
     /// The end of the last weekly rest, or 0.
     weekly_end: i64,
-    /// The daily rests of portion under 660 since then.
+    /// The daily rests since then that count under rule 9.
     reduced_daily_rests: usize,
 }
 
@@ -102,9 +102,8 @@ impl Walk<'_> {
             return None;
         }
         if !entry.is_weekly() {
-            let portion = limits.portion(rest.start, own, self.recording.previous_end(rest.start));
             let mut next = beginning;
-            if portion < limits.regular_daily_rest {
+            if counts_under_rule_9(self.recording, rest, own) {
                 next.reduced_daily_rests += 1;
             }
             let holds =

@@ -7,6 +7,7 @@ use second::dice::Dice;
 use second::fast::Judge;
 use second::fixed;
 use second::plain;
+use second::reading::counts_under_rule_9;
 use second::recording::{minutes, total_minutes, Recording};
 use second::runs::Course;
 use second::small;
@@ -33,7 +34,8 @@ fn runs_tell_what_minutes_tell() {
     }
 }
 
-/// S, the long rests with their P, and the smallest fixed rule broken.
+/// S, the long rests with their P and whether they count under rule 9, and the
+/// smallest fixed rule broken.
 fn compare_stretch(stretch: &Recording, course: &Course, m: i64) {
     let rests = &course.long_rests[..course.long_rests_in(m)];
     assert_eq!(stretch.judged_end, course.judged_end(m));
@@ -41,6 +43,10 @@ fn compare_stretch(stretch: &Recording, course: &Course, m: i64) {
     for (span, rest) in stretch.long_rests.iter().zip(rests) {
         assert_eq!(*span, rest.span);
         assert_eq!(stretch.previous_end(span.start), rest.previous_end);
+        for own in 0..=span.length() {
+            let counts = counts_under_rule_9(stretch, *span, own);
+            assert_eq!(counts, rest.is_shortened(own, stretch.limits));
+        }
     }
     let rule = fixed::broken_rule(stretch);
     match course.first_fixed_breach() {

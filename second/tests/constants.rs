@@ -1,11 +1,11 @@
-//! Each number of the document at its edge.
+//! Each number of the documents at its edge.
 
 mod shorthand;
 
 use second::fixed;
 use second::reading;
 use second::recording::{list_long_rests, weigh, Span, Weighing};
-use second::Refusal;
+use second::{Limits, Refusal};
 use shorthand::{around, assert_breach, assert_pass, judged, span, times, words};
 
 /// The answer of the fixed test for the whole recording.
@@ -309,6 +309,38 @@ fn rule_9() {
     };
     assert_eq!(carrying(1_920), 0);
     assert_eq!(carrying(1_919), 9);
+}
+
+/// Request 3: "an earlier rest of 180 to 539 minutes".
+#[test]
+fn rule_9_by_the_earlier_rest() {
+    let days = |earlier: i64| times(4, &format!("w100 r{earlier} w{} r600", 740 - earlier)) + "w1";
+    assert_breach(&days(179), 5_761, 6);
+    assert_pass(&days(180));
+    assert_pass(&days(539));
+    // More than that is a long rest, and then no rest of the day.
+    let limits = Limits::document();
+    assert_eq!(limits.earlier_rest_most + 1, limits.long_rest);
+    assert_breach(&(times(2, "w100 r540 w200 r600") + "w1"), 2_881, 6);
+}
+
+/// Request 3: "A daily rest with portion 540 or more".
+#[test]
+fn rule_9_by_the_later_portion() {
+    assert_pass(&(times(4, "w100 r180 w560 r540") + "w1"));
+    assert_pass(&(times(4, "w100 r180 w620 r600") + "w1"));
+    // Less than that breaks rule 7 or rule 5.
+    let limits = Limits::document();
+    assert_eq!(limits.later_portion, limits.daily_rest);
+    let by_the_window = limits.day_and_rest - limits.day_length;
+    assert_eq!(limits.later_portion, by_the_window);
+    let own = |length: i64| {
+        let shorthand = format!("r2699 w100 r180 w560 r{length} w1");
+        reading_rule(&shorthand, &[1, 0, 2, 0, 0, 0])
+    };
+    assert_eq!(own(541), 0);
+    assert_eq!(own(540), 7);
+    assert_eq!(fixed_rule("w100 r180 w621 r600 w1"), 5);
 }
 
 #[test]

@@ -1,12 +1,15 @@
 //! The model of fronts against the search: the front after the last long rest
 //! closes exactly where the recording has a lawful reading.
 
+mod shorthand;
+
 use second::dice::Dice;
 use second::fast::Judge;
 use second::fronts::Front;
 use second::grow;
 use second::runs::Course;
 use second::Limits;
+use shorthand::{times, words};
 
 /// Whether the recording has a reading that keeps rules 6 to 11, by the front,
 /// and how wide that was at its widest.
@@ -14,9 +17,7 @@ fn by_fronts(course: &Course) -> (bool, usize) {
     let mut front = Front::new(course.judged_end(course.total));
     let mut widest = front.width();
     for rest in &course.long_rests {
-        front = front
-            .after(rest.span, usize::MAX)
-            .expect("any width will do");
+        front = front.after(*rest, usize::MAX).expect("any width will do");
         widest = widest.max(front.width());
     }
     (front.closes(), widest)
@@ -56,6 +57,20 @@ fn ordinary_and_grown_recordings() {
     let ordinary = (0..100).map(|seed| grow::ordinary(&mut Dice::new(seed)));
     let (yes, no, _) = compare(grown.chain(ordinary));
     assert!(yes > 500 && no > 30);
+}
+
+#[test]
+fn split_recordings() {
+    let (yes, _, _) = compare((0..40).map(|seed| grow::split(&mut Dice::new(seed))));
+    let days = |count, earlier| {
+        let day = format!("w100 r{earlier} w{} r600 ", 740 - earlier);
+        words(&(times(count, &day) + "w1"))
+    };
+    let short = [3, 4, 5]
+        .into_iter()
+        .flat_map(|count| [179, 180, 539].map(|earlier| days(count, earlier)));
+    let (short_yes, no, _) = compare(short);
+    assert!(yes > 80 && short_yes > 10 && no > 1);
 }
 
 #[test]

@@ -7,6 +7,7 @@ use second::fixed;
 use second::grow;
 use second::reading::{self, entries};
 use second::recording::{minutes, total_minutes, weigh, Recording};
+use second::runs::Course;
 use second::verdict::Outcome;
 use second::Limits;
 
@@ -53,6 +54,42 @@ fn ordinary_weeks() {
         .collect();
     println!("ordinary: {} of 200 pass", passes(&outcomes));
     assert!(passes(&outcomes) > 100);
+}
+
+/// Days of three hours, then nine: most would be too many shortened ones without
+/// request 3.
+#[test]
+fn split_weeks() {
+    let recordings: Vec<_> = (0..60)
+        .map(|seed| grow::split(&mut Dice::new(seed)))
+        .collect();
+    let outcomes: Vec<_> = recordings.iter().map(|words| check(words)).collect();
+    let before = Limits {
+        earlier_rest_least: i64::MAX,
+        ..Limits::document()
+    };
+    let others = (recordings.iter().zip(&outcomes))
+        .filter(|(words, outcome)| Judge::new(words, &before).outcome() != **outcome)
+        .count();
+    let (held, days) = recordings
+        .iter()
+        .map(|words| held_rests(words))
+        .fold((0, 0), |(held, days), (more_held, more_days)| {
+            (held + more_held, days + more_days)
+        });
+    println!(
+        "split: {} of 60 pass, {others} other outcomes without request 3, {held} of {days} days",
+        passes(&outcomes)
+    );
+    assert!(passes(&outcomes) > 40 && others > 40 && 3 * held > days);
+}
+
+/// The long rests whose day holds an earlier rest of 180 to 539 minutes, and all.
+fn held_rests(words: &[u32]) -> (usize, usize) {
+    let limits = Limits::document();
+    let long_rests = Course::new(words, &limits).long_rests;
+    let held = long_rests.iter().filter(|rest| rest.earlier_rest);
+    (held.count(), long_rests.len())
 }
 
 #[test]

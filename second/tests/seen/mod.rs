@@ -1,6 +1,8 @@
 //! What a comparison has met, so that it can be seen to have met everything.
 
-use second::reading::{broken_reading_rule, entries, standings, Entry, Standing};
+use second::reading::{
+    broken_reading_rule, counts_under_rule_9, entries, standings, Entry, Standing,
+};
 use second::recording::Recording;
 use second::verdict::Outcome;
 
@@ -18,6 +20,8 @@ pub struct Seen {
     pub carried_by_reduced: usize,
     pub over_week_ends: usize,
     pub in_a_later_week: usize,
+    /// The daily rests with portion under 660 that do not count under rule 9.
+    pub freed: usize,
     /// For each rule, the changes of one byte of a first reading that break it
     /// before any other.
     pub broken: [usize; 12],
@@ -47,8 +51,14 @@ impl Seen {
     fn entries(&mut self, recording: &Recording, entries: &[Entry]) {
         let standings = standings(recording, entries).expect("a first reading keeps rule 6");
         for (index, entry) in entries.iter().enumerate() {
-            if entry.is_weekly() {
-                let rest = recording.long_rests[index];
+            let rest = recording.long_rests[index];
+            if !entry.is_weekly() {
+                let (limits, own) = (recording.limits, standings[index].1);
+                let previous_end = recording.previous_end(rest.start);
+                let portion = limits.portion(rest.start, own, previous_end);
+                let counts = counts_under_rule_9(recording, rest, own);
+                self.freed += usize::from(portion < limits.regular_daily_rest && !counts);
+            } else {
                 let first = recording.limits.week_of(rest.start);
                 self.weekly += 1;
                 self.over_week_ends += usize::from(first < recording.limits.week_of(rest.end - 1));
@@ -99,6 +109,7 @@ impl Seen {
         assert!(self.over_week_ends > 1_000 && self.in_a_later_week > 100);
         assert!(self.carried > 100);
         assert!(self.carried_by_daily > 20 && self.carried_by_reduced > 20);
+        assert!(self.freed > 100);
         assert!(self.broken[6..].iter().all(|&count| count > 0));
     }
 }
