@@ -70,11 +70,13 @@ fn kind(name: &str, count: u64, grow: impl Fn(&mut Dice) -> Vec<u32>) -> Kind {
     (name.to_owned(), recordings)
 }
 
-/// Ordinary weeks; grown rest by rest while lawful; grown to be hard; many rests just over 24 hours and few that can pay back; climbed
-/// to make the front of a sweep wide; the stored recordings that a search is slow on, and the one on which it goes deepest.
+/// Ordinary weeks; such weeks with many days of three hours of rest, then nine; grown rest by rest while lawful; grown to be hard; many
+/// rests just over 24 hours and few that can pay back; climbed to make the front of a sweep wide; the stored recordings that a search is
+/// slow on, and the one on which it goes deepest.
 fn kinds() -> Vec<Kind> {
     vec![
         kind("ordinary", 400, grow::ordinary),
+        kind("split", 100, grow::split),
         kind("grown", 200, grow::grown),
         kind("hard", 40, |dice| grow::hard(dice, 150)),
         kind("scarce", 100, grow::scarce),
