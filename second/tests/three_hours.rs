@@ -12,6 +12,7 @@ use second::reading::{self, broken_reading_rule, bytes, standings, Entry};
 use second::recording::{minutes, rests, weigh, word, Activity, Recording};
 use second::runs::{Course, LongRest};
 use second::small;
+use second::stepwise;
 use second::verdict::Outcome;
 use second::Limits;
 use shorthand::{assert_breach, assert_pass, judged, plainly, times, words};
@@ -574,4 +575,75 @@ fn verdicts_of_days_at_the_edges() {
     }
     println!("{passes} passes, {breaches} breaches, {others} others without request 3");
     assert!(passes > 100 && breaches > 100 && others > 50);
+}
+
+/// Limits under which weekly rests must follow one another soon, lack little, and are
+/// paid back soon; and a daily rest with an earlier one may pay back some of it and
+/// stay freed, but not all.
+fn limits_of_debts(dice: &mut Dice) -> Limits {
+    let mut pick = |least: u32, most: u32| i64::from(dice.between(least, most));
+    let (week, weekly_rest) = (pick(40, 70), pick(9, 10));
+    Limits {
+        total: 12 * week,
+        week,
+        long_rest: 4,
+        day_length: 24,
+        weekly_rest,
+        daily_rest: 4,
+        regular_weekly_rest: weekly_rest + pick(2, 3),
+        due_weeks: pick(1, 2),
+        day_and_rest: 40,
+        regular_daily_rest: 8,
+        earlier_rest_least: 1,
+        earlier_rest_most: 3,
+        later_portion: pick(5, 7),
+        reduced_daily_rests: pick(0, 1) as usize,
+        between_weekly_rests: pick(10, 30),
+        ..Limits::document()
+    }
+}
+
+/// Days of few minutes, most with an earlier rest, and a daily or a weekly rest.
+fn days_of_debts(dice: &mut Dice, limits: &Limits) -> Vec<u32> {
+    let (weekly, regular) = (limits.weekly_rest as u32, limits.regular_weekly_rest as u32);
+    let mut words = Vec::new();
+    for _ in 0..dice.between(3, 7) {
+        words.push(word(1, Activity::Work));
+        if !dice.one_in(4) {
+            words.extend([word(1, Activity::Rest), word(1, Activity::Work)]);
+        }
+        let rest = match dice.below(2) {
+            0 => dice.between(4, 8),
+            _ => dice.between(weekly, regular),
+        };
+        words.push(word(rest, Activity::Rest));
+    }
+    words.push(word(dice.between(1, 20), Activity::Work));
+    words
+}
+
+/// The search against readings entry by entry, where rests that request 3 frees pay
+/// back.
+#[test]
+fn freed_rests_that_pay_back() {
+    let mut dice = Dice::new(36);
+    let (mut lawful, mut none, mut others) = (0, 0, 0);
+    for _ in 0..60_000 {
+        let limits = limits_of_debts(&mut dice);
+        let words = days_of_debts(&mut dice, &limits);
+        let minutes = minutes(&words);
+        let total = minutes.len() as i64;
+        let recording = Recording::new(&minutes, &limits);
+        let Ok(expected) = stepwise::first_lawful(&recording, 20_000) else {
+            continue;
+        };
+        let found = Judge::new(&words, &limits).first_reading(total);
+        assert_eq!(expected, found, "{limits:?} {words:?}");
+        lawful += usize::from(found.is_some());
+        none += usize::from(found.is_none());
+        let before = Judge::new(&words, &without_request_3(&limits)).first_reading(total);
+        others += usize::from(before != found);
+    }
+    println!("{lawful} with a reading, {none} without, {others} others without request 3");
+    assert!(lawful > 10_000 && none > 10_000 && others > 3_000);
 }
