@@ -13,6 +13,7 @@ pub struct Plan {
     pub random: u64,
     pub few_days: u64,
     pub breaks: u64,
+    pub split_rests: u64,
     pub ordinary: u64,
     pub grown: u64,
     /// Of each grown recording, so many cuts and as many changed ones.
@@ -68,6 +69,7 @@ pub fn each_recording(plan: &Plan, visit: VisitRecording) -> bool {
         && recordings_of(plan.few_days, 2, "few days", recordings::few_days, visit)
         && few_days_changed(plan, visit)
         && recordings_of(plan.breaks, 9, "breaks", recordings::breaks, visit)
+        && split_rests(plan, visit)
         && recordings_of(plan.ordinary, 4, "ordinary weeks", grow::ordinary, visit)
         && grown(plan, visit)
         && recordings_of(plan.hard, 6, "hard", |dice| grow::hard(dice, 150), visit)
@@ -163,9 +165,27 @@ fn recordings_of(
     (0..count).all(|number| {
         let mut dice = Dice::new(1_000_000 * seed + number);
         let words = make(&mut dice);
-        let words = recordings::setting_off(&mut dice, words);
+        let words = with_rests(&mut dice, words);
         one(kind, &words, &mut dice, visit)
     })
+}
+
+/// With rests before setting off, and with rests of three hours or more, now and then.
+fn with_rests(dice: &mut Dice, words: Vec<u32>) -> Vec<u32> {
+    let words = recordings::setting_off(dice, words);
+    recordings::three_hours(dice, words)
+}
+
+/// Days of three hours, then nine, and such days changed.
+fn split_rests(plan: &Plan, visit: VisitRecording) -> bool {
+    let make = |dice: &mut Dice| {
+        let words = recordings::split_rests(dice);
+        match dice.below(4) {
+            0 => recordings::changed(dice, &words),
+            _ => words,
+        }
+    };
+    recordings_of(plan.split_rests, 10, "split rests", make, visit)
 }
 
 fn few_days_changed(plan: &Plan, visit: VisitRecording) -> bool {
@@ -185,9 +205,9 @@ fn grown(plan: &Plan, visit: VisitRecording) -> bool {
         one("grown", &words, &mut dice, visit)
             && (0..plan.stages).all(|_| {
                 let cut = recordings::cut(&mut dice, &words);
-                let cut = recordings::setting_off(&mut dice, cut);
+                let cut = with_rests(&mut dice, cut);
                 let changed = recordings::changed(&mut dice, &words);
-                let changed = recordings::setting_off(&mut dice, changed);
+                let changed = with_rests(&mut dice, changed);
                 one("while growing", &cut, &mut dice, visit)
                     && one("grown, changed", &changed, &mut dice, visit)
             })

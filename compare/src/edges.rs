@@ -29,7 +29,8 @@ fn whole(words: Vec<u32>) -> Edge {
     }
 }
 
-/// "On the edge", the case of request 2, and the figures of source document 000.
+/// "On the edge", the cases of requests 2 and 3, and the figures of source document
+/// 000.
 pub fn on_the_edge() -> Vec<Edge> {
     let mut edges: Vec<Edge> = [
         "",
@@ -51,6 +52,7 @@ pub fn on_the_edge() -> Vec<Edge> {
     for count in [3, 4] {
         edges.push(edge(&(times(count, "w840 r600") + "w1")));
     }
+    edges.push(edge(&(times(4, "w300 r180 w360 r600") + "w1")));
     for tail in ["", "w1"] {
         edges.push(edge(&(times(6, "w780 r660") + tail)));
     }
@@ -111,6 +113,8 @@ pub fn constants() -> Vec<Edge> {
     for change in [-1, 0, 1] {
         edges.extend(fixed_rules(change));
         edges.extend(first_parts(change));
+        edges.extend(earlier_rests(change));
+        edges.extend(loads(change));
         edges.extend(readings(change));
         edges.extend(weekly_rests(change));
         edges.extend(whole_days(change));
@@ -198,6 +202,75 @@ fn first_parts(change: i64) -> Vec<Edge> {
             format!("r15 w1 r{} d270 r30 d1", at(30)),
         ] {
             edges.push(edge(&format!("{before} {runs}")));
+        }
+    }
+    edges
+}
+
+/// Days of three hours, then nine: the rest of three hours at its edges, in the day,
+/// in another and at minute 0; and the later one, by its length and by its start.
+fn earlier_rests(change: i64) -> Vec<Edge> {
+    let at = |edge: i64| edge + change;
+    let counted = |count| times(count, "w840 r600");
+    let mut edges: Vec<Edge> = [
+        format!("w300 r{} w360 r600", at(180)),
+        format!("w1 r{} w659 r600", at(180)),
+        format!("w658 r{} w1 r600", at(180)),
+        format!("w100 r{} w200 r600", at(539)),
+        format!("w300 r180 w{} r600", at(360)),
+        format!("w300 r180 w{} r600", at(420)),
+        format!("w300 r179 w{} r600", at(421)),
+        format!("w300 r179 w{} r700", at(301)),
+        format!("w300 r180 w{} r700", at(300)),
+        format!("w300 r180 w360 r{}", at(540)),
+        format!("w300 r180 w300 r{}", at(660)),
+        format!("w300 r179 w301 r{}", at(660)),
+        format!("w100 r{} w200 r179 w181 r600", at(180)),
+        format!("w300 r90 r{} w360 r600", at(90)),
+        format!("w300 r90 w1 r{} w359 r600", at(90)),
+        format!("w300 a{} w360 r600", at(180)),
+    ]
+    .iter()
+    .map(|day| edge(&(times(4, day) + "w1")))
+    .collect();
+    for day in [
+        format!("w300 r{} w360", at(180)),
+        format!("w100 r{} w200", at(539)),
+        format!("r{} w660", at(180)),
+        format!("r{} w300", at(539)),
+    ] {
+        edges.push(edge(&format!("{day} r600 {}w1", counted(3))));
+        edges.push(edge(&format!("{day} r600 {}w1", counted(4))));
+        edges.push(edge(&format!("{}w1 {day} r600 w1", counted(3))));
+        edges.push(edge(&format!("{}w1 {day} r600 w1", counted(4))));
+        edges.push(edge(&format!("{}w1 {day} r600", counted(3))));
+    }
+    for length in [at(1_440), 1_500, at(2_700)] {
+        let shorthand = format!("{}w300 r{} w360 r{length} w1", counted(3), at(180));
+        let weekly = [&[0; 9][..], &[1, 0, 0]].concat();
+        edges.push(read(&shorthand, &[&[0; 12], &weekly]));
+    }
+    edges
+}
+
+/// A weekly rest, a day whose rest pays back what that lacks, and days whose rests
+/// count.
+fn loads(change: i64) -> Vec<Edge> {
+    let mut edges = Vec::new();
+    for (weekly, debt) in [(2_699, 1), (2_640, 60), (1_440, 1_260)] {
+        for (day, own) in [
+            ("w300 r180 w360", 540),
+            ("w300 r179 w361", 540),
+            ("w100 r539 w201", 540),
+            ("w300 r180 w300", 660),
+            ("w300 r179 w301", 660),
+            ("w300 r180 w420", 600),
+        ] {
+            let days = times(3, "w840 r600");
+            let shorthand = format!("r{weekly} {day} r{} {days}w1", own + debt + change);
+            let carried = [&[1, 0, 2][..], &[0; 12]].concat();
+            let unpaid = [&[1, 0, 0][..], &[0; 12]].concat();
+            edges.push(read(&shorthand, &[&carried, &unpaid, &[0; 15]]));
         }
     }
     edges

@@ -1,6 +1,5 @@
 //! Request 2: "a rest is a first part only if driving has been done since the
-//! sum was last cleared, or since minute 0 if it never was." Two mistakes about
-//! it: the programs that make them, and the inputs that could show them.
+//! sum was last cleared, or since minute 0 if it never was." Two mistakes about it.
 
 use second::fast::Judge;
 use second::fixed;
@@ -11,10 +10,11 @@ use second::verdict::Outcome;
 use second::Limits;
 
 use crate::cards::split_at;
-use crate::operation::{answer, one, second, verdict_answer, Answer, Input, Operation};
+use crate::mistake::{judged_words, Mistake};
+use crate::operation::{answer, one, verdict_answer, Answer, Input, Operation};
 
 /// The operations that rely on the break sum.
-pub const JUDGING: [Operation; 3] = [
+const JUDGING: [Operation; 3] = [
     Operation::FixedTest,
     Operation::ReadingTest,
     Operation::Verdict,
@@ -28,119 +28,64 @@ struct Driven {
     since_cleared: bool,
 }
 
-/// A wrong word on when such a rest is a first part. An input with a rest that is
-/// wrongly taken as one is counted in either of two rows: the mistake makes another
-/// answer of it, or the same.
-struct Mistake {
-    first_part: fn(Driven) -> bool,
-    other_answer: &'static str,
-    same_answer: &'static str,
+/// A word on when such a rest is a first part.
+type FirstPart = fn(Driven) -> bool;
+
+fn any_rest(_: Driven) -> bool {
+    true
+}
+
+fn since_minute_0(driven: Driven) -> bool {
+    driven.since_minute_0
 }
 
 /// Every such rest, also before any driving.
-const ANY_REST: Mistake = Mistake {
-    first_part: |_| true,
+pub const ANY_REST: Mistake = Mistake {
+    judging: &JUDGING,
+    is_made: |words| is_made(any_rest, words),
+    answer: |operation, input| wrong_answer(any_rest, operation, input),
     other_answer: "any rest: other answer",
     same_answer: "any rest: same answer",
 };
 
 /// After any driving, also where the sum has been cleared since.
-const SINCE_MINUTE_0: Mistake = Mistake {
-    first_part: |driven| driven.since_minute_0,
+pub const SINCE_MINUTE_0: Mistake = Mistake {
+    judging: &JUDGING,
+    is_made: |words| is_made(since_minute_0, words),
+    answer: |operation, input| wrong_answer(since_minute_0, operation, input),
     other_answer: "since 0: other answer",
     same_answer: "since 0: same answer",
 };
 
-/// All the rows.
-pub const SIDES: [&str; 4] = [
-    ANY_REST.other_answer,
-    ANY_REST.same_answer,
-    SINCE_MINUTE_0.other_answer,
-    SINCE_MINUTE_0.same_answer,
-];
+/// Whether some rest of the recording is wrongly taken as a first part.
+fn is_made(first_part: FirstPart, words: &[u32]) -> bool {
+    let mut made = false;
+    breach_of_rule_1(words, &mut |driven| {
+        made |= first_part(driven) && !driven.since_cleared;
+        driven.since_cleared
+    });
+    made
+}
 
-/// The rows in which an input is counted, by its right answer.
-pub fn sides(operation: Operation, input: &Input, right: &Answer) -> Vec<&'static str> {
-    if !judges(operation, right) {
-        return Vec::new();
-    }
+fn wrong_answer(first_part: FirstPart, operation: Operation, input: &Input) -> Answer {
     let words = judged_words(operation, input);
-    let made = [ANY_REST, SINCE_MINUTE_0].into_iter();
-    made.filter(|mistake| mistake.is_made(&words))
-        .map(|mistake| {
-            if mistake.answer(operation, input) == *right {
-                mistake.same_answer
-            } else {
-                mistake.other_answer
-            }
-        })
-        .collect()
-}
-
-/// The second program, but a rest before any driving is a first part too.
-pub fn any_rest(operation: Operation, input: &Input) -> Answer {
-    ANY_REST.program(operation, input)
-}
-
-/// The second program, but driving before the sum was cleared is enough.
-pub fn since_minute_0(operation: Operation, input: &Input) -> Answer {
-    SINCE_MINUTE_0.program(operation, input)
-}
-
-impl Mistake {
-    fn program(&self, operation: Operation, input: &Input) -> Answer {
-        let right = second(operation, input);
-        if judges(operation, &right) {
-            self.answer(operation, input)
-        } else {
-            right
-        }
+    let breach = breach_of_rule_1(&words, &mut |driven| first_part(driven));
+    let without_rule_1 = Limits {
+        unbroken_driving: i64::MAX,
+        ..Limits::document()
+    };
+    if operation == Operation::Verdict {
+        let outcome = outcome(&words, &without_rule_1, breach);
+        return verdict_answer(&outcome, input);
     }
-
-    /// Whether some rest of the recording is wrongly taken as a first part.
-    fn is_made(&self, words: &[u32]) -> bool {
-        let mut made = false;
-        breach_of_rule_1(words, &mut |driven| {
-            made |= (self.first_part)(driven) && !driven.since_cleared;
-            driven.since_cleared
-        });
-        made
-    }
-
-    /// What an operation that relies on the break sum answers, if not a refusal.
-    fn answer(&self, operation: Operation, input: &Input) -> Answer {
-        let words = judged_words(operation, input);
-        let breach = breach_of_rule_1(&words, &mut |driven| (self.first_part)(driven));
-        let without_rule_1 = Limits {
-            unbroken_driving: i64::MAX,
-            ..Limits::document()
-        };
-        if operation == Operation::Verdict {
-            let outcome = outcome(&words, &without_rule_1, breach);
-            return verdict_answer(&outcome, input);
-        }
-        let minutes = minutes(&words);
-        let recording = Recording::new(&minutes, &without_rule_1);
-        let rule = match operation {
-            _ if breach.is_some() => 1,
-            Operation::FixedTest => fixed::broken_rule(&recording),
-            _ => reading::broken_rule(&recording, &entries(&input.bytes)),
-        };
-        answer(Ok(one(rule)), input.clone())
-    }
-}
-
-/// Whether the operation relies on the break sum and does not refuse.
-fn judges(operation: Operation, answer: &Answer) -> bool {
-    JUDGING.contains(&operation) && answer.told.is_ok()
-}
-
-/// The recording, or the stretch of it that is tested.
-fn judged_words(operation: Operation, input: &Input) -> Vec<u32> {
-    match operation {
-        Operation::FixedTest => split_at(&input.words, input.number as u32).0,
-        _ => input.words.clone(),
-    }
+    let minutes = minutes(&words);
+    let recording = Recording::new(&minutes, &without_rule_1);
+    let rule = match operation {
+        _ if breach.is_some() => 1,
+        Operation::FixedTest => fixed::broken_rule(&recording),
+        _ => reading::broken_rule(&recording, &entries(&input.bytes)),
+    };
+    answer(Ok(one(rule)), input.clone())
 }
 
 /// The outcome of a recording whose rule 1 is broken at this minute.

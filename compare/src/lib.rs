@@ -8,9 +8,11 @@ pub mod difference;
 mod edges;
 pub mod first_part;
 pub mod inputs;
+pub mod mistake;
 pub mod operation;
 mod recordings;
 #[path = "../../second/tests/shorthand/mod.rs"]
 mod shorthand;
 pub mod shrink;
+pub mod split_rest;
 pub mod tally;

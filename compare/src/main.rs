@@ -24,6 +24,7 @@ fn main() {
         random: 9_000,
         few_days: 5_000,
         breaks: 4_000,
+        split_rests: 4_000,
         ordinary: 1_500,
         grown: 240,
         stages: 5,

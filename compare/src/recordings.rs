@@ -144,6 +144,127 @@ fn is_break(word: u32) -> bool {
     word_activity(word) == Activity::Rest && word_minutes(word) >= 45
 }
 
+/// Four to eight days, most of 13 to 15 hours, with a rest of nine to eleven hours
+/// after each. Some or most of them, or of the first few, hold a rest of about three
+/// hours, of up to nine, or two of them; one may begin at minute 0. Now and then
+/// there is a weekly rest between, and a rest after it that could pay back what it
+/// lacks.
+pub fn split_rests(dice: &mut Dice) -> Vec<u32> {
+    let mut words = Vec::new();
+    let with_a_rest = one_of(dice, &[1, 2, 3, 7]);
+    let (days, the_first) = (dice.between(4, 8), one_of(dice, &[8, 8, 1, 2]));
+    let mut lacking = 0;
+    for day in 0..days {
+        let with_a_rest = if day < the_first { with_a_rest } else { 0 };
+        split_day(dice, day == 0, with_a_rest, &mut words);
+        let rest = match dice.weighted(&[16, 1, 1]) {
+            0 => nine_hours_or_more(dice) + one_of(dice, &[0, lacking]),
+            1 => one_of(dice, &[1_440, 2_100, 2_640, 2_699, 2_700]),
+            _ => dice.between(660, 1_440),
+        };
+        lacking = if rest < 1_440 { 0 } else { 2_700 - rest };
+        words.push(word(rest, Activity::Rest));
+    }
+    words.extend((!dice.one_in(8)).then(|| other_duty(dice)));
+    words
+}
+
+/// Duty up to the start of a long rest, with none, one or two rests in it.
+fn split_day(dice: &mut Dice, first: bool, with_a_rest: u32, words: &mut Vec<u32>) {
+    let any = dice.between(400, 900);
+    let mut left = one_of(dice, &[any, 780, 781, 840, 899, 900, 900, 840]);
+    if first && dice.one_in(4) {
+        let rest = three_hours_or_so(dice, left - 1);
+        words.push(word(rest, Activity::Rest));
+        left -= rest;
+    }
+    for _ in 0..dice.weighted(&[2, 2 * with_a_rest, with_a_rest.min(1)]) {
+        if left > 400 {
+            let duty = dice.between(1, left - 182);
+            let rest = three_hours_or_so(dice, left - duty - 1);
+            words.extend([word(duty, any_duty(dice)), word(rest, Activity::Rest)]);
+            left -= duty + rest;
+        }
+    }
+    words.push(word(left, any_duty(dice)));
+}
+
+/// A rest about as long as three hours or as 539 minutes, or between, but no longer
+/// than fits in.
+fn three_hours_or_so(dice: &mut Dice, fits: u32) -> u32 {
+    let (short, any) = (dice.between(180, 300), dice.between(180, 539));
+    let edges = [179, 179, 180, 180, 181, short, any, 538, 539];
+    one_of(dice, &edges).min(fits)
+}
+
+/// The length of a daily rest that counts as shortened, or nearly.
+fn nine_hours_or_more(dice: &mut Dice) -> u32 {
+    let any = dice.between(540, 659);
+    one_of(dice, &[any, any, 540, 541, 600, 659, 660])
+}
+
+fn any_duty(dice: &mut Dice) -> Activity {
+    one_of(
+        dice,
+        &[Activity::Work, Activity::Work, Activity::Availability],
+    )
+}
+
+/// One recording in four with a rest of about three hours or more in some or most of
+/// its days, if it fits in: days of up to 15 hours before a daily rest, which is as
+/// much shorter then, or of nine to eleven hours.
+pub fn three_hours(dice: &mut Dice, words: Vec<u32>) -> Vec<u32> {
+    if !dice.one_in(4) {
+        return words;
+    }
+    let one_day_in = one_of(dice, &[1, 1, 2, 3]);
+    let mut changed = Vec::new();
+    let mut day = Vec::new();
+    for &next in &words {
+        if !is_long_rest(next) {
+            day.push(next);
+            continue;
+        }
+        let minutes = word_minutes(next) as u32;
+        let duty = total_minutes(&day);
+        if (1..=720).contains(&duty) && minutes < 1_440 && dice.one_in(one_day_in) {
+            let rest = three_hours_or_so(dice, 900 - duty as u32);
+            put_in(dice, rest, &mut day);
+            let shorter = minutes.saturating_sub(rest).max(540);
+            let long_rest = one_of(dice, &[shorter, shorter.min(659)]);
+            changed.append(&mut day);
+            changed.push(word(long_rest, Activity::Rest));
+        } else {
+            changed.append(&mut day);
+            changed.push(next);
+        }
+    }
+    changed.append(&mut day);
+    if total_minutes(&changed) > Limits::document().total {
+        return words;
+    }
+    changed
+}
+
+/// Puts a rest into a day: within one of its duties, or before its last minute.
+fn put_in(dice: &mut Dice, rest: u32, day: &mut Vec<u32>) {
+    let can_be_cut = |&index: &usize| {
+        word_activity(day[index]) != Activity::Rest && word_minutes(day[index]) > 1
+    };
+    let duties: Vec<usize> = (0..day.len()).filter(can_be_cut).collect();
+    if duties.is_empty() {
+        day.extend([word(rest, Activity::Rest), word(1, Activity::Work)]);
+        return;
+    }
+    let index = one_of(dice, &duties);
+    split(dice, day, index);
+    day.insert(index + 1, word(rest, Activity::Rest));
+}
+
+fn is_long_rest(word: u32) -> bool {
+    word_activity(word) == Activity::Rest && word_minutes(word) >= 540
+}
+
 /// The recording cut at some word, as it was while it grew.
 pub fn cut(dice: &mut Dice, words: &[u32]) -> Vec<u32> {
     let end = dice.below(words.len() as u32 + 1) as usize;

@@ -11,6 +11,7 @@ use compare::cases::{self, Plan};
 use compare::difference::{compared, smallest, Difference};
 use compare::first_part;
 use compare::operation::{second, verdict_answer, Answer, Input, Operation, Program};
+use compare::split_rest;
 
 use crate::desk::desk;
 
@@ -23,7 +24,7 @@ struct Wrong {
     most_bytes: usize,
 }
 
-const WRONG: [Wrong; 10] = [
+const WRONG: [Wrong; 12] = [
     Wrong {
         name: "rule 10 a minute late",
         program: rule_10_a_minute_late,
@@ -74,15 +75,27 @@ const WRONG: [Wrong; 10] = [
     },
     Wrong {
         name: "a first part before any driving",
-        program: first_part::any_rest,
+        program: |operation, input| first_part::ANY_REST.program(operation, input),
         most_words: 4,
         most_bytes: 0,
     },
     Wrong {
         name: "a first part by driving before the sum was cleared",
-        program: first_part::since_minute_0,
+        program: |operation, input| first_part::SINCE_MINUTE_0.program(operation, input),
         most_words: 7,
         most_bytes: 0,
+    },
+    Wrong {
+        name: "nine hours that count after three",
+        program: |operation, input| split_rest::NEVER.program(operation, input),
+        most_words: 10,
+        most_bytes: 12,
+    },
+    Wrong {
+        name: "nine hours that three of a day before free",
+        program: |operation, input| split_rest::ANY_DAY.program(operation, input),
+        most_words: 12,
+        most_bytes: 15,
     },
 ];
 
@@ -91,6 +104,7 @@ const PLAN: Plan = Plan {
     random: 50,
     few_days: 50,
     breaks: 20,
+    split_rests: 20,
     ordinary: 5,
     grown: 0,
     stages: 0,

@@ -2,12 +2,12 @@
 
 use std::collections::BTreeSet;
 
-use crate::first_part::{self, JUDGING, SIDES};
 use crate::inputs::Try;
+use crate::mistake::{Mistake, REQUESTS};
 use crate::operation::{Answer, Operation};
 
-/// The inputs on each side of request 2 that an operation is compared on at least.
-const EACH_SIDE: usize = 500;
+/// The inputs in each row of a mistake that an operation is compared on at least.
+const EACH_ROW: usize = 500;
 
 /// A number for each operation.
 type Counts = [usize; Operation::ALL.len()];
@@ -31,6 +31,20 @@ impl Table {
         at.map_or(0, |(_, counts)| counts[operation as usize])
     }
 
+    /// The rows of a mistake that have too few inputs of an operation.
+    fn too_few(&self, mistake: &Mistake) -> Vec<String> {
+        let mut too_few = Vec::new();
+        for &operation in mistake.judging {
+            for row in mistake.rows() {
+                let count = self.counted(row, operation);
+                if count < EACH_ROW {
+                    too_few.push(format!("{}: {row} {count} times", operation.name()));
+                }
+            }
+        }
+        too_few
+    }
+
     fn sums(&self) -> Counts {
         let mut sums = Counts::default();
         for (_, counts) in &self.0 {
@@ -42,13 +56,13 @@ impl Table {
     }
 
     fn print(&self, title: &str) {
-        print!("{title:22}");
+        print!("{title:26}");
         for operation in Operation::ALL {
             print!("{:>10}", operation.short_name());
         }
         println!();
         for (row, counts) in &self.0 {
-            print!("{row:22}");
+            print!("{row:26}");
             for &count in counts {
                 match count {
                     0 => print!("{:>10}", "-"),
@@ -64,8 +78,8 @@ impl Table {
 pub struct Tally {
     kinds: Table,
     variants: Table,
-    /// By whether a mistake about first parts would show.
-    first_parts: Table,
+    /// By whether a mistake about a request would show.
+    mistakes: [Table; REQUESTS.len()],
     /// The refusals, rules and articles that each operation answered with.
     told: BTreeSet<(usize, String)>,
 }
@@ -75,8 +89,12 @@ impl Tally {
         let operation = attempt.operation;
         self.kinds.count(kind, operation);
         self.variants.count(attempt.variant, operation);
-        for side in first_part::sides(operation, &attempt.input, answer) {
-            self.first_parts.count(side, operation);
+        for (table, request) in self.mistakes.iter_mut().zip(REQUESTS) {
+            for mistake in request.mistakes {
+                if let Some(row) = mistake.row(operation, &attempt.input, answer) {
+                    table.count(row, operation);
+                }
+            }
         }
         self.told
             .insert((operation as usize, class(operation, answer)));
@@ -91,17 +109,19 @@ impl Tally {
         println!();
         self.variants.print("beside them");
         println!();
-        self.first_parts.print("first part by mistake");
-        println!();
-        print!("{:22}", "inputs");
+        for (table, request) in self.mistakes.iter().zip(REQUESTS) {
+            table.print(request.title);
+            println!();
+        }
+        print!("{:26}", "inputs");
         for sum in self.kinds.sums() {
             print!("{sum:10}");
         }
         println!();
     }
 
-    /// The operations with fewer inputs than asked for, also on one side of
-    /// request 2, and the answers that were never met.
+    /// The operations with fewer inputs than asked for, also in a row of a mistake,
+    /// and the answers that were never met.
     pub fn missing(&self, at_least: usize) -> Vec<String> {
         let mut missing = Vec::new();
         for (operation, sum) in Operation::ALL.into_iter().zip(self.kinds.sums()) {
@@ -114,12 +134,9 @@ impl Tally {
                 }
             }
         }
-        for operation in JUDGING {
-            for side in SIDES {
-                let count = self.first_parts.counted(side, operation);
-                if count < EACH_SIDE {
-                    missing.push(format!("{}: {side} {count} times", operation.name()));
-                }
+        for (table, request) in self.mistakes.iter().zip(REQUESTS) {
+            for mistake in request.mistakes {
+                missing.extend(table.too_few(mistake));
             }
         }
         missing

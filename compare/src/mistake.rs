@@ -1,0 +1,78 @@
+//! Wrong words on a rule that a request changed: the programs that go by them, and
+//! the inputs that could show them.
+
+use crate::cards::split_at;
+use crate::first_part;
+use crate::operation::{second, Answer, Input, Operation};
+use crate::split_rest;
+
+/// A wrong word on a rule. An input that it goes wrong on is counted in either of two
+/// rows: the mistake makes another answer of it, or the same.
+pub struct Mistake {
+    /// The operations that rely on the rule.
+    pub judging: &'static [Operation],
+    /// Whether it goes wrong somewhere in a recording.
+    pub is_made: fn(&[u32]) -> bool,
+    /// What such an operation answers by it, if not a refusal.
+    pub answer: fn(Operation, &Input) -> Answer,
+    pub other_answer: &'static str,
+    pub same_answer: &'static str,
+}
+
+/// The mistakes about one request, as a table of the tally.
+pub struct About {
+    pub title: &'static str,
+    pub mistakes: &'static [Mistake],
+}
+
+pub const REQUESTS: [About; 2] = [
+    About {
+        title: "first part by mistake",
+        mistakes: &[first_part::ANY_REST, first_part::SINCE_MINUTE_0],
+    },
+    About {
+        title: "rule 9 by mistake",
+        mistakes: &[split_rest::NEVER, split_rest::ANY_DAY],
+    },
+];
+
+impl Mistake {
+    /// The second program, but for this mistake.
+    pub fn program(&self, operation: Operation, input: &Input) -> Answer {
+        let right = second(operation, input);
+        if self.judges(operation, &right) {
+            (self.answer)(operation, input)
+        } else {
+            right
+        }
+    }
+
+    /// The row in which an input is counted, by its right answer.
+    pub fn row(&self, operation: Operation, input: &Input, right: &Answer) -> Option<&'static str> {
+        let made = self.judges(operation, right) && (self.is_made)(&judged_words(operation, input));
+        made.then(|| {
+            if (self.answer)(operation, input) == *right {
+                self.same_answer
+            } else {
+                self.other_answer
+            }
+        })
+    }
+
+    pub fn rows(&self) -> [&'static str; 2] {
+        [self.other_answer, self.same_answer]
+    }
+
+    /// Whether the operation relies on the rule and does not refuse.
+    fn judges(&self, operation: Operation, answer: &Answer) -> bool {
+        self.judging.contains(&operation) && answer.told.is_ok()
+    }
+}
+
+/// The recording, or the stretch of it that is tested.
+pub fn judged_words(operation: Operation, input: &Input) -> Vec<u32> {
+    match operation {
+        Operation::FixedTest => split_at(&input.words, input.number as u32).0,
+        _ => input.words.clone(),
+    }
+}
