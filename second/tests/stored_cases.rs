@@ -29,6 +29,11 @@ impl Lines {
         self.case(shorthand, shorthand);
     }
 
+    fn repeated(&mut self, count: usize, day: &str, then: &str) {
+        let name = format!("{count} times ({day}), {then}");
+        self.case(&name, &(times(count, day) + then));
+    }
+
     fn weeks(&mut self, name: &str, rests: &[u32]) {
         self.case(name, &tight_weeks(rests));
     }
@@ -108,6 +113,21 @@ fn first_parts(lines: &mut Lines) {
     ] {
         lines.runs(shorthand);
     }
+}
+
+fn split_days(lines: &mut Lines) {
+    lines.repeated(4, "w300 r180 w360 r600", "w1");
+    lines.repeated(4, "w300 r179 w361 r600", "w1");
+    lines.repeated(4, "w100 r539 w101 r600", "w1");
+    lines.repeated(4, "w100 r540 w101 r600", "w1");
+    lines.repeated(4, "w100 r180 w100 r200 w260 r600", "w1");
+    lines.runs("r180 w660 r600 w840 r600 w840 r600 w840 r600 w1");
+    lines.runs("r179 w661 r600 w840 r600 w840 r600 w840 r600 w1");
+    lines.repeated(3, "w840 r600", "w300 r180 w360 r600 w1");
+    lines.repeated(3, "w840 r600", "w300 r180 w300 r660 w840 r600 w1");
+    lines.repeated(4, "w840 r600", "w300 r180 w1");
+    lines.repeated(4, "w300 r180 w420 r600", "w1");
+    lines.repeated(4, "w300 r180 w421 r600", "w1");
 }
 
 fn articles(lines: &mut Lines) {
@@ -221,6 +241,7 @@ fn stored_answers() {
     let mut lines = Lines::default();
     edges(&mut lines);
     first_parts(&mut lines);
+    split_days(&mut lines);
     articles(&mut lines);
     figures(&mut lines);
     weeks_and_debts(&mut lines);
