@@ -2,6 +2,7 @@ pub mod FirstLaws
 pub mod RuleLaws
 pub mod FixedPrefix
 pub mod SplitDays
+pub mod EntryPlaces
 pub mod ReadingPrefix
 pub mod Prefix
 pub mod Breach

@@ -2,8 +2,8 @@
 -- Assumes nothing.
 use mathlib.Core.Path.{_≡_}
 use mathlib.Core.Bool.{Bool, true, false}
-use mathlib.Core.List.{List, [], _∷_, _++_, map}
-use Prim.Native.Nat.{ℕ, zero, suc, _*_, _<_}
+use mathlib.Core.List.{List, [], _∷_, _++_, map, List·Memᴰ as In}
+use Prim.Native.Nat.{ℕ, zero, suc, _*_, _≤_, _<_}
 use native.Mathlib.Nat.{le-trans}
 use native.Mathlib.Omega.{arith}
 use lib.Dec.{leb}
@@ -12,14 +12,14 @@ use Rattle.recording.specs.Tests.{pick, allOf}
 use Rattle.recording.specs.Rests.{judgedEnd, longRests}
 use Rattle.recording.proofs.Walks.{judged-within, judged-mono}
 use Rattle.recording.proofs.LongRests.{rests-ordered, restsPast, rests-split, past-ordered}
-use Rattle.rules.specs.Reading.{entries, entryBytes, readingSize, restrictFrom, restricted}
+use Rattle.rules.specs.Reading.{Entry, entries, entryBytes, readingSize, restrictFrom, restricted}
 use Rattle.rules.specs.ReadingRules.{formed, rule6, rule7, rule8, rule9, rule10}
 use Rattle.rules.specs.Order.{byteValues, Bytes}
 use Rattle.rules.specs.Verdict.{lawful, prefix}
 use Rattle.rules.proofs.RuleLaws.{AllRules, lawful-rules, rules-lawful}
 use Rattle.rules.proofs.FixedPrefix.{fixed-prefix}
-use Rattle.rules.proofs.ReadingPrefix.{cut, entries-cut, Parts, parts, all-cut, formed-cut, long-cut, compensated-cut, Started, started, counts-cut}
-use Rattle.rules.proofs.ReadingPrefix.{prefix9, prefix10, rest-only-prefix, prefix11}
+use Rattle.rules.proofs.EntryPlaces.{entry-at}
+use Rattle.rules.proofs.ReadingPrefix.{cut, entries-cut, Parts, parts, all-cut, formed-cut, long-cut, compensated-cut, counts-cut, prefix9, prefix10, rest-only-prefix, prefix11}
 
 module _ (xs ys bytes : List ℕ) (a : AllRules (xs ++ ys) bytes) where
   -- the entries of the stretch, and those past it
@@ -34,9 +34,9 @@ module _ (xs ys bytes : List ℕ) (a : AllRules (xs ++ ys) bytes) where
   unfolding entries restricted
   shorter = entries-cut (length (longRests xs)) 1 0 [] (longRests xs) bytes (omega arith) (omega arith)
 
-  begun : Started (judgedEnd xs) (entries (longRests xs) bytes)
+  started : (e : Entry) → In e (entries (longRests xs) bytes) → e .span .start ≤ judgedEnd xs
   unfolding entries
-  begun = started 1 0 [] bytes (rests-ordered xs)
+  started e i = let a = entry-at 1 0 [] bytes (rests-ordered xs) e i .1 in omega (arith, a .ordered, a .over)
 
   six-whole : allOf (formed (length (longRests xs ++ restsPast xs ys))) (entries (longRests xs) bytes ++ split .later) ≡ true
   unfolding rule6
@@ -56,7 +56,7 @@ module _ (xs ys bytes : List ℕ) (a : AllRules (xs ++ ys) bytes) where
         six = rw shorter (all-cut k _ _ _ (λ e u v. formed-cut k _ e u) es fs six-whole six-whole);
         seven = rw shorter (all-cut k _ _ _ (λ e u v. long-cut k e u) es fs seven-whole seven-whole);
         eight = rw shorter (all-cut k _ _ _ (compensated-cut _ _ (longRests xs) (restsPast xs ys) less (past-ordered xs ys)) es fs six-whole eight-whole);
-        nine = rw shorter (prefix9 _ _ k 0 fs (counts-cut k xs ys) begun (rw whole at (a .nine)));
+        nine = rw shorter (prefix9 _ _ k 0 es fs (λ e i. counts-cut k xs ys e (started e i)) (rw whole at (a .nine)));
         ten = rw shorter (prefix10 k 0 _ _ es less (split .starting) (rw whole at (a .ten)));
         eleven = rw shorter (prefix11 _ k _ _ _ _ (λ w h. rest-only-prefix xs ys w (le-trans h (judged-within xs))) es less (split .starting) six-whole (rw whole at (a .eleven)));
       }

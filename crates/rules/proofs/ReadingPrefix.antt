@@ -1,9 +1,9 @@
 -- Rules 6 to 11 hold of each stretch, for the reading restricted to its long rests.
 -- Assumes nothing.
-use mathlib.Core.Path.{_≡_, refl, sym, ap, ap₂, subst, _∙_}
+use mathlib.Core.Path.{_≡_, refl, sym, ap, ap₂, _∙_}
 use mathlib.Core.Logic.{_⊎_, inl, inr}
 use mathlib.Core.Bool.{Bool, true, false, not}
-use mathlib.Core.List.{List, [], _∷_, _++_, map}
+use mathlib.Core.List.{List, [], _∷_, _++_, map, List·Memᴰ as In}
 use Prim.Native.Nat.{ℕ, zero, suc, _+_, _≤_, _<_}
 use native.Mathlib.Nat.{le-refl, le-trans}
 use native.Mathlib.Omega.{arith}
@@ -24,6 +24,7 @@ use Rattle.rules.specs.ReadingRules.{rule10From, ofKind, countedIn, enou
 use Rattle.rules.specs.declared.Kind.{Kind}
 use Rattle.rules.specs.declared.Kind.the-variants.{Daily, Weekly}
 use Rattle.rules.specs.declared.Standing.the-variants.{Regular, Reduced}
+use Rattle.rules.proofs.RuleLaws.{rule9-same}
 use Rattle.rules.proofs.SplitDays.{split-stretch}
 
 -- ---- entries: the same but for a carrier past the k-th rest
@@ -182,32 +183,27 @@ module _ (s′ s : ℕ) (rs qs : List Span) {to : ℕ} (less : s′ ≤ s) (o : 
   compensated-cut e g t = settles-cut (asRead e) (e .compensatedBy) (deadline e) (carrier-le _ e g) t
 
 -- ---- rule 9
--- the entries of the stretch start by s
-pub data Started (s : ℕ) : List Entry → Type 0 where
-  nil : Started s []
-  cons : {e : Entry} {es : List Entry} → e .span .start ≤ s → Started s es → Started s (e ∷ es)
-
-pub started : (n p : ℕ) (earlier : List Entry) (bytes : List ℕ) {to from : ℕ} {rs : List Span} → Ordered to from rs → Started to (entriesFrom n p earlier rs bytes)
-unfolding entriesFrom
-started n p earlier bytes none = Started.nil
-started n p earlier bytes (next {r = r} l m d o) =
-    Started.cons {e = entryOf n p earlier r bytes} (omega arith) (started (suc n) (r .end) (entryOf n p earlier r bytes ∷ earlier) (drop entryBytes bytes) o)
-
 -- which daily rests count is the same in the stretch
 pub counts-cut : (k : ℕ) (xs ys : List ℕ) (e : Entry) → e .span .start ≤ judgedEnd xs → shortened (closedRests (xs ++ ys)) e ≡ shortened (closedRests xs) (cut k e)
 unfolding shortened asRead portionUnder
 counts-cut k xs ys e h =
     ap (λ (b : Bool). not (isWeekly (asRead e)) and portionUnder fullPortion e and not (not (portionUnder secondPeriod e) and b)) (split-stretch xs ys (dayBefore e) h)
 
-pub prefix9 : (f g : Entry → Bool) (k n : ℕ) {s : ℕ} {es : List Entry} (fs : List Entry) → ((e : Entry) → e .span .start ≤ s → g e ≡ f (cut k e)) → Started s es
-    → rule9From g n (es ++ fs) ≡ true → rule9From f n (map (cut k) es) ≡ true
+first9 : (g : Entry → Bool) (n : ℕ) (es fs : List Entry) → rule9From g n (es ++ fs) ≡ true → rule9From g n es ≡ true
+unfolding rule9From
+first9 g n [] fs t = refl
+first9 g n (e ∷ es) fs t = and-both _ _ (and-left _ _ t) (first9 g _ es fs (and-right _ _ t))
+
+cut9 : (f : Entry → Bool) (k n : ℕ) (es : List Entry) → rule9From f n (map (cut k) es) ≡ rule9From (λ e. f (cut k e)) n es
 unfolding rule9From asRead
-prefix9 f g k n fs same Started.nil t = refl
-prefix9 f g k n fs same (Started.cons {e = e} {es = es} h o) t =
-    let m : pick (isWeekly (asRead e)) 0 (n + one (g e)) ≡ pick (isWeekly (asRead e)) 0 (n + one (f (cut k e))) =
-    ap (λ (b : Bool). pick (isWeekly (asRead e)) 0 (n + one b)) (same e h) in
-    let u = subst (λ (x : ℕ). leb x shortenedAtMost and rule9From g x (es ++ fs) ≡ true) m t in
-    and-both _ _ (and-left _ _ u) (prefix9 f g k _ fs same o (and-right _ _ u))
+cut9 f k n [] = refl
+cut9 f k n (e ∷ es) =
+    let m = pick (isWeekly (asRead e)) 0 (n + one (f (cut k e))) in
+    ap (λ (b : Bool). leb m shortenedAtMost and b) (cut9 f k m es)
+
+pub prefix9 : (f g : Entry → Bool) (k n : ℕ) (es fs : List Entry) → ((e : Entry) → In e es → g e ≡ f (cut k e)) → rule9From g n (es ++ fs) ≡ true
+    → rule9From f n (map (cut k) es) ≡ true
+prefix9 f g k n es fs same t = cut9 f k n es ∙ sym (rule9-same g (λ e. f (cut k e)) n es (λ e i d. same e i)) ∙ first9 g n es fs t
 
 -- ---- rule 10: to an earlier judged end, or to a weekly rest that starts there or later, is no further
 gap-less : (q s′ s : ℕ) → s′ ≤ s → inGap q s ≡ true → inGap q s′ ≡ true

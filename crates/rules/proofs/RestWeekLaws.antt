@@ -1,4 +1,4 @@
--- Rules 6 to 11 go by S and the long rests alone: a week of rest minutes only is one inside a long rest, for the weeks that rule 11 asks of.
+-- Rule 11 goes by S and the long rests alone: a week of rest minutes only is one inside a long rest, for the weeks that it asks of.
 -- Assumes nothing.
 use mathlib.Core.Path.{_≡_, sym, ap, ap₂, _∙_}
 use mathlib.Core.Bool.{Bool, true}

@@ -1,12 +1,11 @@
 -- The number of each long rest says rule 9's `shortened` for every compensation; and the numbers of a recording in order. Assumes nothing.
 use mathlib.Core.Path.{_≡_, refl, sym, ap, ap₂, _∙_}
-use mathlib.Core.Logic.{_⊎_, inl, inr}
 use mathlib.Core.Bool.{Bool, true, false, not}
-use mathlib.Core.List.{List, [], _∷_, _++_, map, List·Memᴰ as In, List·Memᴰ·cases-cons, List·Memᴰ·not-nil}
+use mathlib.Core.List.{List, [], _∷_, _++_, map, List·Memᴰ as In}
 use Prim.Native.Nat.{ℕ, zero, suc, _+_, _-_, _≤_, _<_, min}
 use native.Mathlib.Omega.{arith}
 use lib.Dec.{leb, ltb}
-use lib.ListN.{length, getD, take, drop}
+use lib.ListN.{length, getD, take}
 use lib.Seq.{sets, sets-eq, take-append-seam}
 use borrow.Author.Tests.{leb-true, leb-false, ltb-true, ltb-false, lt-ltb, le-ltb}
 use Rattle.recording.specs.Tests.{_and_, pick}
@@ -19,9 +18,10 @@ use Rattle.recording.proofs.Walks.{judged-within}
 use Rattle.recording.proofs.LongRests.{Ordered, none, next, rests-ordered, restsPast, rests-split, few-rests}
 use Rattle.rules.specs.Broken.{ifNone}
 use Rattle.rules.specs.Fixed.{fixedTest}
-use Rattle.rules.specs.Reading.{Entry, minutes, asRead, isWeekly, entryBytes, entryOf, entriesFrom, entries}
+use Rattle.rules.specs.Reading.{Entry, minutes, asRead, isWeekly, entries}
 use Rattle.rules.specs.ReadingRules.{dailyWindow, portionUnder, dayBefore, splitDay, fullPortion, secondPeriod, shortened, laterTest, readingTest}
 use Rattle.rules.proofs.SplitDays.{split-stretch}
+use Rattle.rules.proofs.EntryPlaces.{entry-at}
 use Rattle.rules.proofs.RuleLaws.{later-counts}
 use Rattle.rules.proofs.RestWeekLaws.{insideRest, reading-by-rests}
 use Rattle.rules_fixed.specs.Nets.{neededPortion, regularNet, spanOf, netsFrom, netsOf, countsBy}
@@ -118,15 +118,6 @@ pub nets-most : (ms : List ℕ) → length ms ≤ totalAtMost → (i : ℕ) → 
 unfolding netsOf
 nets-most ms h i l = most-from (closedRests ms) 0 (rests-ordered ms) (omega (arith, judged-within ms)) i l
 
--- ---- the entry of index i of a reading: its number, P, its start and its end
-record EntryAt (n p : ℕ) (rs : List Span) (i : ℕ) (e : Entry) : Type 0 where
-  within : i < length rs
-  number : e .number ≡ n + i
-  ordered : e .span .start ≤ e .span .end
-  before : e .before ≡ getD (p ∷ map (λ (s : Span). s .end) rs) i 0
-  start : e .span .start ≡ getD (map (λ (s : Span). s .start) rs) i 0
-  end : e .span .end ≡ getD (map (λ (s : Span). s .end) rs) i 0
-
 nets-at : (closed : List Span) (p : ℕ) (ss : List Span) (i : ℕ) → i < length ss → getD (netsFrom closed p ss) i 0
     ≡ regularNet (splitDay closed (spanOf (getD (p ∷ map (λ (s : Span). s .end) ss) i 0) (getD (map (λ (s : Span). s .start) ss) i 0)))
     (getD (p ∷ map (λ (s : Span). s .end) ss) i 0) (getD (map (λ (s : Span). s .start) ss) i 0) (getD (map (λ (s : Span). s .end) ss) i 0)
@@ -134,25 +125,6 @@ unfolding netsFrom
 nets-at closed p [] i h = absurd (omega arith)
 nets-at closed p (s ∷ ss) zero h = refl
 nets-at closed p (s ∷ ss) (suc i) h = nets-at closed (s .end) ss i (omega arith)
-
-module _ (n p : ℕ) (earlier : List Entry) (bytes : List ℕ) (r : Span) (rs : List Span) (e : Entry) where
-  abbrev Later : Type 0
-  Later = In e (entriesFrom (suc n) (r .end) (entryOf n p earlier r bytes ∷ earlier) rs (drop entryBytes bytes))
-
-  this-or-later : r .start ≤ r .end → (e ≡ entryOf n p earlier r bytes) ⊎ Later → (Later → (i : ℕ) × EntryAt (suc n) (r .end) rs i e) → (i : ℕ) × EntryAt n p (r ∷ rs) i e
-  this-or-later h (inl q) ih = (0, rw q (record { within = omega arith; number = omega arith; ordered = h; before = refl; start = refl; end = refl }))
-  this-or-later h (inr j) ih =
-      let k = ih j in
-      let a = k .1 in
-      (suc (k .0), record { within = omega (arith, a .within); number = omega (arith, a .number); ordered = a .ordered; before = a .before; start = a .start; end = a .end })
-
-entry-at : (n p : ℕ) (earlier : List Entry) (bytes : List ℕ) {to from : ℕ} {rs : List Span} → Ordered to from rs → (e : Entry) → In e (entriesFrom n p earlier rs bytes)
-    → (i : ℕ) × EntryAt n p rs i e
-unfolding entriesFrom
-entry-at n p earlier bytes none e i = absurd (List·Memᴰ·not-nil i)
-entry-at n p earlier bytes (next {r = r} {rs = rs} l m d o) e i =
-    this-or-later n p earlier bytes r rs e (omega arith) (List·Memᴰ·cases-cons i)
-    (λ j. entry-at (suc n) (r .end) (entryOf n p earlier r bytes ∷ earlier) (drop entryBytes bytes) o e j)
 
 -- ---- rules 6 to 11 by the numbers
 module _ (ms nets : List ℕ) (numbered : (i : ℕ) → i < length (longRests ms) → getD nets i 0 ≡ getD (netsOf ms) i 0) where

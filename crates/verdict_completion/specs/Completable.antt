@@ -120,7 +120,7 @@ module _ (c : Course) where
       × (Overdue outstanding (at (c .ends) j) → ⊥)
       × After (advance (restWeek c) (weekOf (at (c .starts) j) - st .week) st) (λ here. Tries (Completable n (suc j)) j here outstanding)
 
--- the long rests lie in order, within the judged stretch, and each has a number
+-- the long rests lie in order, within the judged stretch, and their numbers are in bounds
 pub record Lies (c : Course) : Type 0 where
   pub ends-too : length (c .ends) ≡ length (c .starts)
   pub nets-too : length (c .nets) ≡ length (c .starts)
