@@ -18,7 +18,7 @@ pub data Apart : ℕ → List Span → Type 0 where
   none : {from : ℕ} → Apart from []
   next : {from : ℕ} {r : Span} {rs : List Span} → from ≤ r .start → r .start < r .end → Apart (r .end) rs → Apart from (r ∷ rs)
 
-pub apart-from : {from from′ : ℕ} {rs : List Span} → from ≤ from′ → Apart from′ rs → Apart from rs
+apart-from : {from from′ : ℕ} {rs : List Span} → from ≤ from′ → Apart from′ rs → Apart from rs
 apart-from h none = none
 apart-from h (next l m o) = next (le-trans h l) m o
 

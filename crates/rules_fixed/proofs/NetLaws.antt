@@ -24,7 +24,7 @@ use Rattle.rules.proofs.SplitDays.{split-stretch}
 use Rattle.rules.proofs.EntryPlaces.{entry-at}
 use Rattle.rules.proofs.RuleLaws.{later-counts}
 use Rattle.rules.proofs.RestWeekLaws.{insideRest, reading-by-rests}
-use Rattle.rules_fixed.specs.Nets.{neededPortion, regularNet, spanOf, netsFrom, netsOf, countsBy}
+use Rattle.rules_fixed.specs.Nets.{neededPortion, regularNet, netAtMost, spanOf, netsFrom, netsOf, countsBy}
 use Rattle.rules_fixed.specs.Walk.{Surveyed}
 use Rattle.rules_fixed.specs.declared.Survey.{Survey}
 
@@ -88,7 +88,7 @@ net-says closed e h d =
     ∙ net-test (neededPortion split) (e .before) (e .span .start) (e .span .end) (e .compensation) h
 
 -- ---- the numbers in order: as many, and the number at an index
-pub nets-length : (closed : List Span) (p : ℕ) (ss : List Span) → length (netsFrom closed p ss) ≡ length ss
+nets-length : (closed : List Span) (p : ℕ) (ss : List Span) → length (netsFrom closed p ss) ≡ length ss
 unfolding netsFrom
 nets-length closed p [] = refl
 nets-length closed p (s ∷ ss) = ap suc (nets-length closed (s .end) ss)
@@ -97,24 +97,24 @@ pub all-numbered : (ms : List ℕ) → length (netsOf ms) ≡ length (longRests 
 unfolding netsOf
 all-numbered ms = nets-length (closedRests ms) 0 (longRests ms)
 
--- none is more than a minute more than the longest rest
-net-most : (split : Bool) (p start end : ℕ) → end ≤ totalAtMost → regularNet split p start end ≤ totalAtMost + 1
+-- all are in bounds
+net-most : (split : Bool) (p start end : ℕ) → end ≤ totalAtMost → regularNet split p start end ≤ netAtMost
 unfolding regularNet
 net-most split p start end h = at (leb (start + neededPortion split) (p + dailyWindow)) split
   where
-    at : (b split : Bool) → pick b (neededPortion split) (end - start + 1) ≤ totalAtMost + 1
+    at : (b split : Bool) → pick b (neededPortion split) (end - start + 1) ≤ netAtMost
     at true true = omega arith
     at true false = omega arith
     at false split = omega arith
 
 most-from : (closed : List Span) (p : ℕ) {to from : ℕ} {rs : List Span} → Ordered to from rs → to ≤ totalAtMost → (i : ℕ) → i < length rs
-    → getD (netsFrom closed p rs) i 0 ≤ totalAtMost + 1
+    → getD (netsFrom closed p rs) i 0 ≤ netAtMost
 unfolding netsFrom
 most-from closed p none h i l = absurd (omega arith)
 most-from closed p (next {r = r} a n e o) h zero l = net-most _ p (r .start) (r .end) (omega arith)
 most-from closed p (next {r = r} a n e o) h (suc i) l = most-from closed (r .end) o h i (omega arith)
 
-pub nets-most : (ms : List ℕ) → length ms ≤ totalAtMost → (i : ℕ) → i < length (longRests ms) → getD (netsOf ms) i 0 ≤ totalAtMost + 1
+pub nets-most : (ms : List ℕ) → length ms ≤ totalAtMost → (i : ℕ) → i < length (longRests ms) → getD (netsOf ms) i 0 ≤ netAtMost
 unfolding netsOf
 nets-most ms h i l = most-from (closedRests ms) 0 (rests-ordered ms) (omega (arith, judged-within ms)) i l
 

@@ -7,21 +7,21 @@ use native.Mathlib.Nat.{le-refl}
 use native.Mathlib.Numerals.{add-one}
 use native.Mathlib.Omega.{arith}
 use lib.Dec.{ltb, eqb·suc-zero}
-use lib.ListN.{length, drop, getD, take}
-use lib.Seq.{sets, length-sets, drop-cons, drop-length, take-all}
+use lib.ListN.{length, drop, getD}
+use lib.Seq.{sets, length-sets, drop-cons, drop-length}
 use borrow.Author.Tests.{le-leb, lt-leb, ltb-false}
 use Rattle.recording.specs.Tests.{_and_, _or_, pick, one, anyOf, keep}
 use Rattle.recording.specs.Words.{minutesIn, activityIn, minutesOf}
 use Rattle.recording.specs.Rests.{withRest, closedRests, longRestMinutes, isLong, longRests}
 use Rattle.recording.specs.Weeks.{inside}
 use Rattle.recording.specs.Operations.{totalAtMost}
-use Rattle.recording.specs.Scan.{afterRun, origin, restAt, Scanned}
+use Rattle.recording.specs.Scan.{afterRun, origin, restAt}
 use Rattle.recording.specs.declared.Place.{Place}
 use Rattle.recording.specs.declared.Span.{Span}
 use Rattle.recording.proofs.TestLaws.{or-false}
 use Rattle.recording.proofs.ClosedRests.{Apart, none, next, rests-apart}
 use Rattle.recording.proofs.ByWord.{restsByRun, closedBy, closed-rests-by}
-use Rattle.recording.proofs.Scanning.{none-run, rest-run, busy-run, pick-sets, scan-total, Walking, start-walking, walk-on}
+use Rattle.recording.proofs.Scanning.{none-run, rest-run, busy-run, pick-sets, Walking, start-walking, walk-on}
 use Rattle.rules.specs.ReadingRules.{firstPeriodAtLeast, isFirstPeriod, splitDay}
 use Rattle.rules.proofs.SplitDays.{before-day, split-append, none-after}
 use Rattle.rules_fixed.specs.Nets.{regularNet, spanOf, netsFrom, netsOf, freshDay, closes, dayThen, dayOn, netsOn, withNet}
@@ -175,8 +175,3 @@ module _ {ws nets₀ nets : List ℕ} {p : Place} {d : OpenDay} {i : ℕ} (g : N
 
   pub as-long : length nets ≡ length nets₀
   as-long = sym (length-sets nets (p .count) (netsOn d (closedBy (p .from) (p .now) (drop i ws)))) ∙ sym (ap length (g .same)) ∙ length-sets nets₀ 0 (netsOf (minutesOf ws))
-
--- ---- the place at the end is past all minutes
-pub all-there : {ws starts ends starts′ ends′ : List ℕ} {p : Place} → Scanned ws starts ends p starts′ ends′ → length (minutesOf ws) ≤ totalAtMost
-    → take (p .now) (minutesOf ws) ≡ minutesOf ws
-all-there {ws} {p = p} q within = take-all (p .now) (minutesOf ws) (omega (arith, ap (λ (x : Place). x .now) (q .place) ∙ scan-total ws))

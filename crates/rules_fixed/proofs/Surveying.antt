@@ -6,13 +6,16 @@ use native.Mathlib.Nat.{zero-add, suc-add}
 use native.Mathlib.Numerals.{add-one}
 use native.Mathlib.Omega.{arith}
 use lib.ListN.{length, drop, take, getD, replicate, length-append, length-replicate}
-use lib.Seq.{drop-cons, drop-length, take-nil}
+use lib.Seq.{drop-cons, drop-length, take-nil, take-all}
 use borrow.Author.Tests.{lt-ltb, le-ltb}
 use Rattle.recording.specs.Answers.{refused, answered}
 use Rattle.recording.specs.Words.{minutesIn, activityIn, minutesOf}
 use Rattle.recording.specs.Operations.{totalAtMost, measured}
+use Rattle.recording.specs.Scan.{Scanned}
 use Rattle.recording.specs.declared.Measure.{Measure}
+use Rattle.recording.specs.declared.Place.{Place}
 use Rattle.recording.proofs.ByWord.{take-run}
+use Rattle.recording.proofs.Scanning.{scan-total}
 use Rattle.rules.specs.Operations.{fixedTested}
 use Rattle.rules_fixed.specs.Account.{minuteAfter, accountFrom, opening}
 use Rattle.rules_fixed.specs.Walk.{Bounded, Ran}
@@ -116,6 +119,10 @@ unfolding accountFrom minutesOf
 walk-done {ws} {m} {togo = togo} k h =
     let e : take m (minutesOf ws) ≡ k .done ++ [] = k .split ∙ rw (h, drop-length, take-nil) refl in
     k .account ∙ ap (accountFrom opening) (sym (e ∙ append-nil (k .done)))
+
+-- the place at the end of a scan is past all minutes
+pub all-there : {ws starts ends starts′ ends′ : List ℕ} {p : Place} → Scanned ws starts ends p starts′ ends′ → take (p .now) (minutesOf ws) ≡ minutesOf ws
+all-there {ws} {p = p} q = take-all (p .now) (minutesOf ws) (omega (arith, ap (λ (x : Place). x .now) (q .place) ∙ scan-total ws))
 
 -- ---- the fixed test
 module _ (ws : List ℕ) (m : ℕ) where

@@ -9,6 +9,7 @@ use lib.ListN.{getD, set}
 use Rattle.recording.specs.Tests.{_or_, pick}
 use Rattle.recording.specs.Rests.{closedRests, isLong, longRests}
 use Rattle.recording.specs.Weeks.{isRest}
+use Rattle.recording.specs.Operations.{totalAtMost}
 use Rattle.recording.specs.declared.Span.{Span}
 use Rattle.rules.specs.Reading.{Entry, minutes}
 use Rattle.rules.specs.ReadingRules.{dailyWindow, isFirstPeriod, splitDay, fullPortion, secondPeriod}
@@ -21,6 +22,10 @@ neededPortion split = pick split secondPeriod fullPortion
 
 unfoldable pub regularNet : Bool → ℕ → ℕ → ℕ → ℕ
 regularNet split p start end = pick (leb (start + neededPortion split) (p + dailyWindow)) (neededPortion split) (end - start + 1)
+
+-- none is more than a minute more than the longest rest has
+abbrev pub netAtMost : ℕ
+netAtMost = totalAtMost + 1
 
 -- a day from P to a rest's start, or a rest
 abbrev pub spanOf : ℕ → ℕ → Span

@@ -19,7 +19,7 @@ use Rattle.rules.specs.declared.Kind.the-variants.{Daily, Weekly}
 use Rattle.rules.specs.declared.Standing.{Standing}
 use Rattle.rules.specs.declared.Standing.the-variants.{Regular, Reduced}
 use Rattle.rules_fixed.specs.Account.{smaller}
-use Rattle.rules_fixed.specs.Nets.{countsBy}
+use Rattle.rules_fixed.specs.Nets.{netAtMost, countsBy}
 use Rattle.rules_reading.specs.declared.Item.{Item}
 use Rattle.rules_reading.specs.declared.LongRest.{LongRest}
 use Rattle.rules_reading.specs.declared.Tally.{Tally}
@@ -60,9 +60,6 @@ itemAt starts ends nets reading compensations i = record {
 -- an item whose numbers are in bounds
 abbrev pub compensationAtMost : ℕ
 compensationAtMost = 1000000
-
-abbrev pub netAtMost : ℕ
-netAtMost = totalAtMost + 1
 
 pub record Sane (x : Item) : Type 0 where
   pub before : x .before ≤ totalAtMost

@@ -2,7 +2,7 @@
 use mathlib.Core.Path.{ap, _∙_}
 use borrow.Author.Needs.{needs}
 use Rattle.rules_fixed.specs.Account.{accountFrom, opening}
-use Rattle.rules_fixed.proofs.NetWalk.{all-there}
+use Rattle.rules_fixed.proofs.Surveying.{all-there}
 use Rattle.rules_fixed.proofs.survey_of.Statement.{statement}
 use Rattle.rules_fixed.proofs.survey_of.Tie as tie
 
@@ -10,14 +10,13 @@ returns : tie.Need-returns
 returns c =
     let numbered = c .before .before .before in
     let scanned = numbered .before .before .before .before .before .before in
-    let pre = (scanned .before .before .before .before .before .before .before) .pre in
     let q = scanned .scan .ensures in
     record {
       place = q .place;
       begun = q .begun;
       ended = q .ended;
       numbered = numbered .put-nets .ensures;
-      account = c .account-of .ensures ∙ ap (accountFrom opening) (all-there q (pre .0));
+      account = c .account-of .ensures ∙ ap (accountFrom opening) (all-there q);
     }
 
 pub survey-of-spec : {M : Type 1} → statement M
