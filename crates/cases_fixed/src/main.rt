@@ -1,5 +1,5 @@
-// The cases of document 01, "On the edge", that concern the fixed rules: each line has N, S and k, and what the fixed test
-// answers for the stretch before the edge and at it.
+// The cases of document 01, "On the edge", that concern the fixed rules, and those in which several break at one minute: each line has N, S and k,
+// what the fixed test answers for the stretch before the edge and at it, and what the article test does.
 use libc::STDOUT_FILENO;
 use recording::Weighing;
 use rules_fixed::Tested;
@@ -39,7 +39,7 @@ fn show_tested(m: u32, t: Tested) {
     }
 }
 
-// What the recording weighs, and its fixed test for m minutes and for one more.
+// What the recording weighs, and both tests for m minutes and for one more.
 fn show(name: &[u8], words: &[u32], m: u32) {
     io::write_all(STDOUT_FILENO, name);
     io::write_all(STDOUT_FILENO, b": ");
@@ -48,6 +48,12 @@ fn show(name: &[u8], words: &[u32], m: u32) {
     if m < 4294967295 {
         let next = m + 1;
         show_tested(next, rules_fixed::fixed_test(words, next));
+    }
+    io::write_all(STDOUT_FILENO, b"; articles");
+    show_tested(m, rules_fixed::article_test(words, m));
+    if m < 4294967295 {
+        let next = m + 1;
+        show_tested(next, rules_fixed::article_test(words, next));
     }
     io::write_all(STDOUT_FILENO, b"\n");
 }
@@ -95,6 +101,17 @@ fn main() {
     // rule 5 breaks first, then rule 1 too: the smaller is named
     let both = [3606u32, 1087];
     show(b"w901 d271", &both, 1171);
+    // several break at one minute, or one after another: the tests may name different articles
+    let breaks_and_day = [1083u32, 180, 243, 180, 1087];
+    show(b"d270 r45 d60 r45 d271", &breaks_and_day, 690);
+    let breaks_and_rest = [2522u32, 1087];
+    show(b"w630 d271", &breaks_and_rest, 900);
+    let day_and_rest = [1083u32, 180, 1083, 1020, 247];
+    show(b"d270 r45 d270 r255 d61", &day_and_rest, 900);
+    let three = [1083u32, 180, 243, 1020, 1087];
+    show(b"d270 r45 d60 r255 d271", &three, 900);
+    let one_after_another = [1087u32, 1323];
+    show(b"d271 d330", &one_after_another, 600);
     let split_word = [543u32, 543, 1];
     show(b"d135 d135 and a word of no minutes", &split_word, 0);
     let long = [240000u32, 243842];

@@ -267,6 +267,71 @@ fn show_first_parts() {
     show_runs(b"d1 r15 d1 r30 d270 r30 d1");
 }
 
+// The article of a place in the regulation's order.
+fn show_place(tested: Tested) {
+    match tested {
+        Tested::Refused(n) => {
+            io::write_all(STDOUT_FILENO, b"; refused ");
+            show_number(n);
+        }
+        Tested::Answer(place) => {
+            io::write_all(STDOUT_FILENO, b"; first ");
+            match place {
+                1 => show_article(2),
+                2 => show_article(3),
+                3 => show_article(4),
+                4 => show_article(1),
+                _ => show_article(place),
+            }
+            ;
+        }
+    }
+}
+
+// The verdict, and the first broken article of a stretch.
+fn show_first(name: &[u8], words: &[u32], count: usize, m: u32) {
+    let mut reading = [9u8; 669];
+    let recording = first_words(words, count);
+    let answer = verdict::verdict(recording, &mut reading);
+    io::write_all(STDOUT_FILENO, name);
+    show_answer(answer);
+    show_place(rules_fixed::article_test(recording, m));
+    io::write_all(STDOUT_FILENO, b"\n");
+}
+
+// A first week with 2,040 minutes of driving, then so many days of 600 and of 540, then these runs.
+fn show_fortnight(name: &[u8], longer: u32, ordinary: u32, then: &[u8], m: u32) {
+    let mut words = [0u32; 64];
+    let begun = times(&mut words, 0, 3, b"d255 r45 d255 r660");
+    let first = runs(&mut words, begun, b"d255 r45 d255 r5880");
+    let after_longer = times(&mut words, first, longer, b"d270 r45 d270 r45 d60 r660");
+    let after_ordinary = times(&mut words, after_longer, ordinary, b"d270 r45 d270 r660");
+    let all = runs(&mut words, after_ordinary, then);
+    show_first(name, &words, all, m);
+}
+
+fn show_first_of(shorthand: &[u8], m: u32) {
+    let mut words = [0u32; 16];
+    let count = runs(&mut words, 0, shorthand);
+    show_first(shorthand, &words, count, m);
+}
+
+// Fixed rules that break at one minute: the verdict's article goes by their numbers, the article test by the regulation's order.
+fn show_orders() {
+    show_first_of(b"d270 r45 d60 r45 d271", 691);
+    show_first_of(b"d270 r45 d270 r255 d61", 901);
+    show_first_of(b"w630 d271", 901);
+    show_first_of(b"d270 r45 d60 r255 d271", 901);
+    show_first_of(b"d271 d330", 600);
+    show_first_of(b"d271 d330", 601);
+    show_first_of(b"w900", 900);
+    show_first_of(b"w900", 901);
+    show_fortnight(b"6.2 and 6.3", 2, 4, b"d1", 17761);
+    show_fortnight(b"6.2, 6.3 and 8.2", 2, 4, b"w900 d1", 18661);
+    show_fortnight(b"6.2, 6.3 and 7", 0, 5, b"d270 r45 d120 r660 d271", 17671);
+    show_fortnight(b"all five", 1, 4, b"d270 r45 d60 r255 d271", 17311);
+}
+
 // Days with an earlier rest of 180 to 539 minutes: its edges, its day, and portion 540 by the window.
 fn show_split_days() {
     show_times(
@@ -586,6 +651,7 @@ fn show_refusals() {
 fn main() {
     show_edges();
     show_first_parts();
+    show_orders();
     show_split_days();
     show_articles();
     show_figure_1();

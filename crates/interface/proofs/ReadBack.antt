@@ -12,19 +12,18 @@ use borrow.Author.Tests.{lt-ltb, le-ltb}
 use Rattle.recording.specs.Tests.{pick, _or_, anyOf}
 use Rattle.recording.specs.Answers.{Answer, refused, answered, andThen, refuseIf, counted}
 use Rattle.recording.specs.Words.{minutesIn, minutesOf}
-use Rattle.recording.specs.Days.{days, drivingIn}
-use Rattle.recording.specs.Weeks.{weeksOf}
 use Rattle.recording.specs.Rests.{judgedEnd}
 use Rattle.recording.specs.Operations.{totalAtMost, faultOf, unlessFault, totalFrom, measured, listed}
 use Rattle.recording.specs.declared.Measure.{Measure}
 use Rattle.recording.proofs.Walks.{judged-within}
 use Rattle.recording.proofs.LongRests.{few-rests}
 use Rattle.recording.proofs.Listing.{Measured, measured-is}
-use Rattle.rules.specs.Broken.{unless}
-use Rattle.rules.specs.Fixed.{rule1, rule2, rule3, rule4, rule5, firstBroken, fixedTest}
+use Rattle.rules.specs.declared.Breaches.{Breaches}
+use Rattle.rules.specs.Fixed.{breaches, smallestRule, fixedTest, firstArticle}
 use Rattle.rules.specs.Reading.{entryBytes, readingSize}
 use Rattle.rules.specs.Verdict.{prefix, firstLawful, breachMinute, articleBy, article, Verdict, verdictBy, verdict}
-use Rattle.rules.specs.Operations.{Outcome, passed, breached, outcomeOf, outcome, fixedTested, readingTested, verdictGiven, entryAt}
+use Rattle.rules.specs.Operations.{Outcome, passed, breached, outcomeOf, outcome, breachesTested, fixedTested, articleTested, readingTested, verdictGiven, entryAt}
+use Rattle.rules.proofs.ArticleOrder.{rule-most}
 use Rattle.rules.proofs.EntryLaws.{first-size}
 use Rattle.text_lines.specs.Reading.{linesIn, wordsOf, isText, textRead}
 use Rattle.text.specs.Writing.{textOfMinutes, textWritten}
@@ -108,9 +107,17 @@ module _ (ws : List ℕ) where
   unfolding listed
   list-back room = count-back (told-counted (told-then (told-measured ws) (λ m. told-if (ltb room (m .count)) (omega arith) (by-value _))))
 
+  picked-back : (pick : Breaches → ℕ) (m : ℕ) → answerIn itself (codeOf itself (andThen (breachesTested ws m) (λ b. answered (pick b)))) ≡ andThen (breachesTested ws m) (λ b. answered (pick b))
+  unfolding breachesTested
+  picked-back pick m = count-back (told-then (told-then (told-measured ws) (λ k. told-if (ltb (k .total) m) (omega arith) (by-value _))) (λ b. by-value _))
+
   pub fixed-test-back : (m : ℕ) → answerIn itself (codeOf itself (fixedTested ws m)) ≡ fixedTested ws m
   unfolding fixedTested
-  fixed-test-back m = count-back (told-then (told-measured ws) (λ k. told-if (ltb (k .total) m) (omega arith) (by-value _)))
+  fixed-test-back m = picked-back smallestRule m
+
+  pub article-test-back : (m : ℕ) → answerIn itself (codeOf itself (articleTested ws m)) ≡ articleTested ws m
+  unfolding articleTested
+  article-test-back m = picked-back firstArticle m
 
   pub reading-test-back : (reading : List ℕ) → answerIn itself (codeOf itself (readingTested ws reading)) ≡ readingTested ws reading
   unfolding readingTested
@@ -171,18 +178,13 @@ outcome-back (breaching m {a} h) =
     let rule : (answerUnit + articleUnit * m + a - answerUnit) % articleUnit ≡ a = ap (λ v. v % articleUnit) parts ∙ digits-mod m h in
     rw past (λ i. breached (minute i) (rule i))
 
-broken-small : (a b c d e : Bool) → articleBy (unless a 1 (unless b 2 (unless c 3 (unless d 4 (unless e 5 0))))) < articleUnit
-broken-small false b c d e = omega arith
-broken-small true false c d e = omega arith
-broken-small true true false d e = omega arith
-broken-small true true true false e = omega arith
-broken-small true true true true false = omega arith
-broken-small true true true true true = omega arith
-
 article-small : (ms : List ℕ) → article ms < articleUnit
-unfolding article fixedTest firstBroken
-article-small ms =
-    broken-small (rule1 ms) (rule2 (drivingIn ms) (weeksOf ms) (days ms)) (rule3 (drivingIn ms) (weeksOf ms)) (rule4 (drivingIn ms) (weeksOf ms)) (rule5 (days ms))
+unfolding article fixedTest
+article-small ms = at (smallestRule (breaches ms)) (rule-most (breaches ms))
+  where
+    at : (rule : ℕ) → rule ≤ 5 → articleBy rule < articleUnit
+    at zero h = omega arith
+    at (suc rule) h = omega arith
 
 verdict-within : (ms : List ℕ) → length ms ≤ totalAtMost → Within (outcomeOf (verdict ms))
 unfolding verdict readingSize

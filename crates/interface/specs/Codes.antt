@@ -18,7 +18,7 @@ abbrev pub codeOf : {A : Type 0} → (A → ℕ) → Answer A → ℕ
 codeOf value (refused n) = n
 codeOf value (answered a) = answerUnit + value a
 
--- "answers with the count of words, bytes or records written"; "0 or the smallest broken rule"
+-- "answers with the count of words, bytes or records written"; "0 or the smallest broken rule"; "0 or the place, 1 to 5, of the first of these broken"
 abbrev pub itself : ℕ → ℕ
 itself n = n
 

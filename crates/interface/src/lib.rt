@@ -9,7 +9,7 @@ ghost use lib.ListN.{length};
 ghost use Rattle.recording.specs.Answers.{counted, filled};
 ghost use Rattle.recording.specs.Operations.{measured, listed, written};
 ghost use Rattle.rules_fixed.specs.Tested.{tested};
-ghost use Rattle.rules.specs.Operations.{fixedTested, readingTested, entryAt, entryRefusal, verdictGiven, outcome, readingAfter};
+ghost use Rattle.rules.specs.Operations.{fixedTested, articleTested, readingTested, entryAt, entryRefusal, verdictGiven, outcome, readingAfter};
 ghost use Rattle.text_lines.specs.Reading.{textRead};
 ghost use Rattle.text.specs.Writing.{textWritten};
 ghost use Rattle.card.specs.Reading.{cardRead};
@@ -38,7 +38,7 @@ fn count_code(f: Filling) -> u64
     }
 }
 
-// A refusal's number; or ANSWER and the rule.
+// A refusal's number; or ANSWER and the rule or the place.
 fn rule_code(t: Tested) -> u64
     ensures { λ r. ⌜ r ≡ codeOf itself (tested t) ⌝ }
 {
@@ -88,6 +88,14 @@ pub extern "C" fn desk_fixed_test(words: &[u32], m: u32) -> u64
     ensures { λ r. ⌜ r ≡ codeOf itself (fixedTested (now (words .entry)) m) ⌝ }
 {
     rule_code(rules_fixed::fixed_test(words, m))
+}
+
+// The article test for a stretch of m: a refusal's number; or ANSWER and the place of the first broken article, or 0.
+#[no_mangle]
+pub extern "C" fn desk_article_test(words: &[u32], m: u32) -> u64
+    ensures { λ r. ⌜ r ≡ codeOf itself (articleTested (now (words .entry)) m) ⌝ }
+{
+    rule_code(rules_fixed::article_test(words, m))
 }
 
 // Testing a reading: a refusal's number; or ANSWER and the smallest broken rule, or 0.

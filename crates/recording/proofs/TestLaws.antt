@@ -1,7 +1,7 @@
 -- Laws of the joint tests. Assumes nothing.
 use mathlib.Core.Path.{_≡_, refl, sym, ap, _∙_}
 use mathlib.Core.Logic.{_⊎_, inl, inr}
-use mathlib.Core.Bool.{Bool, true, false, false≢true, true≢false}
+use mathlib.Core.Bool.{Bool, true, false, not, _&&_, _||_, false≢true, true≢false}
 use mathlib.Core.List.{List, [], _∷_, _++_, List·Memᴰ as In, List·Memᴰ·head as here, List·Memᴰ·tail as there, List·Memᴰ·not-nil, List·Memᴰ·cases-cons}
 use Prim.Native.Nat.{ℕ, zero, suc, _≤_, _<_}
 use native.Mathlib.Nat.{eq-or-lt-of-le}
@@ -9,6 +9,17 @@ use native.Mathlib.Omega.{arith}
 use lib.Dec.{ltb}
 use borrow.Author.Tests.{ltb-true, ltb-false}
 use Rattle.recording.specs.Tests.{_and_, _or_, pick, one, allOf, anyOf, allBelow, keep}
+
+-- what `&` and `|` of two tests in code come to
+pub and-is : (a b : Bool) → a && b ≡ a and b
+unfolding _and_
+and-is true b = refl
+and-is false b = refl
+
+pub or-is : (a b : Bool) → a || b ≡ a or b
+unfolding _or_
+or-is true b = refl
+or-is false b = refl
 
 pub and-left : (a b : Bool) → a and b ≡ true → a ≡ true
 unfolding _and_
@@ -29,6 +40,11 @@ pub and-false : (a : Bool) → a and false ≡ false
 unfolding _and_
 and-false true = refl
 and-false false = refl
+
+pub not-and : (a b : Bool) → not (a and b) ≡ not a or not b
+unfolding _and_ _or_
+not-and true b = refl
+not-and false b = refl
 
 pub or-cases : (a b : Bool) → a or b ≡ true → (a ≡ true) ⊎ (b ≡ true)
 unfolding _or_

@@ -16,7 +16,8 @@ use Rattle.recording.proofs.TestLaws.{and-false}
 use Rattle.recording.proofs.ByWord.{closedBy, judgedEndBy, judged-by, closed-rests-by, longRestsBy, rests-by, totalBy, total-by, drivingBy, driving-by}
 use Rattle.rules.specs.Broken.{ifNone}
 use Rattle.rules.specs.declared.Accumulated.{Accumulated}
-use Rattle.rules.specs.Fixed.{cleared, rested, drove, accumulatedAtMost, keepsAccumulated, rule1, firstBroken, fixedTest}
+use Rattle.rules.specs.declared.Breaches.{Breaches}
+use Rattle.rules.specs.Fixed.{cleared, rested, drove, accumulatedAtMost, keepsAccumulated, rule1, breachesBy, breaches, smallestRule, fixedTest}
 use Rattle.rules.specs.Reading.{entries}
 use Rattle.rules.specs.ReadingRules.{shortened, laterTest, readingTest}
 use Rattle.rules.proofs.RestWeekLaws.{insideRest, reading-by-rests}
@@ -101,17 +102,24 @@ kept-by d k (w ∷ ws) =
     kept-run (minutesIn w) (activityIn w) d k (minutesOf ws)
     ∙ kept-same (minutesIn w) (activityIn w) d k (λ e m. keepsAccumulated e m (minutesOf ws)) (λ e m. keepsAccumulatedBy e m ws) (λ e m. kept-by e m ws)
 
--- ---- both tests
+-- ---- the tests
+abbrev pub breachesByWord : List ℕ → Breaches
+breachesByWord ws = breachesBy (drivingBy ws) (weekOf (totalBy ws) + 1) (daysFrom 0 (judgedEndBy ws) (longRestsBy ws)) (keepsAccumulatedBy cleared 0 ws)
+
 abbrev pub fixedBy : List ℕ → ℕ
-fixedBy ws = firstBroken (keepsAccumulatedBy cleared 0 ws) (drivingBy ws) (weekOf (totalBy ws) + 1) (daysFrom 0 (judgedEndBy ws) (longRestsBy ws))
+fixedBy ws = smallestRule (breachesByWord ws)
 
 abbrev pub readingBy : List ℕ → List ℕ → ℕ
 readingBy ws bytes = ifNone (fixedBy ws) (laterTest (insideRest (longRestsBy ws)) (shortened (closedBy 0 0 ws)) (judgedEndBy ws) (longRestsBy ws) (entries (longRestsBy ws) bytes))
 
-pub fixed-by : (ws : List ℕ) → fixedTest (minutesOf ws) ≡ fixedBy ws
-unfolding fixedTest rule1 days
-fixed-by ws =
+pub breaches-by : (ws : List ℕ) → breaches (minutesOf ws) ≡ breachesByWord ws
+unfolding breaches rule1 days
+breaches-by ws =
     rw (kept-by cleared 0 ws, fun-ext (driving-by ws), total-by ws, judged-by ws, rests-by ws)
+
+pub fixed-by : (ws : List ℕ) → fixedTest (minutesOf ws) ≡ fixedBy ws
+unfolding fixedTest
+fixed-by ws = ap smallestRule (breaches-by ws)
 
 pub reading-by : (ws bytes : List ℕ) → readingTest (minutesOf ws) bytes ≡ readingBy ws bytes
 reading-by ws bytes =

@@ -1,30 +1,35 @@
--- The starred cases of document 01, "On the edge", and a worked case at each edge of a number, under one law and one test that is computed.
+-- The starred cases of document 01, "On the edge", a worked case at each edge of a number, and cases of several fixed rules that break at one minute, under
+-- one law and one test that is computed.
 -- Assumes nothing.
-use mathlib.Core.Path.{_≡_, refl, ap, _∙_}
+use mathlib.Core.Path.{_≡_, refl, sym, ap, ap₂, _∙_}
 use mathlib.Core.Logic.{_⊎_, inl, inr}
 use mathlib.Core.Bool.{Bool, true, false, not, false≢true}
 use mathlib.Core.List.{List, [], _∷_, _++_}
 use mathlib.Core.Option.{none}
-use Prim.Native.Nat.{ℕ, zero, suc, _*_}
+use Prim.Native.Nat.{ℕ, zero, suc, _*_, _-_}
 use lib.Dec.{eqb, leb, ltb}
 use lib.ListN.{length, replicate}
-use borrow.Author.Tests.{eqb-true, eqb-false, leb-true, ltb-true, not-true}
+use borrow.Author.Tests.{eqb-true, eqb-false, leb-true, ltb-true, le-ltb, not-true}
 use Rattle.recording.specs.Tests.{_and_, _or_, pick, allOf}
+use Rattle.recording.specs.Answers.{Answer, refused, answered, andThen}
+use Rattle.recording.specs.Operations.{totalFrom, measureOf, measured}
 use Rattle.recording.specs.Words.{wordOf, rest, availability, otherWork, driving, minutesOf}
 use Rattle.recording.specs.Rests.{longRests}
 use Rattle.recording.proofs.TestLaws.{and-left, and-right, or-cases}
 use Rattle.recording.specs.declared.Span.{Span}
 use Rattle.recording.proofs.ByWord.{longRestsBy, rests-by, totalBy, total-by, cut-at, endBy, closedBy, drivingUpTo}
 use Rattle.recording.specs.Scan.{cutAt}
-use Rattle.rules.specs.Fixed.{fixedTest}
+use Rattle.rules.specs.declared.Breaches.{Breaches}
+use Rattle.rules.specs.Fixed.{breaches, smallestRule, fixedTest, byArticle, firstArticle}
 use Rattle.rules.specs.Reading.{Entry, dailyKind, weeklyKind, entryBytes, readingSize}
 use Rattle.rules.specs.ReadingRules.{shortened, readingTest}
 use Rattle.rules.specs.Order.{byteValues, Bytes}
 use Rattle.rules.specs.Verdict.{lawful, firstLawful, prefix, article, articleBy, pass, breach, verdict}
+use Rattle.rules.specs.Operations.{breachesTested, fixedTested, articleTested}
 use Rattle.rules.specs.Opened.{opened}
 use Rattle.rules.proofs.RuleLaws.{lawful-rules}
 use Rattle.rules.proofs.Breach.{Lawful, is-none, verdict-breach, verdict-pass}
-use Rattle.rules.proofs.ByWord.{fixedBy, fixed-by, readingBy, reading-by, keepsAccumulatedBy}
+use Rattle.rules.proofs.ByWord.{breachesByWord, breaches-by, fixedBy, fixed-by, readingBy, reading-by, keepsAccumulatedBy}
 use Rattle.rules.proofs.OnlyDaily.{neverWeekly, allDaily, daily-first, daily-none}
 
 -- ---- what a case says
@@ -33,6 +38,8 @@ pub data Case : Type 0 where
   passes : List ℕ → Case
   -- the verdict is a breach at a minute, with its article; a lawful reading of the stretch that is a minute shorter goes with it
   breaks : List ℕ → List ℕ → ℕ → ℕ → Case
+  -- fixed rules break at a minute, and none did before: their places in the regulation's order, the fixed test's number and the article test's place there
+  together : List ℕ → ℕ → List ℕ → ℕ → ℕ → Case
   -- a reading's test has an answer
   tests : List ℕ → List ℕ → ℕ → Case
   -- a daily rest counts under rule 9 or does not: by the rests that are not open, P, its start and its end, and its load
@@ -49,9 +56,23 @@ dailyRest p start end load = record {
   compensation = load;
 }
 
+-- the places of those that are broken
+abbrev placesFrom : ℕ → List Bool → List ℕ
+placesFrom n [] = []
+placesFrom n (true ∷ later) = n ∷ placesFrom (suc n) later
+placesFrom n (false ∷ later) = placesFrom (suc n) later
+
+abbrev pub places : Breaches → List ℕ
+places b = placesFrom 1 (byArticle b)
+
 abbrev pub Says : Case → Type 0
 Says (passes ws) = verdict (minutesOf ws) ≡ pass (allDaily (minutesOf ws))
 Says (breaks ws reading m n) = verdict (minutesOf ws) ≡ breach m n
+Says (together ws m broken rule place) =
+    (places (breaches (prefix (m - 1) (minutesOf ws))) ≡ []) ×
+    (places (breaches (prefix m (minutesOf ws))) ≡ broken) ×
+    (fixedTested ws m ≡ answered rule) ×
+    (articleTested ws m ≡ answered place)
 Says (tests ws reading n) = readingTest (minutesOf ws) reading ≡ n
 Says (counts closed p start end load b) = shortened closed (dailyRest p start end load) ≡ b
 
@@ -72,6 +93,32 @@ bytes-test zero [] t = tt
 bytes-test zero (b ∷ r) t = false≢true t
 bytes-test (suc n) [] t = false≢true t
 bytes-test (suc n) (b ∷ r) t = (ltb-true b byteValues (and-left _ _ t), bytes-test n r (and-right _ _ t))
+
+sameNumbers : List ℕ → List ℕ → Bool
+sameNumbers [] [] = true
+sameNumbers [] (y ∷ ys) = false
+sameNumbers (x ∷ xs) [] = false
+sameNumbers (x ∷ xs) (y ∷ ys) = eqb x y and sameNumbers xs ys
+
+same-numbers : (xs ys : List ℕ) → sameNumbers xs ys ≡ true → xs ≡ ys
+unfolding sameNumbers
+same-numbers [] [] t = refl
+same-numbers [] (y ∷ ys) t = absurd (false≢true t)
+same-numbers (x ∷ xs) [] t = absurd (false≢true t)
+same-numbers (x ∷ xs) (y ∷ ys) t = ap₂ _∷_ (eqb-true x y (and-left _ _ t)) (same-numbers xs ys (and-right _ _ t))
+
+-- the words are accepted
+abbrev accepted : Answer ℕ → Bool
+accepted (refused n) = false
+accepted (answered total) = true
+
+accepted-words : (ws : List ℕ) → accepted (totalFrom 0 ws) ≡ true → measured ws ≡ answered (measureOf (minutesOf ws))
+unfolding measured
+accepted-words ws = at (totalFrom 0 ws)
+  where
+    at : (t : Answer ℕ) → accepted t ≡ true → andThen t (λ _. answered (measureOf (minutesOf ws))) ≡ answered (measureOf (minutesOf ws))
+    at (refused n) e = absurd (false≢true e)
+    at (answered total) e = refl
 
 -- a fixed rule is broken, or no long rest can be weekly and the daily reading is not lawful
 noneLawful : List ℕ → Bool
@@ -115,6 +162,13 @@ module _ (ws : List ℕ) where
   unfolding readingSize
   size-by = ap (λ (rs : List Span). entryBytes * length rs) (rests-by ws)
 
+  breaches-at : (m : ℕ) → breaches (prefix m (minutesOf ws)) ≡ breachesByWord (cutAt m ws)
+  breaches-at m = ap breaches (sym (cut-at m ws)) ∙ breaches-by (cutAt m ws)
+
+  tested-at : (m : ℕ) → accepted (totalFrom 0 ws) ≡ true → leb m (totalBy ws) ≡ true → breachesTested ws m ≡ answered (breachesByWord (cutAt m ws))
+  unfolding breachesTested
+  tested-at m t h = rw (accepted-words ws t, total-by ws, le-ltb (totalBy ws) m (leb-true m (totalBy ws) h)) (ap answered (breaches-at m))
+
   article-by : article (minutesOf ws) ≡ articleBy (fixedBy ws)
   unfolding article
   article-by = ap articleBy (fixed-by ws)
@@ -128,6 +182,13 @@ holds (breaks ws reading (suc m) n) =
     lawfulBy (cutAt m ws) reading and
     noneBy (cutAt (suc m) ws) and
     eqb (articleBy (fixedBy (cutAt (suc m) ws))) n
+holds (together ws m broken rule place) =
+    accepted (totalFrom 0 ws) and
+    leb m (totalBy ws) and
+    sameNumbers (places (breachesByWord (cutAt (m - 1) ws))) [] and
+    sameNumbers (places (breachesByWord (cutAt m ws))) broken and
+    eqb (smallestRule (breachesByWord (cutAt m ws))) rule and
+    eqb (firstArticle (breachesByWord (cutAt m ws))) place
 holds (tests ws reading n) = eqb (readingBy ws reading) n
 holds (counts closed p start end load b) = pick b (shortened closed (dailyRest p start end load)) (not (shortened closed (dailyRest p start end load)))
 
@@ -147,7 +208,7 @@ module _ (ws : List ℕ) (m : ℕ) where
   article-there = rw (← cut-at m ws) (article-by (cutAt m ws))
 
 says : (c : Case) → holds c ≡ true → Says c
-unfolding holds
+unfolding holds fixedTested articleTested
 says (passes ws) t = verdict-pass _ _ (daily-first (minutesOf ws) (rw (lawful-daily-by ws) t))
 says (breaks ws reading zero n) t = absurd (false≢true t)
 says (breaks ws reading (suc m) n) t =
@@ -158,6 +219,17 @@ says (breaks ws reading (suc m) n) t =
     verdict-breach (minutesOf ws) m (reading, lawful-there ws m (and-right _ _ t3) (and-right _ _ t2)) (none-there ws (suc m) (and-right _ _ t1))
     (rw (total-by ws) within)
     ∙ ap (breach (suc m)) (article-there ws (suc m) ∙ eqb-true _ n (and-right _ _ t))
+says (together ws m broken rule place) t =
+    let t1 = and-left _ _ t in
+    let t2 = and-left _ _ t1 in
+    let t3 = and-left _ _ t2 in
+    let t4 = and-left _ _ t3 in
+    let there = tested-at ws m (and-left _ _ t4) (and-right _ _ t4) in (
+      ap places (breaches-at ws (m - 1)) ∙ same-numbers _ [] (and-right _ _ t3),
+      ap places (breaches-at ws m) ∙ same-numbers _ broken (and-right _ _ t2),
+      ap (λ (x : Answer Breaches). andThen x (λ b. answered (smallestRule b))) there ∙ ap answered (eqb-true _ rule (and-right _ _ t1)),
+      ap (λ (x : Answer Breaches). andThen x (λ b. answered (firstArticle b))) there ∙ ap answered (eqb-true _ place (and-right _ _ t)),
+    )
 says (tests ws reading n) t = reading-by ws reading ∙ eqb-true _ n t
 says (counts closed p start end load true) t = t
 says (counts closed p start end load false) t = not-true (shortened closed (dailyRest p start end load)) t
@@ -321,7 +393,50 @@ worked =
     tests (r 11520 ∷ times 5 (w 780 ∷ r 660 ∷ []) (w 780 ∷ r 540 ∷ w 120 ∷ [])) (weekly 0 0 (daily 6 [])) 11 ∷
     []
 
+-- the same with the rest after it; one of 600 minutes
+abbrev pub shift : List ℕ
+shift = ordinary ++ r 660 ∷ []
+
+abbrev pub longShift : List ℕ
+longShift = d 270 ∷ r 45 ∷ d 270 ∷ r 45 ∷ d 60 ∷ r 660 ∷ []
+
+-- a first week with 2,040 minutes of driving, and one with 2,700
+abbrev pub week2040 : List ℕ → List ℕ
+week2040 after = times 3 (d 255 ∷ r 45 ∷ d 255 ∷ r 660 ∷ []) (d 255 ∷ r 45 ∷ d 255 ∷ r 5880 ∷ after)
+
+abbrev pub week2700 : List ℕ → List ℕ
+week2700 after = times 4 shift (ordinary ++ r 4515 ∷ after)
+
+-- Request 4: two, three and more of the fixed rules break at one minute
+abbrev pub ordered : List Case
+ordered =
+    -- 7 with 6(1), 6(2), 6(3) and 8(2)
+    together (d 270 ∷ r 45 ∷ d 60 ∷ r 45 ∷ d 271 ∷ []) 691 (1 ∷ 4 ∷ []) 1 1 ∷
+    together (times 2 (longer ++ r 600 ∷ []) (d 270 ∷ r 45 ∷ d 271 ∷ [])) 3048 (1 ∷ 4 ∷ []) 1 1 ∷
+    together (times 5 shift (d 270 ∷ r 45 ∷ d 120 ∷ r 660 ∷ d 271 ∷ [])) 7591 (2 ∷ 4 ∷ []) 1 2 ∷
+    together (week2700 (times 4 shift (d 270 ∷ r 660 ∷ d 271 ∷ []))) 16261 (3 ∷ 4 ∷ []) 1 3 ∷
+    together (w 630 ∷ d 271 ∷ []) 901 (4 ∷ 5 ∷ []) 1 4 ∷
+    -- 6(1) with 8(2), 6(2) with 6(3)
+    together (d 270 ∷ r 45 ∷ d 270 ∷ r 255 ∷ d 61 ∷ []) 901 (1 ∷ 5 ∷ []) 2 1 ∷
+    together (week2040 (times 2 longShift (times 4 shift (d 1 ∷ [])))) 17761 (2 ∷ 3 ∷ []) 3 2 ∷
+    -- three, and all five
+    together (d 270 ∷ r 45 ∷ d 60 ∷ r 255 ∷ d 271 ∷ []) 901 (1 ∷ 4 ∷ 5 ∷ []) 1 1 ∷
+    together (week2040 (times 5 shift (d 270 ∷ r 45 ∷ d 120 ∷ r 660 ∷ d 271 ∷ []))) 17671 (2 ∷ 3 ∷ 4 ∷ []) 1 2 ∷
+    together (week2040 (longShift ++ times 4 shift (d 270 ∷ r 45 ∷ d 60 ∷ r 255 ∷ d 271 ∷ []))) 17311 (1 ∷ 2 ∷ 3 ∷ 4 ∷ 5 ∷ []) 1 1 ∷
+    -- one alone
+    together (d 270 ∷ r 45 ∷ d 270 ∷ r 45 ∷ d 61 ∷ []) 691 (1 ∷ []) 2 1 ∷
+    together (times 2 longShift (times 4 shift (d 1 ∷ []))) 7681 (2 ∷ []) 3 2 ∷
+    together (week2700 (times 5 shift (d 1 ∷ []))) 16306 (3 ∷ []) 4 3 ∷
+    together (d 271 ∷ []) 271 (4 ∷ []) 1 4 ∷
+    together (w 901 ∷ []) 901 (5 ∷ []) 5 5 ∷
+    -- the article of the verdict goes by the rules' numbers
+    breaks (d 270 ∷ r 45 ∷ d 60 ∷ r 45 ∷ d 271 ∷ []) [] 691 1 ∷
+    breaks (w 630 ∷ d 271 ∷ []) [] 901 1 ∷
+    breaks (week2040 (times 2 longShift (times 4 shift (d 1 ∷ [])))) (daily 3 (weekly 0 0 (daily 5 []))) 17761 3 ∷
+    breaks (week2040 (times 5 shift (d 270 ∷ r 45 ∷ d 120 ∷ r 660 ∷ d 271 ∷ []))) (daily 3 (weekly 0 0 (daily 6 []))) 17671 1 ∷
+    []
+
 -- THE JOINT THEOREM
-pub on-the-edge : AllSay (starred ++ worked)
-unfolding opened endBy closedBy totalBy drivingUpTo cutAt keepsAccumulatedBy holds bytesTest
-on-the-edge = all-say (starred ++ worked) refl
+pub on-the-edge : AllSay (starred ++ worked ++ ordered)
+unfolding opened endBy closedBy totalBy drivingUpTo cutAt keepsAccumulatedBy holds bytesTest sameNumbers
+on-the-edge = all-say (starred ++ worked ++ ordered) refl

@@ -99,10 +99,6 @@ module _ (xs ys : List ℕ) where
       let b = and-right _ _ u in
       and-both _ _ (rw p at a) (lt-ltb _ _ (le-trans (ltb-true _ _ b) (driving-in d e p q)))
 
-  pub prefix1 : rule1 (xs ++ ys) ≡ true → rule1 xs ≡ true
-  unfolding rule1
-  prefix1 t = kept-prefix cleared 0 xs ys t
-
   pub prefix2 : rule2 (drivingIn (xs ++ ys)) (weeksOf (xs ++ ys)) (days (xs ++ ys)) ≡ true → rule2 (drivingIn xs) (weeksOf xs) (days xs) ≡ true
   unfolding rule2
   prefix2 t =
@@ -118,6 +114,10 @@ module _ (xs ys : List ℕ) where
   unfolding rule4
   prefix4 t = each-week _ _ (λ w u. keeps fortnightAtMost (add-le-add (week-driving w) (week-driving (w + 1))) u) t
 
+  pub prefix1 : rule1 (xs ++ ys) ≡ true → rule1 xs ≡ true
+  unfolding rule1
+  prefix1 t = kept-prefix cleared 0 xs ys t
+
   pub prefix5 : rule5 (days (xs ++ ys)) ≡ true → rule5 (days xs) ≡ true
   unfolding rule5
   prefix5 t = all-within _ _ (λ d e p q u. le-leb (d .end) (d .start + dayLength) (omega (arith, leb-true (e .end) (e .start + dayLength) u))) prefix-days t
@@ -126,9 +126,9 @@ module _ (xs ys : List ℕ) where
   fixed-prefix t =
       let a = fixed-rules (xs ++ ys) t in
       rules-fixed xs (record {
-        one = prefix1 (a .one);
         two = prefix2 (a .two);
         three = prefix3 (a .three);
         four = prefix4 (a .four);
+        one = prefix1 (a .one);
         five = prefix5 (a .five);
       })

@@ -1,6 +1,6 @@
 -- A test that finds no broken rule says that each rule holds, and the converse. Assumes nothing.
-use mathlib.Core.Path.{_≡_, refl, ap, _∙_}
-use mathlib.Core.Bool.{Bool, true, false}
+use mathlib.Core.Path.{_≡_, refl, sym, ap, _∙_}
+use mathlib.Core.Bool.{Bool, true, false, not}
 use mathlib.Core.List.{List, [], _∷_, List·Memᴰ as In, List·Memᴰ·head as here, List·Memᴰ·tail as there}
 use Prim.Native.Nat.{ℕ, zero, suc, _+_}
 use native.Mathlib.Omega.{arith}
@@ -12,7 +12,9 @@ use Rattle.recording.specs.Rests.{closedRests, judgedEnd, longRests}
 use Rattle.recording.specs.Days.{days, drivingIn}
 use Rattle.recording.specs.Weeks.{weeksOf, restOnly}
 use Rattle.rules.specs.Broken.{unless, ifNone}
-use Rattle.rules.specs.Fixed.{rule1, rule2, rule3, rule4, rule5, firstBroken, fixedTest}
+use Rattle.rules.specs.declared.Breaches.{Breaches}
+use Rattle.rules.specs.Fixed.{rule1, rule2, rule3, rule4, rule5, breachesBy, breaches, fixedTest}
+use Rattle.rules.proofs.ArticleOrder.{rule-none, none-rule}
 use Rattle.recording.specs.declared.Span.{Span}
 use Rattle.rules.specs.Reading.{Entry, asRead, isWeekly, entries}
 use Rattle.rules.specs.ReadingRules.{rule6, rule7, rule8, shortened, shortenedAtMost, rule9From, rule9, rule10, rule11, laterTest, readingTest}
@@ -27,25 +29,38 @@ none-broken zero later e = (refl, e)
 none-broken (suc n) later e = absurd (omega arith)
 
 pub record FixedRules (ms : List ℕ) : Type 0 where
-  pub one : rule1 ms ≡ true
   pub two : rule2 (drivingIn ms) (weeksOf ms) (days ms) ≡ true
   pub three : rule3 (drivingIn ms) (weeksOf ms) ≡ true
   pub four : rule4 (drivingIn ms) (weeksOf ms) ≡ true
+  pub one : rule1 ms ≡ true
   pub five : rule5 (days ms) ≡ true
 
+kept : (b : Bool) → not b ≡ false → b ≡ true
+kept true e = refl
+kept false e = sym e
+
 pub fixed-rules : (ms : List ℕ) → fixedTest ms ≡ 0 → FixedRules ms
-unfolding fixedTest firstBroken
+unfolding fixedTest breaches breachesBy
 fixed-rules ms t =
-    let r1 = holds _ 0 _ t in
-    let r2 = holds _ 1 _ (r1 .1) in
-    let r3 = holds _ 2 _ (r2 .1) in
-    let r4 = holds _ 3 _ (r3 .1) in
-    let r5 = holds _ 4 _ (r4 .1) in
-    record { one = r1 .0; two = r2 .0; three = r3 .0; four = r4 .0; five = r5 .0 }
+    let e = rule-none (breaches ms) t in
+    record {
+      two = kept _ (ap (λ (b : Breaches). b .daily) e);
+      three = kept _ (ap (λ (b : Breaches). b .weekly) e);
+      four = kept _ (ap (λ (b : Breaches). b .fortnightly) e);
+      one = kept _ (ap (λ (b : Breaches). b .breaks) e);
+      five = kept _ (ap (λ (b : Breaches). b .rests) e);
+    }
 
 pub rules-fixed : (ms : List ℕ) → FixedRules ms → fixedTest ms ≡ 0
-unfolding fixedTest firstBroken
-rules-fixed ms a = simp (a .one, a .two, a .three, a .four, a .five)
+unfolding fixedTest breaches breachesBy
+rules-fixed ms a =
+    none-rule (breaches ms) (λ i. record {
+      daily = not (a .two i);
+      weekly = not (a .three i);
+      fortnightly = not (a .four i);
+      breaks = not (a .one i);
+      rests = not (a .five i);
+    })
 
 -- where S is s and the long rests are rs
 pub record LaterRules (restWeek : ℕ → Bool) (counts : Entry → Bool) (s : ℕ) (rs : List Span) (es : List Entry) : Type 0 where

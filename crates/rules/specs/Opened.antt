@@ -2,13 +2,14 @@
 -- is computed.
 -- Assumes nothing.
 use Rattle.recording.specs.Opened.{opened as recordingOpened}
-use Rattle.rules.specs.Fixed.{rested, drove, keepsAccumulated, rule1, extended, rule2, rule3, rule4, rule5, firstBroken, fixedTest}
+use Rattle.rules.specs.Fixed.{extended, rule2, rule3, rule4, rested, drove, keepsAccumulated, rule1, rule5, breachesBy, breaches, smallestRule, fixedTest, firstArticle}
 use Rattle.rules.specs.Reading.{asRead, compensationOf, readingSize, entriesFrom, entries}
 use Rattle.rules.specs.ReadingRules.{formedDaily, formedWeekly, formed, rule6, longEnough, rule7, endOf, compensated, rule8, portionUnder, splitDay, shortened, rule9From, rule9, rule10From}
 use Rattle.rules.specs.ReadingRules.{rule10, ofKind, countedIn, enoughIn, rule11, laterTest, readingTest}
 use Rattle.rules.specs.Verdict.{lawful, article}
 
 unfoldable pub opened : Unit {0}
-unfolding recordingOpened rested drove keepsAccumulated rule1 extended rule2 rule3 rule4 rule5 firstBroken fixedTest asRead compensationOf readingSize entriesFrom entries formedDaily formedWeekly
-    formed rule6 longEnough rule7 endOf compensated rule8 portionUnder splitDay shortened rule9From rule9 rule10From rule10 ofKind countedIn enoughIn rule11 laterTest readingTest lawful article
+unfolding recordingOpened extended rule2 rule3 rule4 rested drove keepsAccumulated rule1 rule5 breachesBy breaches smallestRule fixedTest firstArticle asRead compensationOf readingSize
+    entriesFrom entries formedDaily formedWeekly formed rule6 longEnough rule7 endOf compensated rule8 portionUnder splitDay shortened rule9From rule9 rule10From rule10 ofKind countedIn
+    enoughIn rule11 laterTest readingTest lawful article
 opened = tt

@@ -1,4 +1,4 @@
--- Public: document 01, "Operations", both tests, the verdict, and the entry of a reading.
+-- Public: document 01, "Operations", the tests, the verdict, and the entry of a reading; with the test of document 02, request 4.
 -- Assumes nothing.
 use mathlib.Core.Bool.{not}
 use mathlib.Core.Path.{_≡_}
@@ -10,16 +10,26 @@ use Rattle.recording.specs.Tests.{_or_}
 use Rattle.recording.specs.Answers.{Answer, refused, answered, andThen, refuseIf, filled}
 use Rattle.recording.specs.Words.{minutesOf}
 use Rattle.recording.specs.Operations.{measured}
-use Rattle.rules.specs.Fixed.{fixedTest}
+use Rattle.rules.specs.declared.Breaches.{Breaches}
+use Rattle.rules.specs.Fixed.{breaches, smallestRule, firstArticle}
 use Rattle.rules.specs.Reading.{entryBytes}
 use Rattle.rules.specs.ReadingRules.{readingTest}
 use Rattle.rules.specs.Verdict.{prefix, Verdict, pass, breach, verdict}
 
--- "Testing fixed rules for a stretch of m: 1, 2; then 5, m is over N. The answer is 0 or the smallest broken rule of 1 to 5."
-unfoldable pub fixedTested : List ℕ → ℕ → Answer ℕ
-fixedTested words m =
+-- "Testing fixed rules for a stretch of m: 1, 2; then 5, m is over N.": which of the five it breaks
+unfoldable pub breachesTested : List ℕ → ℕ → Answer Breaches
+breachesTested words m =
     andThen (measured words) (λ k.
-    refuseIf (ltb (k .total) m) 5 (answered (fixedTest (prefix m (minutesOf words)))))
+    refuseIf (ltb (k .total) m) 5 (answered (breaches (prefix m (minutesOf words)))))
+
+-- "The answer is 0 or the smallest broken rule of 1 to 5."
+unfoldable pub fixedTested : List ℕ → ℕ → Answer ℕ
+fixedTested words m = andThen (breachesTested words m) (λ b. answered (smallestRule b))
+
+-- Document 02, request 4: "an operation beside the fixed test, with its inputs and refusals, that answers 0 or the place, 1 to 5, of the first of these
+-- broken."
+unfoldable pub articleTested : List ℕ → ℕ → Answer ℕ
+articleTested words m = andThen (breachesTested words m) (λ b. answered (firstArticle b))
 
 -- "Testing a reading: 1, 2; then 6, its byte count isn't 3 × k. The answer is 0 or the smallest broken rule."
 unfoldable pub readingTested : List ℕ → List ℕ → Answer ℕ

@@ -6,6 +6,16 @@ pub struct Accumulated {
     pub split: bool,
 }
 
+// Which of the fixed rules are broken, in the regulation's order: a day's driving, 6(1), a week's, 6(2), and a fortnight's, 6(3), the breaks
+// of article 7, and the daily rests of 8(2).
+pub struct Breaches {
+    pub daily: bool,
+    pub weekly: bool,
+    pub fortnightly: bool,
+    pub breaks: bool,
+    pub rests: bool,
+}
+
 // What a weekly rest is: regular, or reduced by so many minutes.
 pub enum Standing {
     Regular,

@@ -1,8 +1,7 @@
--- The account is right: after any minutes it holds what document 01 says of them, and its rule is the fixed test's answer.
+-- The account is right: after any minutes it holds what document 01 says of them, and which of the fixed rules they break.
 -- Assumes nothing.
 use mathlib.Core.Path.{_≡_, refl, sym, ap, ap₂, _∙_}
-use mathlib.Core.Logic.{_⊎_, inl, inr}
-use mathlib.Core.Bool.{Bool, true, false}
+use mathlib.Core.Bool.{Bool, true, false, not}
 use mathlib.Core.List.{List, [], _∷_, _++_, append-nil}
 use Prim.Native.Nat.{ℕ, zero, suc, _+_, _-_, _≤_, _<_}
 use native.Mathlib.Nat.{le-refl, le-trans}
@@ -10,71 +9,44 @@ use native.Mathlib.Omega.{arith}
 use lib.Dec.{leb, ltb, eqb, eqb·suc-zero}
 use lib.ListN.{length, take, drop, take-append-drop}
 use lib.Seq.{append-snoc, take-append-le, take-append-seam, take-all, take-take}
-use borrow.Author.Tests.{leb-true, leb-false, le-leb, lt-leb, ltb-true, ltb-false, lt-ltb, le-ltb, eqb-true, eqb-false, eq-eqb, ne-eqb}
-use Rattle.recording.specs.Tests.{_and_, pick, one, countOf}
+use borrow.Author.Tests.{leb-true, leb-false, ltb-true, ltb-false, lt-ltb, le-ltb, eqb-true, eqb-false, eq-eqb, ne-eqb}
+use Rattle.recording.specs.Tests.{_and_, _or_, pick, one, countOf}
 use Rattle.recording.specs.Words.{isDriving, drivingTime}
 use Rattle.recording.specs.Rests.{judgedEnd, longRestMinutes}
 use Rattle.recording.specs.Days.{drivingIn}
 use Rattle.recording.specs.Weeks.{weekMinutes, weekStart, week, weekOf}
 use Rattle.recording.specs.declared.Span.{Span}
-use Rattle.recording.proofs.TestLaws.{one-most}
+use Rattle.recording.proofs.TestLaws.{not-and, one-most}
 use Rattle.recording.proofs.Walks.{judged-within}
-use Rattle.rules.specs.Broken.{unless}
-use Rattle.rules.specs.Fixed.{rested, drove, ordinaryDay, extended, firstBroken, fixedTest}
+use Rattle.rules.specs.Fixed.{ordinaryDay, extended, rested, drove, unbroken as nothing, breachesBy, breaches, smallestRule, fixedTest}
 use Rattle.rules.specs.Opened.{opened as rulesOpened}
 use Rattle.rules.specs.declared.Accumulated.{Accumulated}
+use Rattle.rules.specs.declared.Breaches.{Breaches}
+use Rattle.rules.proofs.ArticleOrder.{rule-none}
 use Rattle.rules.proofs.FixedPrefix.{fixed-prefix}
 use Rattle.rules_fixed.specs.declared.Day.{Day}
 use Rattle.rules_fixed.specs.declared.Week.{Week}
 use Rattle.rules_fixed.specs.declared.Break.{Break}
 use Rattle.rules_fixed.specs.declared.Account.{Account}
-use Rattle.rules_fixed.specs.Account.{dayAfter, dayWith, weekWith, weekNext, brokenAt, smaller, firstBreak, restMinute, busyMinute, minuteAfter, accountFrom, opening}
+use Rattle.rules_fixed.specs.Account.{dayAfter, dayWith, weekWith, weekNext, brokenAt, eitherBroken, firstBreak, restMinute, busyMinute, minuteAfter, accountFrom, opening}
 use Rattle.rules_fixed.proofs.Driving.{upTo, up-to-within, up-to-past, up-to-judged, driving-between, driving-snoc, length-more, driving-same}
 use Rattle.rules_fixed.proofs.Accumulated.{accumulatedFrom, accumulatedBy, rule1-rest, accumulated-after-rest, rule1-busy, accumulated-after-busy}
 use Rattle.rules_fixed.proofs.DayEnds.{span, lastEnd, dayStart, daysDone, days-are, day-within, judged-rest, rests-rest, judged-busy, long-before, short-before}
 use Rattle.rules_fixed.proofs.Rules.{extendedIn, none-extended, weekBefore, count-one, up-to-rest, extended-rest, rule2-rest, rule3-rest, rule4-rest, rule5-rest, running}
 use Rattle.rules_fixed.proofs.Rules.{extended-busy, rule2-busy, rule5-busy, rule3-busy, rule4-busy}
 
--- ---- the smaller of two broken rules: each is 0 or past the rules that are read before it
-abbrev pub Past : ℕ → ℕ → Type 0
-Past n x = (x ≡ 0) ⊎ (n < x)
+-- ---- a rule is broken with one minute more where it was before or that minute breaks it
+over : (n limit : ℕ) → not (leb n limit) ≡ ltb limit n
+over n limit = at (leb n limit) refl
+  where
+    at : (b : Bool) → leb n limit ≡ b → not b ≡ ltb limit n
+    at true e = sym (le-ltb limit n (leb-true n limit e))
+    at false e = sym (lt-ltb limit n (leb-false n limit e))
 
-pub past-unless : (m n : ℕ) (b : Bool) (x : ℕ) → m < n → Past n x → Past m (unless b n x)
-past-unless m n true x h (inl e) = inl e
-past-unless m n true x h (inr l) = inr (omega arith)
-past-unless m n false x h p = inr h
-
-smaller-first : (n y : ℕ) → Past (suc n) y → smaller (suc n) y ≡ suc n
-smaller-first n zero p = refl
-smaller-first n (suc y) (inl e) = absurd (omega arith)
-smaller-first n (suc y) (inr l) = rw (le-leb n y (omega arith)) refl
-
-smaller-second : (n x : ℕ) → Past (suc n) x → smaller x (suc n) ≡ suc n
-smaller-second n zero p = refl
-smaller-second n (suc x) (inl e) = absurd (omega arith)
-smaller-second n (suc x) (inr l) = rw (lt-leb x n (omega arith)) refl
-
-pub unless-both : (n : ℕ) (r t : Bool) (x y z : ℕ) → Past (suc n) x → Past (suc n) y → z ≡ smaller x y
-    → unless (r and t) (suc n) z ≡ smaller (unless r (suc n) x) (unless t (suc n) y)
-unfolding _and_
-unless-both n true true x y z p q e = e
-unless-both n true false x y z p q e = sym (smaller-second n x p)
-unless-both n false true x y z p q e = sym (smaller-first n y q)
-unless-both n false false x y z p q e = sym (rw (le-leb n n (le-refl _)) refl)
-
-five : (r1 r2 r3 r4 r5 t1 t2 t3 t4 t5 : Bool)
-    → unless (r1 and t1) 1 (unless (r2 and t2) 2 (unless (r3 and t3) 3 (unless (r4 and t4) 4 (unless (r5 and t5) 5 0))))
-    ≡ smaller (unless r1 1 (unless r2 2 (unless r3 3 (unless r4 4 (unless r5 5 0))))) (unless t1 1 (unless t2 2 (unless t3 3 (unless t4 4 (unless t5 5 0)))))
-five r1 r2 r3 r4 r5 t1 t2 t3 t4 t5 =
-    let p5 : (b : Bool) → Past 4 (unless b 5 0) = λ b. past-unless 4 5 b 0 (omega arith) (inl refl) in
-    let p4 : (a b : Bool) → Past 3 (unless a 4 (unless b 5 0)) = λ a b. past-unless 3 4 a _ (omega arith) (p5 b) in
-    let p3 : (z a b : Bool) → Past 2 (unless z 3 (unless a 4 (unless b 5 0))) = λ z a b. past-unless 2 3 z _ (omega arith) (p4 a b) in
-    let p2 : (y z a b : Bool) → Past 1 (unless y 2 (unless z 3 (unless a 4 (unless b 5 0)))) = λ y z a b. past-unless 1 2 y _ (omega arith) (p3 z a b) in
-    unless-both 0 r1 t1 _ _ _ (p2 r2 r3 r4 r5) (p2 t2 t3 t4 t5)
-    (unless-both 1 r2 t2 _ _ _ (p3 r3 r4 r5) (p3 t3 t4 t5)
-    (unless-both 2 r3 t3 _ _ _ (p4 r4 r5) (p4 t4 t5)
-    (unless-both 3 r4 t4 _ _ _ (p5 r5) (p5 t5)
-    (unless-both 4 r5 t5 0 0 0 (inl refl) (inl refl) refl))))
+-- where none was, just those that the minute breaks
+none-or : (b : Breaches) → eitherBroken nothing b ≡ b
+unfolding eitherBroken _or_
+none-or b = refl
 
 -- ---- the first breach: none, or after m minutes without
 pub data First (xs : List ℕ) (f : Break) : Type 0 where
@@ -84,14 +56,14 @@ pub data First (xs : List ℕ) (f : Break) : Type 0 where
 pub record Right (xs : List ℕ) (s : Account) : Type 0 where
   pub now : s .now ≡ length xs
   pub from : s .from ≡ judgedEnd xs
-  pub accumulated : s .accumulated ≡ accumulatedBy xs
   pub start : s .day .start ≡ dayStart xs
   pub today : s .day .driving + upTo xs (dayStart xs) ≡ drivingTime xs
   pub extended : s .day .extended ≡ extendedIn xs (weekOf (dayStart xs))
   pub end : s .week .end ≡ weekStart (weekOf (length xs) + 1)
   pub weekly : s .week .driving + upTo xs (weekStart (weekOf (length xs))) ≡ drivingTime xs
   pub last : s .week .last ≡ weekBefore xs (weekOf (length xs))
-  pub rule : s .rule ≡ fixedTest xs
+  pub accumulated : s .accumulated ≡ accumulatedBy xs
+  pub broken : s .broken ≡ breaches xs
   pub first : First xs (s .first)
 
 -- ---- the week: W is the week of the minute that is added, ys what there is with it
@@ -133,12 +105,16 @@ module _ (xs : List ℕ) (a : ℕ) where
   first-kept f m e h p q r =
       broken m e (omega (arith, length-more xs a)) (ap fixedTest (shorter m (omega arith)) ∙ p) (ap fixedTest (shorter (suc m) h) ∙ q) r
 
-  first-more : (f : Break) (now b : ℕ) → now ≡ suc (length xs) → First xs f → fixedTest (xs ++ a ∷ []) ≡ smaller (fixedTest xs) b
-      → First (xs ++ a ∷ []) (firstBreak f now b)
-  first-more f now b n (unbroken z k) t = at (eqb b 0) refl
+  first-more : (f : Break) (now : ℕ) (b : Breaches) → now ≡ suc (length xs) → First xs f → breaches (xs ++ a ∷ []) ≡ eitherBroken (breaches xs) b
+      → First (xs ++ a ∷ []) (firstBreak f now (smallestRule b))
+  unfolding fixedTest
+  first-more f now c n (unbroken z k) t = at (eqb b 0) refl
     where
+      b : ℕ
+      b = smallestRule c
+
       so : fixedTest (xs ++ a ∷ []) ≡ b
-      so = t ∙ ap (λ (x : ℕ). smaller x b) k
+      so = ap smallestRule (t ∙ ap (λ (x : Breaches). eitherBroken x c) (rule-none (breaches xs) k) ∙ none-or c)
 
       at : (y : Bool) → eqb b 0 ≡ y → First (xs ++ a ∷ []) (firstBreak f now b)
       at true e = rw (eq-eqb (f .rule) 0 z, e) (unbroken z (so ∙ eqb-true b 0 e))
@@ -146,7 +122,7 @@ module _ (xs : List ℕ) (a : ℕ) where
           rw (eq-eqb (f .rule) 0 z, e)
           (broken (length xs) n (omega (arith, length-more xs a)) (ap fixedTest (take-append-seam xs (a ∷ [])) ∙ k)
           (ap fixedTest (take-all (suc (length xs)) (xs ++ a ∷ []) (omega (arith, length-more xs a))) ∙ so) (eqb-false b 0 e))
-  first-more f now b n (broken m e h p q r) t = rw (ne-eqb (f .rule) 0 r) (first-kept f m e h p q r)
+  first-more f now c n (broken m e h p q r) t = rw (ne-eqb (f .rule) 0 r) (first-kept f m e h p q r)
 
   first-rest : (f : Break) → fixedTest (xs ++ a ∷ []) ≡ fixedTest xs → First xs f → First (xs ++ a ∷ []) f
   first-rest f t (unbroken z k) = unbroken z (t ∙ k)
@@ -154,9 +130,13 @@ module _ (xs : List ℕ) (a : ℕ) where
 
 -- ---- a minute of rest
 module _ (xs : List ℕ) (s : Account) (k : Right xs s) where
+  broken-rest : breaches (xs ++ 0 ∷ []) ≡ breaches xs
+  unfolding breaches breachesBy
+  broken-rest = rw (rule2-rest xs, rule3-rest xs, rule4-rest xs, rule1-rest xs, rule5-rest xs)
+
   test-rest : fixedTest (xs ++ 0 ∷ []) ≡ fixedTest xs
-  unfolding fixedTest firstBroken
-  test-rest = rw (rule1-rest xs, rule2-rest xs, rule3-rest xs, rule4-rest xs, rule5-rest xs)
+  unfolding fixedTest
+  test-rest = ap smallestRule broken-rest
 
   start-rest : dayStart (xs ++ 0 ∷ []) ≡ dayStart xs
   start-rest = ap (lastEnd 0) (rests-rest xs)
@@ -176,14 +156,14 @@ module _ (xs : List ℕ) (s : Account) (k : Right xs s) where
   right-rest = record {
     now = omega (arith, k .now, length-more xs 0);
     from = k .from ∙ sym (judged-rest xs);
-    accumulated = k .accumulated ∙ sym (accumulated-after-rest xs);
     start = k .start ∙ sym start-rest;
     today = rw start-rest (omega (arith, k .today, up-to-rest xs (dayStart xs), driving-snoc xs 0));
     extended = rw start-rest (k .extended ∙ sym (extended-rest xs (weekOf (dayStart xs))));
     end = week-rest .end;
     weekly = week-rest .weekly;
     last = week-rest .last;
-    rule = k .rule ∙ sym test-rest;
+    accumulated = k .accumulated ∙ sym (accumulated-after-rest xs);
+    broken = k .broken ∙ sym broken-rest;
     first = first-rest xs 0 (s .first) test-rest (k .first);
   }
 
@@ -359,13 +339,16 @@ module _ (xs : List ℕ) (s : Account) (k : Right xs s) (a : ℕ) where
   accumulated-right : accumulatedNow ≡ accumulatedBy (xs ++ suc a ∷ [])
   accumulated-right = rw (k .now, k .from, k .accumulated) (sym (accumulated-after-busy xs a))
 
-  test-busy : fixedTest (xs ++ suc a ∷ []) ≡ smaller (fixedTest xs) (brokenAt (s .now + 1) accumulatedNow dayNow (weekWith (suc a) (s .week)))
-  unfolding fixedTest firstBroken brokenAt
-  test-busy =
+  abbrev brokenNow : Breaches
+  brokenNow = brokenAt (s .now + 1) dayNow (weekWith (suc a) (s .week)) accumulatedNow
+
+  broken-busy : breaches (xs ++ suc a ∷ []) ≡ eitherBroken (breaches xs) brokenNow
+  unfolding breaches breachesBy eitherBroken brokenAt
+  broken-busy =
       let n : s .now + 1 ≡ suc (length xs) = omega (arith, k .now) in
-      rw (rule1-busy xs a, rule2-busy xs a, rule3-busy xs a (weekOf (length xs)) refl, rule4-busy xs a (weekOf (length xs)) refl, rule5-busy xs a)
+      rw (rule2-busy xs a, rule3-busy xs a (weekOf (length xs)) refl, rule4-busy xs a (weekOf (length xs)) refl, rule1-busy xs a, rule5-busy xs a)
       (rw (n, accumulated-right, running-is (dayNow .driving) (day-right .today), day-right .extended, day-right .start, week-is, last-is)
-      (five _ _ _ _ _ _ _ _ _ _))
+      (simp (not-and, over)))
 
   right-busy : Right (xs ++ suc a ∷ []) (busyMinute s (suc a))
   unfolding busyMinute
@@ -374,15 +357,15 @@ module _ (xs : List ℕ) (s : Account) (k : Right xs s) (a : ℕ) where
       record {
         now = omega (arith, k .now, length-more xs (suc a));
         from = omega (arith, k .now, judged-busy xs a);
-        accumulated = accumulated-right;
         start = day-right .start;
         today = day-right .today;
         extended = day-right .extended;
         end = w .end;
         weekly = w .weekly;
         last = w .last;
-        rule = ap (λ (x : ℕ). smaller x (brokenAt (s .now + 1) accumulatedNow dayNow (weekWith (suc a) (s .week)))) (k .rule) ∙ sym test-busy;
-        first = first-more xs (suc a) (s .first) (s .now + 1) _ (omega (arith, k .now)) (k .first) test-busy;
+        accumulated = accumulated-right;
+        broken = ap (λ (x : Breaches). eitherBroken x brokenNow) (k .broken) ∙ sym broken-busy;
+        first = first-more xs (suc a) (s .first) (s .now + 1) brokenNow (omega (arith, k .now)) (k .first) broken-busy;
       }
 
 -- ---- any minute, and any minutes
@@ -401,20 +384,25 @@ unfolding rulesOpened accumulatedFrom lastEnd extendedIn
 right-none = record {
   now = refl;
   from = refl;
-  accumulated = refl;
   start = refl;
   today = refl;
   extended = refl;
   end = refl;
   weekly = refl;
   last = refl;
-  rule = refl;
+  accumulated = refl;
+  broken = refl;
   first = unbroken refl refl;
 }
 
 -- THE LAW
 pub account-right : (ms : List ℕ) → Right ms (accountFrom opening ms)
 account-right ms = right-on [] ms opening right-none
+
+-- the fixed test is picked from it
+pub rule-right : (ms : List ℕ) {s : Account} {rule : ℕ} → s ≡ accountFrom opening ms → rule ≡ smallestRule (s .broken) → rule ≡ fixedTest ms
+unfolding fixedTest
+rule-right ms e p = p ∙ ap (λ (s : Account). smallestRule (s .broken)) e ∙ ap smallestRule (account-right ms .broken)
 
 -- ---- the first minute at which the fixed test of a stretch is not 0
 pub record Least (ms : List ℕ) (f : Break) : Type 0 where

@@ -1,41 +1,27 @@
 -- What the steps of the walk keep. Assumes nothing.
 use mathlib.Core.Path.{_≡_, refl}
 use mathlib.Core.Bool.{Bool, true, false}
-use Prim.Native.Nat.{ℕ, zero, suc, _+_, _-_, _≤_}
+use Prim.Native.Nat.{ℕ, _+_, _-_, _≤_}
 use native.Mathlib.Nat.{le-refl}
 use native.Mathlib.Omega.{arith}
-use lib.Dec.{leb, eqb, eqb·suc-zero, leb·suc-suc}
+use lib.Dec.{leb, eqb}
 use borrow.Author.Tests.{eqb-true}
 use Rattle.recording.proofs.TestLaws.{one-most}
 use Rattle.recording.specs.Tests.{_and_, pick}
 use Rattle.recording.specs.Words.{isDriving}
 use Rattle.recording.specs.Rests.{longRestMinutes}
 use Rattle.recording.specs.Weeks.{weekMinutes, isRest}
-use Rattle.rules.specs.Fixed.{cleared, clears, rested, drove, ordinaryDay}
+use Rattle.rules.specs.Fixed.{ordinaryDay, cleared, clears, rested, drove}
 use Rattle.rules.specs.declared.Accumulated.{Accumulated}
-use Rattle.rules_fixed.specs.Account.{dayAfter, dayWith, weekWith, weekNext, smaller, restMinute, busyMinute, minuteAfter}
+use Rattle.rules_fixed.specs.Account.{dayAfter, dayWith, weekWith, weekNext, restMinute, busyMinute, minuteAfter}
 use Rattle.rules_fixed.specs.Walk.{Bounded}
 use Rattle.rules_fixed.specs.declared.Account.{Account}
 use Rattle.rules_fixed.specs.declared.Day.{Day}
 use Rattle.rules_fixed.specs.declared.Week.{Week}
 
--- the smaller of two rules, by tests
-pub smaller-tests : (a b : ℕ) → smaller a b ≡ pick (eqb a 0) b (pick (eqb b 0) a (pick (leb a b) a b))
-smaller-tests zero b = refl
-smaller-tests (suc a) zero = rw (eqb·suc-zero a) refl
-smaller-tests (suc a) (suc b) = rw (eqb·suc-zero a, eqb·suc-zero b, leb·suc-suc a b) refl
-
 pick-most : (b : Bool) (x y n : ℕ) → x ≤ n → y ≤ n → pick b x y ≤ n
 pick-most true x y n h l = h
 pick-most false x y n h l = l
-
-pub rested-bounded : (n : ℕ) (d : Accumulated) (m : ℕ) → d .sum ≤ m → rested n d .sum ≤ m
-unfolding rested
-rested-bounded n d m h = at (clears n d) cleared _ (omega arith) h
-  where
-    at : (b : Bool) (x y : Accumulated) → x .sum ≤ m → y .sum ≤ m → pick b x y .sum ≤ m
-    at true x y p q = p
-    at false x y p q = q
 
 -- the day after a rest, and with a minute more
 pub record DayBounded (d : Day) (n : ℕ) : Type 0 where
@@ -79,6 +65,15 @@ week-next-bounded n w k = at (eqb n (w .end)) refl
     at true t = let e : n ≡ w .end = eqb-true n (w .end) t in record { end = omega arith; weekly = omega arith; last = k .weekly }
     at false t = k
 
+-- the driving sum after a rest
+pub rested-bounded : (n : ℕ) (d : Accumulated) (m : ℕ) → d .sum ≤ m → rested n d .sum ≤ m
+unfolding rested
+rested-bounded n d m h = at (clears n d) cleared _ (omega arith) h
+  where
+    at : (b : Bool) (x y : Accumulated) → x .sum ≤ m → y .sum ≤ m → pick b x y .sum ≤ m
+    at true x y p q = p
+    at false x y p q = q
+
 -- the account after a minute
 module _ (s : Account) (k : Bounded s) where
   pub its-day : DayBounded (s .day) (s .now)
@@ -97,13 +92,13 @@ module _ (s : Account) (k : Bounded s) where
       let w = week-next-bounded (s .now + 1) (s .week) (week-more (s .week) (s .now) its-week) in
       record {
         from = omega (arith, k .from);
-        sum = omega (arith, k .sum);
         start = omega (arith, k .start);
         driving = omega (arith, k .driving);
         extended = omega (arith, k .extended);
         end = w .end;
         weekly = w .weekly;
         last = w .last;
+        sum = omega (arith, k .sum);
       }
 
   busy-bounded : (a : ℕ) → Bounded (busyMinute s a)
@@ -113,13 +108,13 @@ module _ (s : Account) (k : Bounded s) where
       let w = week-next-bounded (s .now + 1) (weekWith a (s .week)) (week-with-bounded a (s .week) (s .now) its-week) in
       record {
         from = le-refl _;
-        sum = drove-bounded a (s .now - s .from);
         start = y .start;
         driving = y .driving;
         extended = y .extended;
         end = w .end;
         weekly = w .weekly;
         last = w .last;
+        sum = drove-bounded a (s .now - s .from);
       }
 
   pub minute-bounded : (a : ℕ) → Bounded (minuteAfter s a)

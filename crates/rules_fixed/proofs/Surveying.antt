@@ -1,4 +1,4 @@
--- The walk over the words: what it keeps, and what the fixed test answers at each return. Assumes nothing.
+-- The walk over the words: what it keeps, and what the tests answer at each return. Assumes nothing.
 use mathlib.Core.Path.{_≡_, refl, sym, ap, ap₂, _∙_}
 use mathlib.Core.List.{List, [], _∷_, _++_, append-nil, append-assoc}
 use Prim.Native.Nat.{ℕ, zero, suc, _+_, _-_, _≤_, _<_, min}
@@ -8,7 +8,7 @@ use native.Mathlib.Omega.{arith}
 use lib.ListN.{length, drop, take, getD, replicate, length-append, length-replicate}
 use lib.Seq.{drop-cons, drop-length, take-nil, take-all}
 use borrow.Author.Tests.{lt-ltb, le-ltb}
-use Rattle.recording.specs.Answers.{refused, answered}
+use Rattle.recording.specs.Answers.{Answer, refused, answered, andThen}
 use Rattle.recording.specs.Words.{minutesIn, activityIn, minutesOf}
 use Rattle.recording.specs.Operations.{totalAtMost, measured}
 use Rattle.recording.specs.Scan.{Scanned}
@@ -16,7 +16,8 @@ use Rattle.recording.specs.declared.Measure.{Measure}
 use Rattle.recording.specs.declared.Place.{Place}
 use Rattle.recording.proofs.ByWord.{take-run}
 use Rattle.recording.proofs.Scanning.{scan-total}
-use Rattle.rules.specs.Operations.{fixedTested}
+use Rattle.rules.specs.declared.Breaches.{Breaches}
+use Rattle.rules.specs.Operations.{breachesTested}
 use Rattle.rules_fixed.specs.Account.{minuteAfter, accountFrom, opening}
 use Rattle.rules_fixed.specs.Walk.{Bounded, Ran}
 use Rattle.rules_fixed.specs.declared.Account.{Account}
@@ -69,13 +70,13 @@ pub record Walking (ws : List ℕ) (m : ℕ) (s : Account) (togo i : ℕ) : Type
 opening-bounded : Bounded opening
 opening-bounded = record {
   from = omega arith;
-  sum = omega arith;
   start = omega arith;
   driving = omega arith;
   extended = omega arith;
   end = omega arith;
   weekly = omega arith;
   last = omega arith;
+  sum = omega arith;
 }
 
 pub start-walking : (ws : List ℕ) (m : ℕ) → length (minutesOf ws) ≤ totalAtMost → Walking ws m opening m 0
@@ -124,17 +125,21 @@ walk-done {ws} {m} {togo = togo} k h =
 pub all-there : {ws starts ends starts′ ends′ : List ℕ} {p : Place} → Scanned ws starts ends p starts′ ends′ → take (p .now) (minutesOf ws) ≡ minutesOf ws
 all-there {ws} {p = p} q = take-all (p .now) (minutesOf ws) (omega (arith, ap (λ (x : Place). x .now) (q .place) ∙ scan-total ws))
 
--- ---- the fixed test
-module _ (ws : List ℕ) (m : ℕ) where
-  pub test-refused : {n : ℕ} → measured ws ≡ refused n → refused n ≡ fixedTested ws m
-  unfolding fixedTested
+-- ---- the tests, each by what it picks from the rules that are broken
+module _ (ws : List ℕ) (m : ℕ) (pick : Breaches → ℕ) where
+  abbrev picked : Answer ℕ
+  picked = andThen (breachesTested ws m) (λ b. answered (pick b))
+
+  pub test-refused : {n : ℕ} → measured ws ≡ refused n → refused n ≡ picked
+  unfolding breachesTested
   test-refused e = rw e
 
-  pub test-past : {k : Measure} → measured ws ≡ answered k → k .total < m → refused 5 ≡ fixedTested ws m
-  unfolding fixedTested
+  pub test-past : {k : Measure} → measured ws ≡ answered k → k .total < m → refused 5 ≡ picked
+  unfolding breachesTested
   test-past {k} e h = rw (e, lt-ltb (k .total) m h) refl
 
-  pub test-done : {k : Measure} {s : Account} → measured ws ≡ answered k → m ≤ k .total → s ≡ accountFrom opening (take m (minutesOf ws)) → answered (s .rule) ≡ fixedTested ws m
-  unfolding fixedTested
-  test-done {k} {s} e h q =
-      rw (e, le-ltb (k .total) m h) (ap answered (ap (λ (x : Account). x .rule) q ∙ account-right (take m (minutesOf ws)) .rule))
+  pub test-done : {k : Measure} {s : Account} {n : ℕ} → measured ws ≡ answered k → m ≤ k .total → s ≡ accountFrom opening (take m (minutesOf ws)) → n ≡ pick (s .broken)
+      → answered n ≡ picked
+  unfolding breachesTested
+  test-done {k} {s} e h q p =
+      rw (e, le-ltb (k .total) m h) (ap answered (p ∙ ap pick (ap (λ (x : Account). x .broken) q ∙ account-right (take m (minutesOf ws)) .broken)))

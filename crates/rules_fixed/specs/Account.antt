@@ -2,15 +2,15 @@
 -- as document 01 says them.
 -- Assumes nothing.
 use mathlib.Core.List.{List, [], _∷_}
-use Prim.Native.Nat.{ℕ, zero, suc, _+_, _-_}
-use lib.Dec.{leb, eqb}
-use Rattle.recording.specs.Tests.{_and_, pick, one}
+use Prim.Native.Nat.{ℕ, _+_, _-_}
+use lib.Dec.{leb, ltb, eqb}
+use Rattle.recording.specs.Tests.{_and_, _or_, pick, one}
 use Rattle.recording.specs.Words.{isDriving}
 use Rattle.recording.specs.Rests.{longRestMinutes}
 use Rattle.recording.specs.Weeks.{weekMinutes, isRest}
-use Rattle.rules.specs.Broken.{unless}
-use Rattle.rules.specs.Fixed.{cleared, rested, drove, accumulatedAtMost, dayAtMost, ordinaryDay, extendedDays, weekAtMost, fortnightAtMost, dayLength}
+use Rattle.rules.specs.Fixed.{dayAtMost, ordinaryDay, extendedDays, weekAtMost, fortnightAtMost, cleared, rested, drove, accumulatedAtMost, dayLength, smallestRule, unbroken}
 use Rattle.rules.specs.declared.Accumulated.{Accumulated}
+use Rattle.rules.specs.declared.Breaches.{Breaches}
 use Rattle.rules_fixed.specs.declared.Day.{Day}
 use Rattle.rules_fixed.specs.declared.Week.{Week}
 use Rattle.rules_fixed.specs.declared.Break.{Break}
@@ -36,20 +36,24 @@ weekWith a w = record { end = w .end; driving = one (isDriving a) + w .driving; 
 unfoldable pub weekNext : ℕ → Week → Week
 weekNext now w = pick (eqb now (w .end)) (record { end = w .end + weekMinutes; driving = 0; last = w .driving }) w
 
--- ---- the smallest rule that is broken at the minute that ends at `now`
-unfoldable pub brokenAt : ℕ → Accumulated → Day → Week → ℕ
-brokenAt now d y w =
-    unless (leb (d .sum) accumulatedAtMost) 1
-    (unless (leb (y .driving) dayAtMost and leb (y .extended) extendedDays) 2
-    (unless (leb (w .driving) weekAtMost) 3
-    (unless (leb (w .last + w .driving) fortnightAtMost) 4
-    (unless (leb now (y .start + dayLength)) 5 0))))
+-- ---- which of the five are broken at the minute that ends at `now`; what is broken by one account or the other; and the first breach
+unfoldable pub brokenAt : ℕ → Day → Week → Accumulated → Breaches
+brokenAt now y w d = record {
+  daily = ltb dayAtMost (y .driving) or ltb extendedDays (y .extended);
+  weekly = ltb weekAtMost (w .driving);
+  fortnightly = ltb fortnightAtMost (w .last + w .driving);
+  breaks = ltb accumulatedAtMost (d .sum);
+  rests = ltb (y .start + dayLength) now;
+}
 
--- the smaller of two broken rules, where 0 is none; and the first breach
-abbrev pub smaller : ℕ → ℕ → ℕ
-smaller zero b = b
-smaller (suc a) zero = suc a
-smaller (suc a) (suc b) = pick (leb a b) (suc a) (suc b)
+unfoldable pub eitherBroken : Breaches → Breaches → Breaches
+eitherBroken a b = record {
+  daily = a .daily or b .daily;
+  weekly = a .weekly or b .weekly;
+  fortnightly = a .fortnightly or b .fortnightly;
+  breaks = a .breaks or b .breaks;
+  rests = a .rests or b .rests;
+}
 
 abbrev pub firstBreak : Break → ℕ → ℕ → Break
 firstBreak f now b = pick (eqb (f .rule) 0) (pick (eqb b 0) f (record { at = now; rule = b })) f
@@ -59,27 +63,27 @@ unfoldable pub restMinute : Account → Account
 restMinute s = record {
   now = s .now + 1;
   from = s .from;
-  accumulated = s .accumulated;
   day = s .day;
   week = weekNext (s .now + 1) (s .week);
-  rule = s .rule;
+  accumulated = s .accumulated;
+  broken = s .broken;
   first = s .first;
 }
 
 unfoldable pub busyMinute : Account → ℕ → Account
 busyMinute s a =
-    let d = drove a (rested (s .now - s .from) (s .accumulated)) in
     let y = dayWith a (dayAfter (s .now - s .from) (s .now) (s .week .end) (s .day)) in
     let w = weekWith a (s .week) in
-    let b = brokenAt (s .now + 1) d y w in
+    let d = drove a (rested (s .now - s .from) (s .accumulated)) in
+    let b = brokenAt (s .now + 1) y w d in
     record {
       now = s .now + 1;
       from = s .now + 1;
-      accumulated = d;
       day = y;
       week = weekNext (s .now + 1) w;
-      rule = smaller (s .rule) b;
-      first = firstBreak (s .first) (s .now + 1) b;
+      accumulated = d;
+      broken = eitherBroken (s .broken) b;
+      first = firstBreak (s .first) (s .now + 1) (smallestRule b);
     }
 
 unfoldable pub minuteAfter : Account → ℕ → Account
@@ -93,9 +97,9 @@ abbrev pub opening : Account
 opening = record {
   now = 0;
   from = 0;
-  accumulated = cleared;
   day = record { start = 0; driving = 0; extended = 0 };
   week = record { end = weekMinutes; driving = 0; last = 0 };
-  rule = 0;
+  accumulated = cleared;
+  broken = unbroken;
   first = record { at = 0; rule = 0 };
 }

@@ -16,13 +16,13 @@ use Rattle.rules_fixed.specs.declared.Survey.{Survey}
 -- no part of an account is past its minute
 pub record Bounded (s : Account) : Type 0 where
   pub from : s .from ≤ s .now
-  pub sum : s .accumulated .sum ≤ s .now
   pub start : s .day .start ≤ s .now
   pub driving : s .day .driving ≤ s .now
   pub extended : s .day .extended ≤ s .now
   pub end : s .week .end ≤ s .now + weekMinutes
   pub weekly : s .week .driving ≤ s .now
   pub last : s .week .last ≤ s .now
+  pub sum : s .accumulated .sum ≤ s .now
 
 -- a run of n minutes
 pub record Ran (s : Account) (a n : ℕ) (r : Account) : Type 0 where

@@ -1,8 +1,11 @@
-// The fixed rules, 1 to 5, in one walk over a recording; and what the later rules ask of its long rests.
+// The fixed rules in one walk over a recording, in the regulation's order: articles 6(1), 6(2), 6(3), 7, 8(2), which are rules 2, 3, 4, 1 and 5;
+// and what the later rules ask of its long rests.
 use recording::Place;
 use recording::Weighing;
 use rules::Accumulated;
+use rules::Breaches;
 ghost use mathlib.Core.Path.{_≡_};
+ghost use mathlib.Core.List.{[], _∷_};
 ghost use Prim.Native.Nat.{_+_, _<_, _≤_};
 ghost use lib.ListN.{length, take};
 ghost use lib.Seq.{sets};
@@ -11,13 +14,14 @@ ghost use Rattle.recording.specs.Words.{minutesOf};
 ghost use Rattle.recording.specs.Rests.{longRestsAtMost};
 ghost use Rattle.recording.specs.Operations.{totalAtMost};
 ghost use Rattle.recording.specs.Scan.{restAt};
-ghost use Rattle.rules.specs.Fixed.{cleared, rested};
-ghost use Rattle.rules.specs.Operations.{fixedTested};
-ghost use Rattle.rules_fixed.specs.Account.{dayAfter, weekNext, brokenAt, smaller, firstBreak, accountFrom, opening};
+ghost use Rattle.rules.specs.Broken.{firstPlace};
+ghost use Rattle.rules.specs.Fixed.{cleared, rested, smallestRule, firstArticle};
+ghost use Rattle.rules.specs.Operations.{fixedTested, articleTested};
+ghost use Rattle.rules_fixed.specs.Account.{dayAfter, weekNext, brokenAt, eitherBroken, firstBreak, accountFrom, opening};
 ghost use Rattle.rules_fixed.specs.Nets.{regularNet, spanOf, netsOf, freshDay, closes, dayOn, withNet};
 ghost use Rattle.rules_fixed.specs.Walk.{Bounded, Ran, Surveyed};
 ghost use Rattle.rules_fixed.specs.Tested.{tested};
-ghost use Rattle.rules_fixed.specs.Parts.{drivingOf, inWeek, accumulatedMore, dayMore, weekMore, partAfter, sameBreaches, Taken};
+ghost use Rattle.rules_fixed.specs.Parts.{drivingOf, inWeek, dayMore, weekMore, accumulatedMore, partAfter, sameBroken, sameBreaches, Taken};
 
 // The day that runs: its start P, its driving, and how many days that began in its week were extended.
 pub struct Day {
@@ -40,14 +44,14 @@ pub struct Break {
 }
 
 // The account of a stretch: the minute reached, where the rest under way started or one could start, the account of each rule,
-// the smallest rule that is broken, or 0, and the first breach.
+// which rules are broken, and the first breach.
 pub struct Account {
     pub now: u32,
     pub from: u32,
-    pub accumulated: Accumulated,
     pub day: Day,
     pub week: Week,
-    pub rule: u32,
+    pub accumulated: Accumulated,
+    pub broken: Breaches,
     pub first: Break,
 }
 
@@ -69,12 +73,26 @@ pub struct OpenDay {
     pub held: bool,
 }
 
-// What the fixed test answers.
+// What the tests answer.
 pub enum Tested {
     Refused(u32),
     Answer(u32),
 }
 
+// Article 6(1), rule 2: a day's driving, that of an ordinary day, and how many days that begin in one week may exceed it.
+const DAY: u32 = 600;
+
+const ORDINARY_DAY: u32 = 540;
+
+const EXTENDED_DAYS: u32 = 2;
+
+// Article 6(2), rule 3: a week's driving.
+const WEEK: u32 = 3360;
+
+// Article 6(3), rule 4: that of two consecutive weeks.
+const FORTNIGHT: u32 = 5400;
+
+// Article 7, rule 1: a break, its two parts, and the driving between breaks.
 const FULL_BREAK: u32 = 45;
 
 const FIRST_PART: u32 = 15;
@@ -83,18 +101,10 @@ const SECOND_PART: u32 = 30;
 
 const ACCUMULATED_AT_MOST: u32 = 270;
 
-const DAY: u32 = 600;
-
-const ORDINARY_DAY: u32 = 540;
-
-const EXTENDED_DAYS: u32 = 2;
-
-const WEEK: u32 = 3360;
-
-const FORTNIGHT: u32 = 5400;
-
+// Article 8(2), rule 5: from the end of a long rest to the next.
 const DAY_LENGTH: u32 = 900;
 
+// Article 8(4), rule 9: the day in which a daily rest's portion lies, a full portion, and the two periods of a regular daily rest taken as two.
 const DAILY_WINDOW: u32 = 1440;
 
 const FULL_PORTION: u32 = 660;
@@ -103,42 +113,20 @@ const FIRST_PERIOD: u32 = 180;
 
 const SECOND_PERIOD: u32 = 540;
 
-// Rule 1: the driving sum where it starts, and where it is cleared.
-fn cleared_sum() -> Accumulated
-    ensures { λ r. ⌜ r ≡ cleared ⌝ }
+// The refusal of a stretch that is over N.
+const STRETCH_OVER: u32 = 5;
+
+// How many of n minutes of an activity are driving.
+fn driving_of(activity: u32, n: u32) -> u32
+    ensures { λ r. ⌜ r ≡ drivingOf activity n ⌝ }
 {
-    Accumulated {
-        sum: 0,
-        split: false,
+    match activity {
+        3 => n,
+        0 | 1 | 2 | _ => 0,
     }
 }
 
-// Rule 1: the driving sum after a rest of n minutes.
-fn rested_for(n: u32, d: Accumulated) -> Accumulated
-    ensures { λ r. ⌜ r ≡ rested n d ⌝ }
-{
-    if FULL_BREAK <= n {
-        return cleared_sum();
-    }
-    if n < FIRST_PART {
-        return d;
-    }
-    if d.split {
-        if n < SECOND_PART {
-            return d;
-        }
-        return cleared_sum();
-    }
-    if d.sum == 0 {
-        return d;
-    }
-    Accumulated {
-        sum: d.sum,
-        split: true,
-    }
-}
-
-// Rules 2 and 5: the day that runs after a rest of n minutes that ended at a minute, in the week that ends at `end`.
+// Articles 6(1) and 8(2): the day that runs after a rest of n minutes that ended at a minute, in the week that ends at `end`.
 fn day_after(n: u32, minute: u32, end: u32, d: Day) -> Day
     requires { ⌜ d .start ≤ totalAtMost ⌝ }
     ensures { λ r. ⌜ r ≡ dayAfter n minute end d ⌝ }
@@ -160,28 +148,7 @@ fn day_after(n: u32, minute: u32, end: u32, d: Day) -> Day
     }
 }
 
-// How many of n minutes of an activity are driving.
-fn driving_of(activity: u32, n: u32) -> u32
-    ensures { λ r. ⌜ r ≡ drivingOf activity n ⌝ }
-{
-    match activity {
-        3 => n,
-        0 | 1 | 2 | _ => 0,
-    }
-}
-
-// Rule 1: the driving sum with k minutes more.
-fn accumulated_more(k: u32, d: Accumulated) -> Accumulated
-    requires { ⌜ d .sum + k ≤ totalAtMost ⌝ }
-    ensures { λ r. ⌜ r ≡ accumulatedMore k d ⌝ }
-{
-    Accumulated {
-        sum: d.sum + k,
-        split: d.split,
-    }
-}
-
-// Rule 2: the day with k minutes of driving more.
+// Article 6(1): the day with k minutes of driving more.
 fn day_more(k: u32, d: Day) -> Day
     requires { ⌜ (d .driving + k ≤ totalAtMost) × (d .extended ≤ totalAtMost) ⌝ }
     ensures { λ r. ⌜ r ≡ dayMore k d ⌝ }
@@ -208,7 +175,7 @@ fn day_more(k: u32, d: Day) -> Day
     }
 }
 
-// Rules 3 and 4: the week with k minutes of driving more, and the next week where one ends now.
+// Articles 6(2) and 6(3): the week with k minutes of driving more, and the next week where one ends now.
 fn week_more(k: u32, w: Week) -> Week
     requires { ⌜ w .driving + k ≤ totalAtMost ⌝ }
     ensures { λ r. ⌜ r ≡ weekMore k w ⌝ }
@@ -234,46 +201,113 @@ fn week_next(minute: u32, w: Week) -> Week
     w
 }
 
-// The smallest rule that is broken at the minute that ends now, or 0.
-fn broken_at(minute: u32, d: Accumulated, y: Day, w: Week) -> u32
-    requires { ⌜ (y .start ≤ totalAtMost) × (w .last ≤ totalAtMost) × (w .driving ≤ totalAtMost) ⌝ }
-    ensures { λ r. ⌜ r ≡ brokenAt minute d y w ⌝ }
+// Article 7: the driving sum where it starts, and where it is cleared.
+fn cleared_sum() -> Accumulated
+    ensures { λ r. ⌜ r ≡ cleared ⌝ }
 {
-    if ACCUMULATED_AT_MOST < d.sum {
+    Accumulated {
+        sum: 0,
+        split: false,
+    }
+}
+
+// Article 7: the driving sum after a rest of n minutes.
+fn rested_for(n: u32, d: Accumulated) -> Accumulated
+    ensures { λ r. ⌜ r ≡ rested n d ⌝ }
+{
+    if FULL_BREAK <= n {
+        return cleared_sum();
+    }
+    if n < FIRST_PART {
+        return d;
+    }
+    if d.split {
+        if n < SECOND_PART {
+            return d;
+        }
+        return cleared_sum();
+    }
+    if d.sum == 0 {
+        return d;
+    }
+    Accumulated {
+        sum: d.sum,
+        split: true,
+    }
+}
+
+// Article 7: the driving sum with k minutes more.
+fn accumulated_more(k: u32, d: Accumulated) -> Accumulated
+    requires { ⌜ d .sum + k ≤ totalAtMost ⌝ }
+    ensures { λ r. ⌜ r ≡ accumulatedMore k d ⌝ }
+{
+    Accumulated {
+        sum: d.sum + k,
+        split: d.split,
+    }
+}
+
+// Which rules are broken at the minute that ends now.
+fn broken_at(minute: u32, y: Day, w: Week, d: Accumulated) -> Breaches
+    requires { ⌜ (y .start ≤ totalAtMost) × (w .last ≤ totalAtMost) × (w .driving ≤ totalAtMost) ⌝ }
+    ensures { λ r. ⌜ r ≡ brokenAt minute y w d ⌝ }
+{
+    Breaches {
+        daily: (DAY < y.driving) | (EXTENDED_DAYS < y.extended),
+        weekly: WEEK < w.driving,
+        fortnightly: FORTNIGHT < w.last + w.driving,
+        breaks: ACCUMULATED_AT_MOST < d.sum,
+        rests: y.start + DAY_LENGTH < minute,
+    }
+}
+
+// The rules that are broken in a or in b.
+fn either_broken(a: Breaches, b: Breaches) -> Breaches
+    ensures { λ r. ⌜ r ≡ eitherBroken a b ⌝ }
+{
+    Breaches {
+        daily: a.daily | b.daily,
+        weekly: a.weekly | b.weekly,
+        fortnightly: a.fortnightly | b.fortnightly,
+        breaks: a.breaks | b.breaks,
+        rests: a.rests | b.rests,
+    }
+}
+
+// The place, from 1, of the first that is broken of five, or 0.
+fn first_place(a: bool, b: bool, c: bool, d: bool, e: bool) -> u32
+    ensures { λ r. ⌜ r ≡ firstPlace (a ∷ b ∷ c ∷ d ∷ e ∷ []) ⌝ }
+{
+    if a {
         return 1;
     }
-    if DAY < y.driving {
+    if b {
         return 2;
     }
-    if EXTENDED_DAYS < y.extended {
-        return 2;
-    }
-    if WEEK < w.driving {
+    if c {
         return 3;
     }
-    if FORTNIGHT < w.last + w.driving {
+    if d {
         return 4;
     }
-    if y.start + DAY_LENGTH < minute {
+    if e {
         return 5;
     }
     0
 }
 
-// The smaller of two broken rules, where 0 is none.
-pub fn smaller_of(a: u32, b: u32) -> u32
-    ensures { λ r. ⌜ r ≡ smaller a b ⌝ }
+// The smallest broken rule by document 01's numbers, or 0.
+pub fn smallest_rule(b: Breaches) -> u32
+    ensures { λ r. ⌜ r ≡ smallestRule b ⌝ }
 {
-    if a == 0 {
-        return b;
-    }
-    if b == 0 {
-        return a;
-    }
-    if a <= b {
-        return a;
-    }
-    b
+    first_place(b.breaks, b.daily, b.weekly, b.fortnightly, b.rests)
+}
+
+// The place of the first broken article in the regulation's order, or 0.
+fn first_article(b: Breaches) -> u32
+    ensures { λ r. ⌜ r ≡ firstArticle b ⌝ }
+{
+    first_place(b.daily, b.weekly, b.fortnightly, b.breaks, b.rests)
 }
 
 // The first breach, where the minute that ends now breaks the rule b or, with 0, none.
@@ -299,50 +333,59 @@ fn part_after(s: Account, activity: u32, n: u32) -> Account
     ensures { λ r. ⌜ r ≡ partAfter s activity n ⌝ }
 {
     let now = s.now + n;
-    let accumulated = s.accumulated;
     let day = s.day;
     let week = s.week;
+    let accumulated = s.accumulated;
+    let broken = s.broken;
     let first = s.first;
     match activity {
         0 => Account {
             now: now,
             from: s.from,
-            accumulated: accumulated,
             day: day,
             week: week_next(now, week),
-            rule: s.rule,
+            accumulated: accumulated,
+            broken: broken,
             first: first,
         },
         1 | 2 | 3 | _ => {
             let rest = s.now - s.from;
             let k = driving_of(activity, n);
-            let d = accumulated_more(k, rested_for(rest, accumulated));
             let y = day_more(k, day_after(rest, s.now, week.end, day));
             let w = week_more(k, week);
-            let b = broken_at(now, d, y, w);
+            let d = accumulated_more(k, rested_for(rest, accumulated));
+            let b = broken_at(now, y, w, d);
             Account {
                 now: now,
                 from: now,
-                accumulated: d,
                 day: y,
                 week: week_next(now, w),
-                rule: smaller_of(s.rule, b),
-                first: first_break(first, now, b),
+                accumulated: d,
+                broken: either_broken(broken, b),
+                first: first_break(first, now, smallest_rule(b)),
             }
         }
     }
 }
 
-// Whether two accounts have the same smallest broken rule, and the same first one.
+// Whether the same rules are broken.
+fn same_broken(a: Breaches, b: Breaches) -> bool
+    ensures { λ r. ⌜ r ≡ sameBroken a b ⌝ }
+{
+    (a.daily == b.daily)
+        & (a.weekly == b.weekly)
+        & (a.fortnightly == b.fortnightly)
+        & (a.breaks == b.breaks)
+        & (a.rests == b.rests)
+}
+
+// Whether two accounts have the same broken rules, and the same first one.
 fn same_breaches(s: Account, t: Account) -> bool
     ensures { λ r. ⌜ r ≡ sameBreaches s t ⌝ }
 {
     let a = s.first;
     let b = t.first;
-    if s.rule == t.rule {
-        return a.rule == b.rule;
-    }
-    false
+    same_broken(s.broken, t.broken) & (a.rule == b.rule)
 }
 
 // How many of n minutes after a minute are in the week that ends at `end`, and one where there is none.
@@ -463,7 +506,6 @@ fn account_of(words: &[u32], m: u32) -> Account
     let mut s = Account {
         now: 0,
         from: 0,
-        accumulated: cleared_sum(),
         day: Day {
             start: 0,
             driving: 0,
@@ -474,7 +516,14 @@ fn account_of(words: &[u32], m: u32) -> Account
             driving: 0,
             last: 0,
         },
-        rule: 0,
+        accumulated: cleared_sum(),
+        broken: Breaches {
+            daily: false,
+            weekly: false,
+            fortnightly: false,
+            breaks: false,
+            rests: false,
+        },
         first: Break { at: 0, rule: 0 },
     };
     let mut togo = m;
@@ -532,8 +581,24 @@ pub fn fixed_test(words: &[u32], m: u32) -> Tested
         return Tested::Refused(recording::refusal_of(weighing));
     };
     if measure.total < m {
-        return Tested::Refused(5);
+        return Tested::Refused(STRETCH_OVER);
     }
     let account = account_of(words, m);
-    Tested::Answer(account.rule)
+    Tested::Answer(smallest_rule(account.broken))
+}
+
+// The article test for a stretch of m minutes: the same refusals; else 0 or the place, 1 to 5, of the first broken of articles 6(1), 6(2), 6(3), 7
+// and 8(2).
+pub fn article_test(words: &[u32], m: u32) -> Tested
+    ensures { λ r. ⌜ tested r ≡ articleTested (now (words .entry)) m ⌝ }
+{
+    let weighing = recording::weigh(words);
+    let Weighing::Weighed(measure) = weighing else {
+        return Tested::Refused(recording::refusal_of(weighing));
+    };
+    if m > measure.total {
+        return Tested::Refused(STRETCH_OVER);
+    }
+    let account = account_of(words, m);
+    Tested::Answer(first_article(account.broken))
 }

@@ -22,20 +22,18 @@ use Rattle.recording.proofs.LongRests.{Ordered, none, next, rests-ordered, few-
 use Rattle.recording.proofs.Scanning.{scan-written}
 use Rattle.recording.proofs.Listing.{measured-is}
 use Rattle.rules.specs.Broken.{unless, ifNone}
-use Rattle.rules.specs.Fixed.{fixedTest}
+use Rattle.rules.specs.Fixed.{smallestRule, fixedTest}
 use Rattle.rules.specs.Reading.{Entry, entryBytes, entries}
 use Rattle.rules.specs.ReadingRules.{rule6, rule7, rule8, rule9From, rule9, inGap, rule10From, rule10, rule11, laterTest, readingTest}
 use Rattle.rules.specs.Operations.{readingTested}
 use Rattle.rules.specs.Verdict.{lawful}
-use Rattle.rules_fixed.specs.Account.{smaller}
 use Rattle.rules_fixed.specs.Nets.{netsOf, countsBy}
 use Rattle.rules_fixed.specs.Walk.{Surveyed}
 use Rattle.rules_fixed.specs.declared.Survey.{Survey}
-use Rattle.rules_fixed.specs.declared.Account.{Account}
-use Rattle.rules_fixed.proofs.AccountRight.{account-right}
+use Rattle.rules_fixed.proofs.AccountRight.{rule-right}
 use Rattle.rules_fixed.proofs.NetLaws.{all-numbered, nets-most, reading-by-numbers}
 use Rattle.rules_reading.specs.declared.Tally.{Tally}
-use Rattle.rules_reading.specs.Items.{spansFrom, spansIn, Laid, Zeros, testFrom, Through, rule11With, restWeeks, zeros, laterBy}
+use Rattle.rules_reading.specs.Items.{smaller, spansFrom, spansIn, Laid, Zeros, testFrom, Through, rule11With, restWeeks, zeros, laterBy}
 use Rattle.rules_reading.proofs.PairLaws.{rule11-with}
 
 -- ---- rules 8 to 10, then 11
@@ -214,21 +212,19 @@ module _ (ws reading : List ℕ) {m : Measure} (q : measured ws ≡ answered m) 
         omega (arith, net-at i l, nets-most (minutesOf ws) within i l);
   }
 
-  rule-is : r .account .rule ≡ fixedTest (minutesOf ws)
-  rule-is = ap (λ (x : Account). x .rule) (v .account) ∙ account-right (minutesOf ws) .rule
-
-  pub test-fixed : length reading ≡ entryBytes * m .count → (r .account .rule ≡ 0 → ⊥) → answered (r .account .rule) ≡ readingTested ws reading
+  pub test-fixed : {rule : ℕ} → rule ≡ smallestRule (r .account .broken) → length reading ≡ entryBytes * m .count → (rule ≡ 0 → ⊥) → answered rule ≡ readingTested ws reading
   unfolding readingTested readingTest
-  test-fixed e z = rw (q, eq-eqb (length reading) (entryBytes * m .count) e) (ap answered (rw (← rule-is) (sym (if-some (r .account .rule) _ z))))
+  test-fixed {rule} p e z =
+      rw (q, eq-eqb (length reading) (entryBytes * m .count) e) (ap answered (rw (← rule-right (minutesOf ws) (v .account) p) (sym (if-some rule _ z))))
 
-  pub test-later : {x : ℕ} → length reading ≡ entryBytes * m .count → r .account .rule ≡ 0 → x ≡ laterBy starts ends nets reading (m .count) (m .judged)
-      → answered x ≡ readingTested ws reading
+  pub test-later : {rule x : ℕ} → rule ≡ smallestRule (r .account .broken) → length reading ≡ entryBytes * m .count → rule ≡ 0
+      → x ≡ laterBy starts ends nets reading (m .count) (m .judged) → answered x ≡ readingTested ws reading
   unfolding readingTested
-  test-later {x} e z p =
+  test-later {x = x} p e z l =
       rw (q, eq-eqb (length reading) (entryBytes * m .count) e)
       (ap answered
-      (p ∙ ap₂ (λ (rs : List Span) (s : ℕ). laterTest (restWeeks rs) (countsBy nets) s rs (entries rs reading)) spans-rests judged-is
-      ∙ sym (if-zero (fixedTest (minutesOf ws)) _ (sym rule-is ∙ z))
+      (l ∙ ap₂ (λ (rs : List Span) (s : ℕ). laterTest (restWeeks rs) (countsBy nets) s rs (entries rs reading)) spans-rests judged-is
+      ∙ sym (if-zero (fixedTest (minutesOf ws)) _ (sym (rule-right (minutesOf ws) (v .account) p) ∙ z))
       ∙ sym (reading-by-numbers (minutesOf ws) nets net-at reading)))
 
 module _ (ws reading : List ℕ) where

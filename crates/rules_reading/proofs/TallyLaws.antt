@@ -4,11 +4,12 @@ use mathlib.Core.Logic.{_⊎_, inl, inr}
 use mathlib.Core.Bool.{Bool, true, false, not}
 use mathlib.Core.List.{List, [], _∷_}
 use Prim.Native.Nat.{ℕ, zero, suc, _+_, _-_, _≤_, _<_, min}
+use native.Mathlib.Nat.{le-refl}
 use native.Mathlib.Omega.{arith}
-use lib.Dec.{leb, ltb, eqb}
+use lib.Dec.{leb, ltb, eqb, eqb·suc-zero, leb·suc-suc}
 use lib.ListN.{length, getD, set, length-set, List·getD-eq-default}
 use lib.Seq.{getD-set-same, getD-set-other}
-use borrow.Author.Tests.{leb-true, leb-false, lt-ltb, le-ltb, ltb-true, ltb-false, eqb-true, eqb-false, eq-eqb, ne-eqb}
+use borrow.Author.Tests.{leb-true, leb-false, le-leb, lt-leb, lt-ltb, le-ltb, ltb-true, ltb-false, eqb-true, eqb-false, eq-eqb, ne-eqb}
 use Rattle.recording.specs.Tests.{_and_, _or_, pick, one, allOf}
 use Rattle.recording.specs.Weeks.{weekStart}
 use Rattle.recording.specs.declared.Span.{Span}
@@ -19,10 +20,41 @@ use Rattle.rules.specs.ReadingRules.{leastNet, weeksToCompensate, deadline, end
 use Rattle.rules.specs.declared.Kind.{Kind}
 use Rattle.rules.specs.declared.Kind.the-variants.{Daily, Weekly}
 use Rattle.rules.specs.declared.Standing.the-variants.{Regular, Reduced}
-use Rattle.rules_fixed.specs.Account.{smaller}
-use Rattle.rules_fixed.proofs.AccountRight.{Past, past-unless, unless-both}
 use Rattle.rules_reading.specs.declared.Tally.{Tally}
-use Rattle.rules_reading.specs.Items.{endAt, timeBy, shortAfter, brokenBy, tallyBy, addedTo, incremented, spansFrom, spansIn, testFrom}
+use Rattle.rules_reading.specs.Items.{endAt, timeBy, smaller, shortAfter, brokenBy, tallyBy, addedTo, incremented, spansFrom, spansIn, testFrom}
+
+-- ---- the smaller of two rules, by tests
+pub smaller-tests : (a b : ℕ) → smaller a b ≡ pick (eqb a 0) b (pick (eqb b 0) a (pick (leb a b) a b))
+smaller-tests zero b = refl
+smaller-tests (suc a) zero = rw (eqb·suc-zero a) refl
+smaller-tests (suc a) (suc b) = rw (eqb·suc-zero a, eqb·suc-zero b, leb·suc-suc a b) refl
+
+-- ---- the smaller of two broken rules: each is 0 or past the rules that are read before it
+abbrev Past : ℕ → ℕ → Type 0
+Past n x = (x ≡ 0) ⊎ (n < x)
+
+past-unless : (m n : ℕ) (b : Bool) (x : ℕ) → m < n → Past n x → Past m (unless b n x)
+past-unless m n true x h (inl e) = inl e
+past-unless m n true x h (inr l) = inr (omega arith)
+past-unless m n false x h p = inr h
+
+smaller-first : (n y : ℕ) → Past (suc n) y → smaller (suc n) y ≡ suc n
+smaller-first n zero p = refl
+smaller-first n (suc y) (inl e) = absurd (omega arith)
+smaller-first n (suc y) (inr l) = rw (le-leb n y (omega arith)) refl
+
+smaller-second : (n x : ℕ) → Past (suc n) x → smaller x (suc n) ≡ suc n
+smaller-second n zero p = refl
+smaller-second n (suc x) (inl e) = absurd (omega arith)
+smaller-second n (suc x) (inr l) = rw (lt-leb x n (omega arith)) refl
+
+unless-both : (n : ℕ) (r t : Bool) (x y z : ℕ) → Past (suc n) x → Past (suc n) y → z ≡ smaller x y
+    → unless (r and t) (suc n) z ≡ smaller (unless r (suc n) x) (unless t (suc n) y)
+unfolding _and_
+unless-both n true true x y z p q e = e
+unless-both n true false x y z p q e = sym (smaller-second n x p)
+unless-both n false true x y z p q e = sym (smaller-first n y q)
+unless-both n false false x y z p q e = sym (rw (le-leb n n (le-refl _)) refl)
 
 -- ---- the smaller rule, of three
 smaller-min : (a b : ℕ) → smaller (suc a) (suc b) ≡ suc (min a b)

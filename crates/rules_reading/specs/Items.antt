@@ -18,7 +18,6 @@ use Rattle.rules.specs.declared.Kind.{Kind}
 use Rattle.rules.specs.declared.Kind.the-variants.{Daily, Weekly}
 use Rattle.rules.specs.declared.Standing.{Standing}
 use Rattle.rules.specs.declared.Standing.the-variants.{Regular, Reduced}
-use Rattle.rules_fixed.specs.Account.{smaller}
 use Rattle.rules_fixed.specs.Nets.{netAtMost, countsBy}
 use Rattle.rules_reading.specs.declared.Item.{Item}
 use Rattle.rules_reading.specs.declared.LongRest.{LongRest}
@@ -95,6 +94,12 @@ gapBy q r = not (isWeekly (r .kind)) or inGap q (r .start)
 -- each number of a list is at most n
 abbrev pub Below : ℕ → List ℕ → Type 0
 Below n xs = (i : ℕ) → getD xs i 0 ≤ n
+
+-- ---- the smaller of two broken rules, where 0 is none
+abbrev pub smaller : ℕ → ℕ → ℕ
+smaller zero b = b
+smaller (suc a) zero = suc a
+smaller (suc a) (suc b) = pick (leb a b) (suc a) (suc b)
 
 -- ---- rules 8 to 10, an entry more: as a daily rest it counts under rule 9 or not, the carrier ends at `end`, S is s
 abbrev pub shortBy : Item → Bool

@@ -18,7 +18,7 @@ ghost use Rattle.rules.specs.Operations.{readingTested};
 ghost use Rattle.rules_fixed.specs.Nets.{spanOf, countsBy};
 ghost use Rattle.rules_fixed.specs.Tested.{tested};
 ghost use Rattle.rules_reading.specs.Items.{entryBy, endBefore, itemAt, Sane, compensationAtMost, Below, restBy, enoughBy};
-ghost use Rattle.rules_reading.specs.Items.{endAt, timeBy, gapBy, shortBy, shortAfter, tallyBy, addedTo, incremented, spansIn, Laid};
+ghost use Rattle.rules_reading.specs.Items.{endAt, timeBy, gapBy, smaller, shortBy, shortAfter, tallyBy, addedTo, incremented, spansIn, Laid};
 ghost use Rattle.rules_reading.specs.Items.{standingFor, Zeros, Walked, enoughWith, rule11With, restWeeks, zeros, laterBy};
 
 // A long rest with its entry: its number from 1, the end of the long rest before it or 0, its start and end, the least net length
@@ -285,6 +285,22 @@ fn in_gap(q: u32, r: LongRest) -> bool
     }
 }
 
+// The smaller of two broken rules, where 0 is none.
+fn smaller_of(a: u32, b: u32) -> u32
+    ensures { λ r. ⌜ r ≡ smaller a b ⌝ }
+{
+    if a == 0 {
+        return b;
+    }
+    if b == 0 {
+        return a;
+    }
+    if a <= b {
+        return a;
+    }
+    b
+}
+
 // The smallest of rules 8 to 10 that a rest breaks, or 0.
 fn broken_by(timely: bool, short: u32, near: bool) -> u32
     ensures { λ b. ⌜ b ≡ unless timely 8 (unless (leb short shortenedAtMost) 9 (unless near 10 0)) ⌝ }
@@ -311,7 +327,7 @@ fn tally_after(s: u32, end: u32, t: Tally, x: Item, r: LongRest) -> Tally
     let timely = in_time(r, x.week, x.carrier, end, s);
     let near = in_gap(t.last, r);
     Tally {
-        rule: rules_fixed::smaller_of(t.rule, broken_by(timely, short, near)),
+        rule: smaller_of(t.rule, broken_by(timely, short, near)),
         short: short,
         last: last,
     }
@@ -583,7 +599,7 @@ fn later_test(starts: &[u32], ends: &[u32], nets: &[u32], reading: &[u8], k: usi
     ) else {
         return NET_BROKEN;
     };
-    let broken = rules_fixed::smaller_of(t.rule, gap_rule(t.last, s));
+    let broken = smaller_of(t.rule, gap_rule(t.last, s));
     if broken != 0 {
         return broken;
     }
@@ -611,7 +627,7 @@ pub fn reading_test(words: &[u32], reading: &[u8]) -> Tested
     let mut nets = [0u32; recording::LONG_RESTS];
     let found = rules_fixed::survey_of(words, &mut starts, &mut ends, &mut nets);
     let account = found.account;
-    let rule = account.rule;
+    let rule = rules_fixed::smallest_rule(account.broken);
     if rule != 0 {
         return Tested::Answer(rule);
     }

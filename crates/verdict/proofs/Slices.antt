@@ -12,10 +12,11 @@ use Rattle.recording.specs.declared.Place.{Place}
 use Rattle.recording.specs.declared.Span.{Span}
 use Rattle.recording.proofs.LongRests.{few-rests}
 use Rattle.recording.proofs.Scanning.{scan-end, scan-count, scan-written}
+use Rattle.rules.specs.Fixed.{smallestRule}
 use Rattle.rules_fixed.specs.Walk.{Surveyed}
 use Rattle.rules_fixed.specs.declared.Account.{Account}
 use Rattle.rules_fixed.specs.declared.Survey.{Survey}
-use Rattle.rules_fixed.proofs.AccountRight.{account-right}
+use Rattle.rules_fixed.proofs.AccountRight.{rule-right}
 use Rattle.rules_fixed.proofs.NetLaws.{front, nets-found}
 use Rattle.verdict.specs.Verdicts.{InFront}
 
@@ -32,9 +33,9 @@ module _ {ws starts ends nets starts′ ends′ nets′ : List ℕ} {r : Survey}
       ap (λ (n : ℕ). take n out′) (count-is ∙ sym size) ∙ ap (take (length (map f (longRests (minutesOf ws))))) (e ∙ scan-written f ws out)
       ∙ front (map f (longRests (minutesOf ws))) out (omega arith)
 
-  pub in-front : {k : ℕ} → k ≡ r .place .count → longRestsAtMost ≤ length starts → longRestsAtMost ≤ length ends → longRestsAtMost ≤ length nets
-      → InFront ws (record { count = k; judged = r .place .from; rule = r .account .rule; first = r .account .first }) starts′ ends′ nets′
-  in-front q a b c = record {
+  pub in-front : {k rule : ℕ} → k ≡ r .place .count → rule ≡ smallestRule (r .account .broken) → longRestsAtMost ≤ length starts → longRestsAtMost ≤ length ends
+      → longRestsAtMost ≤ length nets → InFront ws (record { count = k; judged = r .place .from; rule = rule; first = r .account .first }) starts′ ends′ nets′
+  in-front q p a b c = record {
     count = q ∙ count-is;
     few = omega (arith, count-is, few-rests (minutesOf ws) within);
     whole = record {
@@ -44,7 +45,7 @@ module _ {ws starts ends nets starts′ ends′ nets′ : List ℕ} {r : Survey}
         numbered = ap (λ (n : ℕ). take n nets′) (q ∙ count-is) ∙ nets-found v within c;
       };
       judged = ap (λ (p : Place). p .from) (v .place) ∙ scan-end ws;
-      fixed = ap (λ (t : Account). t .rule) (v .account) ∙ account-right (minutesOf ws) .rule;
+      fixed = rule-right (minutesOf ws) (v .account) p;
       first = ap (λ (t : Account). t .first) (v .account);
     };
   }

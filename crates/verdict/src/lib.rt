@@ -93,7 +93,7 @@ fn rests_of(words: &[u32], starts: &mut [u32], ends: &mut [u32], nets: &mut [u32
     Rests {
         count: count,
         judged: place.from,
-        rule: account.rule,
+        rule: rules_fixed::smallest_rule(account.broken),
         first: first,
     }
 }

@@ -1,25 +1,30 @@
 -- `rules_fixed::fixed_test` meets its contract. Assumes nothing.
 use native.Mathlib.Omega.{arith}
 use borrow.Author.Needs.{needs}
+use Rattle.rules.specs.Fixed.{smallestRule}
+use Rattle.rules.specs.Operations.{fixedTested}
 use Rattle.rules_fixed.proofs.Surveying.{test-refused, test-past, test-done}
 use Rattle.recording.proofs.Listing.{refused-there, measured-there, measured-is}
 use Rattle.rules_fixed.proofs.fixed_test.Statement.{statement}
 use Rattle.rules_fixed.proofs.fixed_test.Tie as tie
 
 returns : tie.Need-returns
-returns c = test-refused _ _ (refused-there _ (c .before .before .before .weigh .ensures) (c .before .enum-told .given .1) (c .refusal-of .ensures))
+unfolding fixedTested
+returns c = test-refused _ _ smallestRule (refused-there _ (c .before .before .before .weigh .ensures) (c .before .enum-told .given .1) (c .refusal-of .ensures))
 
 returns-2 : tie.Need-returns-2
-returns-2 c = test-past _ _ (measured-there _ (c .before .before .before .before .before .weigh .ensures) (c .before .before .before .weighing .given .1)) (omega arith)
+unfolding fixedTested
+returns-2 c = test-past _ _ smallestRule (measured-there _ (c .before .before .before .before .before .weigh .ensures) (c .before .before .before .weighing .given .1)) (omega arith)
 
 account-of-requires : tie.Need-account-of-requires
-account-of-requires c κs =
-    measured-is _ (measured-there _ (c .before .before .before .before .before .weigh .ensures) (c .before .before .before .weighing .given .1)) .within
+account-of-requires c κs = measured-is _ (measured-there _ (c .before .before .before .before .before .weigh .ensures) (c .before .before .before .weighing .given .1)) .within
 
 returns-3 : tie.Need-returns-3
+unfolding fixedTested
 returns-3 c =
-    let q = measured-there _ (c .before .before .before .before .before .before .weigh .ensures) (c .before .before .before .before .weighing .given .1) in
-    test-done _ _ q (omega arith) (c .account-of .ensures)
+    let at-if1 = c .before .before in
+    let q = measured-there _ (at-if1 .before .before .before .before .before .weigh .ensures) (at-if1 .before .before .before .weighing .given .1) in
+    test-done _ _ smallestRule q (omega arith) (c .before .account-of .ensures) (c .smallest-rule .ensures)
 
 pub fixed-test-spec : {M : Type 1} → statement M
 fixed-test-spec =
@@ -32,4 +37,5 @@ fixed-test-spec =
     returns
     returns-2
     account-of-requires
+    (λ c κs. search needs)
     returns-3)

@@ -23,18 +23,18 @@ survey-of-requires c κs =
 
 returns-3 : tie.Need-returns-3
 returns-3 c =
-    let at-survey-of = c .before .before .before .before .before in
+    let at-survey-of = c .before .before .before .before .before .before in
     let at-if1 = at-survey-of .before .before .before .before in
     let at-weighing = at-if1 .before .before .before in
     let at-weigh = at-weighing .before .before in
     let w = at-weigh .weigh .ensures in
     let q = measured-there _ w (at-weighing .weighing .given .1) in
     let v = at-survey-of .survey-of .ensures in
-    test-fixed _ _ q v (at-if1 .if1 .left) (c .if2 .taken)
+    test-fixed _ _ q v (c .before .smallest-rule .ensures) (at-if1 .if1 .left) (c .if2 .taken)
 
 later-test-requires : tie.Need-later-test-requires
 later-test-requires c κs =
-    let at-survey-of = c .before .before .before .before .before .before .before .before in
+    let at-survey-of = c .before .before .before .before .before .before .before .before .before in
     let at-if1 = at-survey-of .before .before .before .before in
     let at-weighing = at-if1 .before .before .before in
     let at-weigh = at-weighing .before .before in
@@ -47,7 +47,8 @@ later-test-requires c κs =
 
 returns-4 : tie.Need-returns-4
 returns-4 c =
-    let at-survey-of = c .before .before .before .before .before .before .before .before .before in
+    let at-rule = c .before .before .before .before .before in
+    let at-survey-of = at-rule .before .before .before .before .before in
     let at-if1 = at-survey-of .before .before .before .before in
     let at-weighing = at-if1 .before .before .before in
     let at-weigh = at-weighing .before .before in
@@ -55,7 +56,7 @@ returns-4 c =
     let q = measured-there _ w (at-weighing .weighing .given .1) in
     let v = at-survey-of .survey-of .ensures in
     let l = at-if1 .if1 .left in
-    test-later _ _ q v l (c .before .before .before .before .if2 .left) (c .later-test .ensures)
+    test-later _ _ q v (at-rule .smallest-rule .ensures) l (c .before .before .before .before .if2 .left) (c .later-test .ensures)
 
 pub reading-test-spec : {M : Type 1} → statement M
 reading-test-spec =
@@ -73,6 +74,7 @@ reading-test-spec =
     (λ c. search needs)
     (λ c. search needs)
     survey-of-requires
+    (λ c κs. search needs)
     returns-3
     (λ c. search needs)
     (λ c. search needs)

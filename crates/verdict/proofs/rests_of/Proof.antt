@@ -7,9 +7,9 @@ use Rattle.verdict.proofs.rests_of.Tie as tie
 
 returns : tie.Need-returns
 returns c =
-    let at-survey-of = c .before .before .before .before .before .before .before .before .before .before in
+    let at-survey-of = c .before .before .before .before .before .before .before .before .before .before .before in
     let start = at-survey-of .before .before .before .before .before .before .before .before in
-    in-front (at-survey-of .survey-of .ensures) (start .pre .0) (omega arith) (start .pre .1) (start .pre .2) (start .pre .3)
+    in-front (at-survey-of .survey-of .ensures) (start .pre .0) (omega arith) (c .smallest-rule .ensures) (start .pre .1) (start .pre .2) (start .pre .3)
 
 pub rests-of-spec : {M : Type 1} → statement M
 rests-of-spec =
@@ -17,6 +17,7 @@ rests-of-spec =
     (tie.spec
     (λ c. search needs)
     (λ c. search needs)
+    (λ c κs. search needs)
     (λ c. search needs)
     (λ c. search needs)
     (λ c. search needs)

@@ -1,8 +1,8 @@
--- `rules_fixed::smaller_of` meets its contract. Assumes nothing.
+-- `rules_reading::smaller_of` meets its contract. Assumes nothing.
 use borrow.Author.Tests.{eq-eqb, ne-eqb, le-leb, lt-leb}
-use Rattle.rules_fixed.proofs.Steps.{smaller-tests}
-use Rattle.rules_fixed.proofs.smaller_of.Statement.{statement}
-use Rattle.rules_fixed.proofs.smaller_of.Tie as tie
+use Rattle.rules_reading.proofs.TallyLaws.{smaller-tests}
+use Rattle.rules_reading.proofs.smaller_of.Statement.{statement}
+use Rattle.rules_reading.proofs.smaller_of.Tie as tie
 
 returns : tie.Need-returns
 returns c = rw smaller-tests (simp (eq-eqb _ _ (c .if1 .taken)))
