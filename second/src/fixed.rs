@@ -1,29 +1,80 @@
-//! Rules 1 to 5, minute by minute as the documents say them.
+//! Rules 1 to 5, minute by minute as the documents say them, in the regulation's
+//! order: articles 6(1), 6(2), 6(3), 7, 8(2).
 
+use crate::broken::Broken;
 use crate::limits::Limits;
 use crate::recording::{weighed_minutes, Activity, Recording, Span};
 use crate::refusal::Refusal;
 
-/// Testing fixed rules for a stretch of m: "1, 2; then 5, m is over N. The
-/// answer is 0 or the smallest broken rule of 1 to 5."
+/// Testing fixed rules for a stretch of m: "The answer is 0 or the smallest
+/// broken rule of 1 to 5."
 pub fn test(words: &[u32], m: usize) -> Result<u8, Refusal> {
+    Ok(broken_in_stretch(words, m)?.smallest_rule())
+}
+
+/// Request 4: "an operation beside the fixed test, with its inputs and refusals,
+/// that answers 0 or the place, 1 to 5, of the first of these broken".
+pub fn article_test(words: &[u32], m: usize) -> Result<u8, Refusal> {
+    Ok(broken_in_stretch(words, m)?.first_article())
+}
+
+/// "1, 2; then 5, m is over N."
+fn broken_in_stretch(words: &[u32], m: usize) -> Result<Broken, Refusal> {
     let limits = Limits::document();
     let minutes = weighed_minutes(words, &limits)?;
     if m > minutes.len() {
         return Err(Refusal::StretchOverTotal);
     }
-    Ok(broken_rule(&Recording::new(&minutes[..m], &limits)))
+    Ok(broken(&Recording::new(&minutes[..m], &limits)))
 }
 
 /// 0 or the smallest broken rule of 1 to 5.
 pub fn broken_rule(recording: &Recording) -> u8 {
-    let rules = [rule_1, rule_2, rule_3, rule_4, rule_5];
-    for (number, rule) in (1..).zip(rules) {
-        if !rule(recording) {
-            return number;
-        }
-    }
-    0
+    broken(recording).smallest_rule()
+}
+
+/// 0 or the place, 1 to 5, of the first broken article.
+pub fn broken_article(recording: &Recording) -> u8 {
+    broken(recording).first_article()
+}
+
+/// Which of the five are broken.
+pub fn broken(recording: &Recording) -> Broken {
+    let articles = [keeps_6_1, keeps_6_2, keeps_6_3, keeps_7, keeps_8_2];
+    Broken::by_article(articles.map(|keeps| !keeps(recording)))
+}
+
+/// Rule 2, 6(1). "A day's driving is at most 600. At most two days that begin
+/// in one week exceed 540."
+fn keeps_6_1(recording: &Recording) -> bool {
+    let limits = recording.limits;
+    let days = recording.days();
+    let within = |day: &_| recording.driving(*day) <= limits.day_driving;
+    let extended_days_of = |week: i64| {
+        days.iter()
+            .filter(|day| limits.week_of(day.start) == week)
+            .filter(|day| recording.driving(**day) > limits.ordinary_day_driving)
+            .count()
+    };
+    days.iter().all(within)
+        && recording
+            .weeks()
+            .all(|week| extended_days_of(week) <= limits.extended_days)
+}
+
+/// Rule 3, 6(2). "A week's driving is at most 3,360."
+fn keeps_6_2(recording: &Recording) -> bool {
+    recording
+        .weeks()
+        .all(|week| recording.driving(recording.week(week)) <= recording.limits.week_driving)
+}
+
+/// Rule 4, 6(3). "Two consecutive weeks have at most 5,400."
+fn keeps_6_3(recording: &Recording) -> bool {
+    let driving = |week: i64| recording.driving(recording.week(week));
+    recording
+        .weeks()
+        .all(|week| driving(week) + driving(week + 1) <= recording.limits.fortnight_driving)
 }
 
 /// Rule 1, article 7, after some minutes.
@@ -66,8 +117,8 @@ impl Breaks {
     }
 }
 
-/// "The sum never passes 270."
-fn rule_1(recording: &Recording) -> bool {
+/// Rule 1, article 7. "The sum never passes 270."
+fn keeps_7(recording: &Recording) -> bool {
     let limits = recording.limits;
     let mut breaks = Breaks::default();
     let mut reached = 0;
@@ -91,41 +142,8 @@ fn rule_1(recording: &Recording) -> bool {
     true
 }
 
-/// Rule 2, 6(1). "A day's driving is at most 600. At most two days that begin
-/// in one week exceed 540."
-fn rule_2(recording: &Recording) -> bool {
-    let limits = recording.limits;
-    let days = recording.days();
-    let within = |day: &_| recording.driving(*day) <= limits.day_driving;
-    let extended_days_of = |week: i64| {
-        days.iter()
-            .filter(|day| limits.week_of(day.start) == week)
-            .filter(|day| recording.driving(**day) > limits.ordinary_day_driving)
-            .count()
-    };
-    days.iter().all(within)
-        && recording
-            .weeks()
-            .all(|week| extended_days_of(week) <= limits.extended_days)
-}
-
-/// Rule 3, 6(2). "A week's driving is at most 3,360."
-fn rule_3(recording: &Recording) -> bool {
-    recording
-        .weeks()
-        .all(|week| recording.driving(recording.week(week)) <= recording.limits.week_driving)
-}
-
-/// Rule 4, 6(3). "Two consecutive weeks have at most 5,400."
-fn rule_4(recording: &Recording) -> bool {
-    let driving = |week: i64| recording.driving(recording.week(week));
-    recording
-        .weeks()
-        .all(|week| driving(week) + driving(week + 1) <= recording.limits.fortnight_driving)
-}
-
 /// Rule 5, 8(2). "Every long rest starts at most 900 after P; S too."
-fn rule_5(recording: &Recording) -> bool {
+fn keeps_8_2(recording: &Recording) -> bool {
     let starts = recording.long_rests.iter().map(|rest| rest.start);
     starts
         .chain([recording.judged_end])

@@ -6,11 +6,14 @@
 //!   minute by minute; [`plain`] enumerates readings by them.
 //! * [`runs`], [`search`] and [`fast`] answer the same questions run by run,
 //!   for recordings of any size; [`stepwise`] stands in between, for tests.
+//! * [`broken`] keeps for both which of the fixed rules are broken, and picks by
+//!   rule or by article.
 //! * [`verdict`], [`entry`], [`text`], [`card`] and [`print`] are the other
 //!   operations.
 //! * [`grow`] and [`small`] make recordings to compare on, by the [`dice`];
 //!   [`fronts`] tells how wide a front they come to.
 
+pub mod broken;
 pub mod card;
 pub mod dice;
 pub mod entry;

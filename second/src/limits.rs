@@ -6,7 +6,8 @@
 //! in the document: a week is no shorter than a long rest, and the lengths of
 //! rests grow from daily through weekly to regular weekly.
 
-/// The numbers that the rules compare with, in minutes unless said otherwise.
+/// The numbers that the rules compare with, in minutes unless said otherwise; those
+/// of the fixed rules in the regulation's order.
 #[derive(Clone, Copy, Debug, PartialEq, Eq)]
 pub struct Limits {
     /// "The total N is 0 to 120,960."
@@ -16,26 +17,25 @@ pub struct Limits {
     /// "A long rest is a rest that is not open and has 540 minutes or more."
     pub long_rest: i64,
 
-    /// Rule 1: "After a rest of 45 or more it is 0 again."
-    pub full_break: i64,
-    /// Rule 1: "A rest of 15 or more is a first part."
-    pub first_part: i64,
-    /// Rule 1: "a rest of 30 or more after a first part clears the sum".
-    pub second_part: i64,
-    /// Rule 1: "The sum never passes 270."
-    pub unbroken_driving: i64,
-
-    /// Rule 2: "A day's driving is at most 600."
+    /// Rule 2, 6(1): "A day's driving is at most 600."
     pub day_driving: i64,
-    /// Rule 2: the driving of a day that is not extended, 540.
+    /// Rule 2, 6(1): the driving of a day that is not extended, 540.
     pub ordinary_day_driving: i64,
-    /// Rule 2: "At most two days that begin in one week exceed 540."
+    /// Rule 2, 6(1): "At most two days that begin in one week exceed 540."
     pub extended_days: usize,
-    /// Rule 3: "A week's driving is at most 3,360."
+    /// Rule 3, 6(2): "A week's driving is at most 3,360."
     pub week_driving: i64,
-    /// Rule 4: "Two consecutive weeks have at most 5,400."
+    /// Rule 4, 6(3): "Two consecutive weeks have at most 5,400."
     pub fortnight_driving: i64,
-    /// Rule 5: "Every long rest starts at most 900 after P; S too."
+    /// Rule 1, article 7: "After a rest of 45 or more it is 0 again."
+    pub full_break: i64,
+    /// Rule 1, article 7: "A rest of 15 or more is a first part."
+    pub first_part: i64,
+    /// Rule 1, article 7: "a rest of 30 or more after a first part clears the sum".
+    pub second_part: i64,
+    /// Rule 1, article 7: "The sum never passes 270."
+    pub unbroken_driving: i64,
+    /// Rule 5, 8(2): "Every long rest starts at most 900 after P; S too."
     pub day_length: i64,
 
     /// Rules 6 and 7: the least length and the least own of a weekly rest, 1,440.
@@ -69,15 +69,15 @@ impl Limits {
             total: 120_960,
             week: 10_080,
             long_rest: 540,
-            full_break: 45,
-            first_part: 15,
-            second_part: 30,
-            unbroken_driving: 270,
             day_driving: 600,
             ordinary_day_driving: 540,
             extended_days: 2,
             week_driving: 3_360,
             fortnight_driving: 5_400,
+            full_break: 45,
+            first_part: 15,
+            second_part: 30,
+            unbroken_driving: 270,
             day_length: 900,
             weekly_rest: 1_440,
             daily_rest: 540,

@@ -2,6 +2,7 @@
 //! [`recording`](crate::recording) and [`fixed`](crate::fixed), without a list
 //! of minutes.
 
+use crate::broken::Broken;
 use crate::limits::Limits;
 use crate::recording::{word_activity, word_minutes, Activity, Span};
 
@@ -82,7 +83,7 @@ pub struct Course<'a> {
 }
 
 /// "A breach ... gives the least m without a lawful reading, and its article."
-#[derive(Clone, Copy, Debug, PartialEq, Eq, PartialOrd, Ord)]
+#[derive(Clone, Copy, Debug, PartialEq, Eq)]
 pub struct FixedBreach {
     pub minute: i64,
     pub rule: u8,
@@ -146,49 +147,37 @@ impl<'a> Course<'a> {
         }
     }
 
-    /// The least m at which one of rules 1 to 5 is broken, and the smallest of
+    /// The least m at which one of the fixed rules is broken, and the smallest of
     /// them broken there.
     pub fn first_fixed_breach(&self) -> Option<FixedBreach> {
-        let breaches = [
-            self.breach_of_rule_1(),
-            self.breach_of_rule_2(),
-            self.breach_of_rule_3(),
-            self.breach_of_rule_4(),
-            self.breach_of_rule_5(),
-        ];
-        (1..)
-            .zip(breaches)
-            .filter_map(|(rule, minute)| {
-                Some(FixedBreach {
-                    minute: minute?,
-                    rule,
-                })
-            })
-            .min()
+        let breaches = self.fixed_breaches();
+        let minute = breaches.into_iter().flatten().min()?;
+        Some(FixedBreach {
+            minute,
+            rule: broken_at(breaches, minute).smallest_rule(),
+        })
     }
 
-    /// "The sum never passes 270."
-    fn breach_of_rule_1(&self) -> Option<i64> {
-        let mut driving = UnbrokenDriving::default();
-        for run in &self.runs {
-            match run.activity {
-                Activity::Rest => driving = driving.after_rest(run.span.length(), self.limits),
-                Activity::Driving => {
-                    let breach = passes(driving.sum, run.span, self.limits.unbroken_driving);
-                    if breach.is_some() {
-                        return breach;
-                    }
-                    driving.sum += run.span.length();
-                }
-                Activity::Availability | Activity::Work => {}
-            }
-        }
-        None
+    /// Which of the fixed rules the stretch of m breaks.
+    pub fn broken(&self, m: i64) -> Broken {
+        broken_at(self.fixed_breaches(), m)
     }
 
-    /// "A day's driving is at most 600. At most two days that begin in one
+    /// The least m at which each of the fixed rules is broken, in the regulation's
+    /// order.
+    fn fixed_breaches(&self) -> [Option<i64>; 5] {
+        [
+            self.breach_of_6_1(),
+            self.breach_of_6_2(),
+            self.breach_of_6_3(),
+            self.breach_of_7(),
+            self.breach_of_8_2(),
+        ]
+    }
+
+    /// 6(1): "A day's driving is at most 600. At most two days that begin in one
     /// week exceed 540."
-    fn breach_of_rule_2(&self) -> Option<i64> {
+    fn breach_of_6_1(&self) -> Option<i64> {
         let mut day_start = 0;
         let mut driving = 0;
         let mut extended_days = Counter::default();
@@ -214,8 +203,17 @@ impl<'a> Course<'a> {
         None
     }
 
-    /// "A week's driving is at most 3,360."
-    fn breach_of_rule_3(&self) -> Option<i64> {
+    /// The driving, cut at week ends, each piece with its week.
+    fn driving_by_week(&self) -> impl Iterator<Item = (i64, Span)> + '_ {
+        self.runs
+            .iter()
+            .filter(|run| run.activity == Activity::Driving)
+            .flat_map(|run| cut_at_weeks(run.span, self.limits))
+            .map(|piece| (self.limits.week_of(piece.start), piece))
+    }
+
+    /// 6(2): "A week's driving is at most 3,360."
+    fn breach_of_6_2(&self) -> Option<i64> {
         let mut weeks = Counter::default();
         self.driving_by_week().find_map(|(week, piece)| {
             let before = weeks.of(week);
@@ -224,8 +222,8 @@ impl<'a> Course<'a> {
         })
     }
 
-    /// "Two consecutive weeks have at most 5,400."
-    fn breach_of_rule_4(&self) -> Option<i64> {
+    /// 6(3): "Two consecutive weeks have at most 5,400."
+    fn breach_of_6_3(&self) -> Option<i64> {
         let mut weeks = Counter::default();
         self.driving_by_week().find_map(|(week, piece)| {
             let before = weeks.of(week - 1) + weeks.of(week);
@@ -234,10 +232,29 @@ impl<'a> Course<'a> {
         })
     }
 
-    /// "Every long rest starts at most 900 after P; S too." A long rest's
+    /// Article 7: "The sum never passes 270."
+    fn breach_of_7(&self) -> Option<i64> {
+        let mut driving = UnbrokenDriving::default();
+        for run in &self.runs {
+            match run.activity {
+                Activity::Rest => driving = driving.after_rest(run.span.length(), self.limits),
+                Activity::Driving => {
+                    let breach = passes(driving.sum, run.span, self.limits.unbroken_driving);
+                    if breach.is_some() {
+                        return breach;
+                    }
+                    driving.sum += run.span.length();
+                }
+                Activity::Availability | Activity::Work => {}
+            }
+        }
+        None
+    }
+
+    /// 8(2): "Every long rest starts at most 900 after P; S too." A long rest's
     /// start is S before that rest, so only S is looked at: it grows with each
     /// minute that is not rest.
-    fn breach_of_rule_5(&self) -> Option<i64> {
+    fn breach_of_8_2(&self) -> Option<i64> {
         let mut previous_end = 0;
         for run in &self.runs {
             let latest = previous_end + self.limits.day_length;
@@ -249,15 +266,12 @@ impl<'a> Course<'a> {
         }
         None
     }
+}
 
-    /// The driving, cut at week ends, each piece with its week.
-    fn driving_by_week(&self) -> impl Iterator<Item = (i64, Span)> + '_ {
-        self.runs
-            .iter()
-            .filter(|run| run.activity == Activity::Driving)
-            .flat_map(|run| cut_at_weeks(run.span, self.limits))
-            .map(|piece| (self.limits.week_of(piece.start), piece))
-    }
+/// Which of the fixed rules are broken in the stretch of m: each is broken from its
+/// least m on.
+fn broken_at(breaches: [Option<i64>; 5], m: i64) -> Broken {
+    Broken::by_article(breaches.map(|breach| breach.is_some_and(|least| least <= m)))
 }
 
 /// The least m at which a sum that grows by 1 a minute over this span passes
@@ -265,31 +279,6 @@ impl<'a> Course<'a> {
 fn passes(before: i64, span: Span, limit: i64) -> Option<i64> {
     let grows_past = before <= limit && before + span.length() > limit;
     grows_past.then(|| span.start + (limit - before) + 1)
-}
-
-/// Rule 1 after some runs: the driving sum, and whether a first part has been
-/// taken.
-#[derive(Clone, Copy, Default)]
-struct UnbrokenDriving {
-    sum: i64,
-    first_part: bool,
-}
-
-impl UnbrokenDriving {
-    /// Request 2: "a rest is a first part only if driving has been done since
-    /// the sum was last cleared, or since minute 0 if it never was." Just then
-    /// the sum is over 0.
-    fn after_rest(self, length: i64, limits: &Limits) -> UnbrokenDriving {
-        let second_part = self.first_part && length >= limits.second_part;
-        if length >= limits.full_break || second_part {
-            return UnbrokenDriving::default();
-        }
-        let first_part = self.sum > 0 && length >= limits.first_part;
-        UnbrokenDriving {
-            sum: self.sum,
-            first_part: self.first_part || first_part,
-        }
-    }
 }
 
 /// A count for each week.
@@ -312,5 +301,30 @@ impl Counter {
         }
         self.0[week] += amount;
         self.0[week]
+    }
+}
+
+/// Article 7 after some runs: the driving sum, and whether a first part has been
+/// taken.
+#[derive(Clone, Copy, Default)]
+struct UnbrokenDriving {
+    sum: i64,
+    first_part: bool,
+}
+
+impl UnbrokenDriving {
+    /// Request 2: "a rest is a first part only if driving has been done since
+    /// the sum was last cleared, or since minute 0 if it never was." Just then
+    /// the sum is over 0.
+    fn after_rest(self, length: i64, limits: &Limits) -> UnbrokenDriving {
+        let second_part = self.first_part && length >= limits.second_part;
+        if length >= limits.full_break || second_part {
+            return UnbrokenDriving::default();
+        }
+        let first_part = self.sum > 0 && length >= limits.first_part;
+        UnbrokenDriving {
+            sum: self.sum,
+            first_part: self.first_part || first_part,
+        }
     }
 }

@@ -76,27 +76,6 @@ fn list_of_long_rests() {
 }
 
 #[test]
-fn rule_1() {
-    assert_eq!(fixed_rule("d270 r45 d270"), 0);
-    assert_eq!(fixed_rule("d270 r44 d1"), 1);
-    assert_eq!(fixed_rule("d100 r15 d170 r30 d270"), 0);
-    assert_eq!(fixed_rule("d100 r15 d170 r29 d1"), 1);
-    assert_eq!(fixed_rule("d100 r14 d170 r30 d1"), 1);
-    // A rest before any driving is no first part.
-    assert_eq!(fixed_rule("r15 d270 r30 d1"), 1);
-    assert_eq!(fixed_rule("r15 d1 r15 d269 r30 d1"), 0);
-    // A rest of 30 to 44 is itself a first part where none came before it.
-    assert_eq!(fixed_rule("d100 r30 d170 r30 d270"), 0);
-    // Clearing forgets the first part.
-    assert_eq!(fixed_rule("d100 r15 d100 r30 d270 r30 d1"), 1);
-    assert_eq!(fixed_rule("d100 r15 d100 r45 d270 r30 d1"), 1);
-    // A second short rest stays a first part.
-    assert_eq!(fixed_rule("d100 r15 d100 r29 d70 r30 d270"), 0);
-    assert_eq!(fixed_rule("d270 a45 d1"), 1);
-    assert_eq!(fixed_rule("d270 w45 d1"), 1);
-}
-
-#[test]
 fn rule_2() {
     let drives = |driving: i64| format!("d270 r45 d{} r45 d60", driving - 330);
     assert_eq!(fixed_rule(&drives(600)), 0);
@@ -127,6 +106,27 @@ fn rules_3_and_4() {
     let third = |end: i64| format!("{second} r{} d1", end - reached);
     assert_eq!(fixed_rule(&third(20_160)), 0);
     assert_eq!(fixed_rule(&third(20_159)), 4);
+}
+
+#[test]
+fn rule_1() {
+    assert_eq!(fixed_rule("d270 r45 d270"), 0);
+    assert_eq!(fixed_rule("d270 r44 d1"), 1);
+    assert_eq!(fixed_rule("d100 r15 d170 r30 d270"), 0);
+    assert_eq!(fixed_rule("d100 r15 d170 r29 d1"), 1);
+    assert_eq!(fixed_rule("d100 r14 d170 r30 d1"), 1);
+    // A rest before any driving is no first part.
+    assert_eq!(fixed_rule("r15 d270 r30 d1"), 1);
+    assert_eq!(fixed_rule("r15 d1 r15 d269 r30 d1"), 0);
+    // A rest of 30 to 44 is itself a first part where none came before it.
+    assert_eq!(fixed_rule("d100 r30 d170 r30 d270"), 0);
+    // Clearing forgets the first part.
+    assert_eq!(fixed_rule("d100 r15 d100 r30 d270 r30 d1"), 1);
+    assert_eq!(fixed_rule("d100 r15 d100 r45 d270 r30 d1"), 1);
+    // A second short rest stays a first part.
+    assert_eq!(fixed_rule("d100 r15 d100 r29 d70 r30 d270"), 0);
+    assert_eq!(fixed_rule("d270 a45 d1"), 1);
+    assert_eq!(fixed_rule("d270 w45 d1"), 1);
 }
 
 #[test]

@@ -4,6 +4,7 @@
 
 mod shorthand;
 
+use second::fixed;
 use second::reading::{self, bytes, entries, Entry};
 use second::verdict::{verdict, Verdict};
 use shorthand::{attempt, days, general_figure, tight_days, tight_weeks, times, words};
@@ -32,6 +33,17 @@ impl Lines {
     fn repeated(&mut self, count: usize, day: &str, then: &str) {
         let name = format!("{count} times ({day}), {then}");
         self.case(&name, &(times(count, day) + then));
+    }
+
+    /// The verdict, and the first broken article of a stretch.
+    fn first(&mut self, name: &str, shorthand: &str, m: usize) {
+        let in_order = ["none", "6.1", "6.2", "6.3", "7", "8.2"];
+        let (answer, _) = answered(&words(shorthand), &mut [9; 669]);
+        let first = match fixed::article_test(&words(shorthand), m) {
+            Ok(place) => format!("first {}", in_order[usize::from(place)]),
+            Err(refusal) => format!("refused {}", refusal.number()),
+        };
+        self.push(name, &format!("{answer}; {first}"));
     }
 
     fn weeks(&mut self, name: &str, rests: &[u32]) {
@@ -112,6 +124,33 @@ fn first_parts(lines: &mut Lines) {
         "d1 r15 d1 r30 d270 r30 d1",
     ] {
         lines.runs(shorthand);
+    }
+}
+
+fn orders(lines: &mut Lines) {
+    for (shorthand, m) in [
+        ("d270 r45 d60 r45 d271", 691),
+        ("d270 r45 d270 r255 d61", 901),
+        ("w630 d271", 901),
+        ("d270 r45 d60 r255 d271", 901),
+        ("d271 d330", 600),
+        ("d271 d330", 601),
+        ("w900", 900),
+        ("w900", 901),
+    ] {
+        lines.first(shorthand, shorthand, m);
+    }
+    let first_week = times(3, "d255 r45 d255 r660") + "d255 r45 d255 r5880 ";
+    for (name, longer, ordinary, then, m) in [
+        ("6.2 and 6.3", 2, 4, "d1", 17_761),
+        ("6.2, 6.3 and 8.2", 2, 4, "w900 d1", 18_661),
+        ("6.2, 6.3 and 7", 0, 5, "d270 r45 d120 r660 d271", 17_671),
+        ("all five", 1, 4, "d270 r45 d60 r255 d271", 17_311),
+    ] {
+        let longer = times(longer, "d270 r45 d270 r45 d60 r660");
+        let ordinary = times(ordinary, "d270 r45 d270 r660");
+        let shorthand = format!("{first_week}{longer}{ordinary}{then}");
+        lines.first(name, &shorthand, m);
     }
 }
 
@@ -241,6 +280,7 @@ fn stored_answers() {
     let mut lines = Lines::default();
     edges(&mut lines);
     first_parts(&mut lines);
+    orders(&mut lines);
     split_days(&mut lines);
     articles(&mut lines);
     figures(&mut lines);
