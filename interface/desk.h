@@ -35,7 +35,8 @@ extern "C" {
  * too short. */
 #define DESK_LONG_RESTS_AT_MOST 223
 
-/* Whether an answer is one, and not a refusal; then its value: a count, a rule or a place. */
+/* Whether an answer is one, and not a refusal; then its value: a count, a rule, or a place: an entry's in its reading, from 0,
+ * or an article's in the regulation's order, from 1. */
 #define DESK_ANSWERED(answer) ((answer) >= DESK_ANSWER)
 #define DESK_VALUE(answer) ((answer) % DESK_ANSWER)
 
@@ -65,6 +66,10 @@ uint64_t desk_list(const uint32_t *words, size_t words_count, struct desk_span *
 
 /* The smallest of rules 1 to 5 that the first m minutes break, or 0; refusal 1, 2 or 5. */
 uint64_t desk_fixed_test(const uint32_t *words, size_t words_count, uint32_t m);
+
+/* The same rules in the regulation's order: the place, 1 to 5, in 6.1, 6.2, 6.3, 7, 8.2 of the first article that the first m
+ * minutes break, or 0; refusal 1, 2 or 5. */
+uint64_t desk_article_test(const uint32_t *words, size_t words_count, uint32_t m);
 
 /* The smallest of rules 1 to 11 that the recording with this reading breaks, or 0; refusal 1, 2 or 6. */
 uint64_t desk_reading_test(const uint32_t *words, size_t words_count, const uint8_t *reading, size_t reading_count);

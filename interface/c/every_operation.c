@@ -1,4 +1,4 @@
-/* Calls every operation of the desk once, and those that refuse with a refusal, and prints the answers. */
+/* Calls every operation of the desk, and those that refuse with a refusal, and prints the answers. */
 #include <inttypes.h>
 #include <stdio.h>
 
@@ -33,6 +33,12 @@ static void print_weighing(const uint32_t *words, size_t count)
         printf("weighing: refused %" PRIu64 "\n", answer);
 }
 
+static void print_both_tests(const uint32_t *words, size_t count, uint32_t m)
+{
+    print_value("fixed test", desk_fixed_test(words, count, m));
+    print_value("article test", desk_article_test(words, count, m));
+}
+
 static void print_verdict(const uint32_t *words, size_t count)
 {
     uint8_t reading[8] = {9, 9, 9, 9, 9, 9, 9, 9};
@@ -50,7 +56,12 @@ int main(void)
 {
     const uint32_t words[] = {WORD(240, DRIVING), WORD(660, REST), WORD(60, WORK), WORD(2700, REST), WORD(1, WORK)};
     const uint32_t long_day[] = {WORD(901, WORK)};
+    /* These break 6.1, 7 and 8.2 at minute 901, and without their work 6.1 and 7 at 691; the late drive 7 and 8.2 at 901. */
+    const uint32_t drives[] = {WORD(210, WORK),    WORD(165, DRIVING), WORD(45, REST),
+                               WORD(165, DRIVING), WORD(45, REST),     WORD(271, DRIVING)};
+    const uint32_t late_drive[] = {WORD(630, WORK), WORD(271, DRIVING)};
     const uint32_t no_minutes[] = {WORD(0, AVAILABILITY)};
+    const uint32_t too_long[] = {WORD(120960, REST), WORD(1, WORK)};
     const uint8_t reading[] = {0, 0, 0, 1, 0, 0};
     /* Rest; work from 05:00; driving from 05:20, with a second driver; a day of rest, entered by hand; then a day unknown. */
     const uint8_t days[] = {0x00, 0x00, 0x11, 0x2C, 0x59, 0x40, 0x60, 0x00, 0x20, 0x00};
@@ -73,6 +84,16 @@ int main(void)
     print_value("fixed test", desk_fixed_test(words, 5, 3661));
     print_value("fixed test", desk_fixed_test(long_day, 1, 901));
     print_value("fixed test", desk_fixed_test(long_day, 1, 902));
+
+    print_value("article test", desk_article_test(words, 5, 3661));
+    print_value("article test", desk_article_test(long_day, 1, 901));
+    print_value("article test", desk_article_test(long_day, 1, 902));
+    print_value("article test", desk_article_test(no_minutes, 1, 0));
+    print_value("article test", desk_article_test(too_long, 2, 0));
+    print_both_tests(drives + 1, 5, 690);
+    print_both_tests(drives + 1, 5, 691);
+    print_both_tests(drives, 6, 901);
+    print_both_tests(late_drive, 2, 901);
 
     print_value("reading test", desk_reading_test(words, 5, reading, 6));
     print_value("reading test", desk_reading_test(words, 5, reading, 3));

@@ -22,6 +22,8 @@ mod library {
 
         pub fn desk_fixed_test(words: *const u32, words_count: usize, m: u32) -> u64;
 
+        pub fn desk_article_test(words: *const u32, words_count: usize, m: u32) -> u64;
+
         pub fn desk_reading_test(
             words: *const u32,
             words_count: usize,
@@ -80,6 +82,10 @@ pub fn list_long_rests(words: &[u32], list: &mut [Span]) -> u64 {
 
 pub fn fixed_test(words: &[u32], m: u32) -> u64 {
     unsafe { library::desk_fixed_test(words.as_ptr(), words.len(), m) }
+}
+
+pub fn article_test(words: &[u32], m: u32) -> u64 {
+    unsafe { library::desk_article_test(words.as_ptr(), words.len(), m) }
 }
 
 pub fn reading_test(words: &[u32], reading: &[u8]) -> u64 {

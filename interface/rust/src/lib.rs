@@ -135,6 +135,7 @@ fn count(answer: u64) -> Result<usize, Refusal> {
     value(answer).map(|count| count as usize)
 }
 
+/// A rule, or an article's place.
 fn rule(answer: u64) -> Result<u8, Refusal> {
     value(answer).map(|rule| rule as u8)
 }
@@ -157,6 +158,23 @@ pub fn list_long_rests(words: &[u32], list: &mut [Span]) -> Result<usize, Refusa
 /// The smallest of rules 1 to 5 that the first m minutes break, or 0.
 pub fn fixed_test(words: &[u32], m: u32) -> Result<u8, Refusal> {
     rule(calls::fixed_test(words, m))
+}
+
+/// The same rules in the regulation's order: the place, 1 to 5, in 6.1, 6.2, 6.3,
+/// 7, 8.2 of the first article that the first m minutes break, or 0.
+///
+/// ```
+/// use hours_desk::{article_test, fixed_test};
+///
+/// // Six days with nine hours of driving, then 271 minutes without a break: more
+/// // than the 270 of article 7, and 3,511 in a week, more than article 6.2's 3,360.
+/// let day = [4 * 270 + 3, 4 * 45, 4 * 270 + 3, 4 * 660];
+/// let words = [&day.repeat(6)[..], &[4 * 271 + 3]].concat();
+/// assert_eq!(fixed_test(&words, 7_741), Ok(1)); // rule 1, article 7
+/// assert_eq!(article_test(&words, 7_741), Ok(2)); // article 6.2
+/// ```
+pub fn article_test(words: &[u32], m: u32) -> Result<u8, Refusal> {
+    rule(calls::article_test(words, m))
 }
 
 /// The smallest of rules 1 to 11 that the recording with this reading breaks,

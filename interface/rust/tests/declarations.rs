@@ -168,8 +168,10 @@ fn counts() {
 
 #[test]
 fn types() {
-    edit(HEADER, "uint32_t m)", "uint64_t m)")
-        .says("desk_fixed_test has `m: uint64_t`, by the source `m: uint32_t`");
+    edit(HEADER, "uint32_t m)", "uint64_t m)").says(
+        "desk_fixed_test has `m: uint64_t`, by the source `m: uint32_t`\n\
+         desk_article_test has `m: uint64_t`, by the source `m: uint32_t`",
+    );
     edit(HEADER, "weigh(const uint32_t", "weigh(uint32_t")
         .says("desk_weigh has `words: uint32_t *`, by the source `words: const uint32_t *`");
     edit(HEADER, "text_count, uint32_t *words", "text_count, const uint32_t *words")
@@ -186,8 +188,10 @@ fn types() {
 fn results() {
     edit(HEADER, "uint64_t desk_verdict", "uint32_t desk_verdict")
         .says("desk_verdict has `result: uint32_t`, by the source `result: uint64_t`");
-    edit(CALLS, "m: u32) -> u64", "m: u32) -> u32")
-        .says("desk_fixed_test has `result: u32`, by the source `result: u64`");
+    edit(CALLS, "m: u32) -> u64", "m: u32) -> u32").says(
+        "desk_fixed_test has `result: u32`, by the source `result: u64`\n\
+         desk_article_test has `result: u32`, by the source `result: u64`",
+    );
 }
 
 #[test]

@@ -1,8 +1,8 @@
 //! Every operation on small inputs: answers, refusals, and what a buffer holds.
 
 use hours_desk::{
-    entry, entry_refusal, fixed_test, list_long_rests, read_card, read_text, reading_test, verdict,
-    weigh, write_card, write_text, Measure, Refusal, Span, Verdict,
+    article_test, entry, entry_refusal, fixed_test, list_long_rests, read_card, read_text,
+    reading_test, verdict, weigh, write_card, write_text, Measure, Refusal, Span, Verdict,
 };
 
 /// 240 of driving, 660 of rest, 60 of work, 2,700 of rest, a minute of work.
@@ -59,6 +59,40 @@ fn tests() {
         Err(Refusal::ReadingByteCount)
     );
     assert_eq!(reading_test(&[], &[]), Ok(0));
+}
+
+#[test]
+fn articles() {
+    assert_eq!(article_test(&WORDS, 3_661), Ok(0));
+    assert_eq!(article_test(&[4 * 901 + 2], 901), Ok(5));
+    assert_eq!(article_test(&WORDS, 3_662), Err(Refusal::StretchOverTotal));
+    assert_eq!(article_test(&NO_MINUTES, 0), Err(Refusal::NoMinutes));
+    assert_eq!(article_test(&TOO_LONG, 0), Err(Refusal::TotalPassed));
+    assert_eq!(article_test(&[], 0), Ok(0));
+    assert_eq!(article_test(&[], 1), Err(Refusal::StretchOverTotal));
+
+    // Broken at one minute: 6.1 and 7; 6.1, 7 and 8.2; 7 and 8.2.
+    let drives = [4 * 165 + 3, 4 * 45, 4 * 165 + 3, 4 * 45, 4 * 271 + 3];
+    let after_work = [&[4 * 210 + 2], &drives[..]].concat();
+    let late_drive = [4 * 630 + 2, 4 * 271 + 3];
+    for (words, m, rule, place) in [
+        (&drives[..], 691, 1, 1),
+        (&after_work, 901, 1, 1),
+        (&late_drive, 901, 1, 4),
+    ] {
+        assert_eq!(fixed_test(words, m - 1), Ok(0));
+        assert_eq!(article_test(words, m - 1), Ok(0));
+        assert_eq!(fixed_test(words, m), Ok(rule));
+        assert_eq!(article_test(words, m), Ok(place));
+    }
+
+    // 6.2 is broken at minute 7,591, and 7 too at 7,741.
+    let day = [4 * 270 + 3, 4 * 45, 4 * 270 + 3, 4 * 660];
+    let week = [&day.repeat(6)[..], &[4 * 271 + 3]].concat();
+    for (m, rule, place) in [(7_590, 0, 0), (7_591, 3, 2), (7_740, 3, 2), (7_741, 1, 2)] {
+        assert_eq!(fixed_test(&week, m), Ok(rule));
+        assert_eq!(article_test(&week, m), Ok(place));
+    }
 }
 
 #[test]
