@@ -14,6 +14,7 @@ pub struct Plan {
     pub few_days: u64,
     pub breaks: u64,
     pub split_rests: u64,
+    pub much_driving: u64,
     pub ordinary: u64,
     pub grown: u64,
     /// Of each grown recording, so many cuts and as many changed ones.
@@ -70,6 +71,7 @@ pub fn each_recording(plan: &Plan, visit: VisitRecording) -> bool {
         && few_days_changed(plan, visit)
         && recordings_of(plan.breaks, 9, "breaks", recordings::breaks, visit)
         && split_rests(plan, visit)
+        && much_driving(plan, visit)
         && recordings_of(plan.ordinary, 4, "ordinary weeks", grow::ordinary, visit)
         && grown(plan, visit)
         && recordings_of(plan.hard, 6, "hard", |dice| grow::hard(dice, 150), visit)
@@ -186,6 +188,11 @@ fn split_rests(plan: &Plan, visit: VisitRecording) -> bool {
         }
     };
     recordings_of(plan.split_rests, 10, "split rests", make, visit)
+}
+
+fn much_driving(plan: &Plan, visit: VisitRecording) -> bool {
+    let make = recordings::much_driving;
+    recordings_of(plan.much_driving, 11, "much driving", make, visit)
 }
 
 fn few_days_changed(plan: &Plan, visit: VisitRecording) -> bool {

@@ -13,6 +13,7 @@ pub fn desk(operation: Operation, input: &Input) -> Answer {
         }),
         Operation::List => desk_list(words, &mut after.lent_words, &mut after.lent_ends).map(one),
         Operation::FixedTest => hours_desk::fixed_test(words, number as u32).map(one),
+        Operation::ArticleTest => hours_desk::article_test(words, number as u32).map(one),
         Operation::ReadingTest => hours_desk::reading_test(words, bytes).map(one),
         Operation::Entry => hours_desk::entry(bytes, number).map(|part| placed(bytes, part)),
         Operation::EntryRefusal => match hours_desk::entry_refusal(bytes, number) {

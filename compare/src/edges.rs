@@ -3,6 +3,7 @@
 
 use second::recording::Span;
 
+use crate::recordings::{driving_days, driving_week};
 use crate::shorthand::{around, attempt, days, general_figure, span, tight_weeks, times, words};
 
 /// A recording, and readings of it that are worth testing.
@@ -112,6 +113,7 @@ pub fn constants() -> Vec<Edge> {
     let mut edges = totals();
     for change in [-1, 0, 1] {
         edges.extend(fixed_rules(change));
+        edges.extend(broken_at_once(change));
         edges.extend(first_parts(change));
         edges.extend(earlier_rests(change));
         edges.extend(loads(change));
@@ -176,6 +178,46 @@ fn fixed_rules(change: i64) -> Vec<Edge> {
     .iter()
     .map(|shorthand| edge(shorthand))
     .collect()
+}
+
+/// Days that break two or three of articles 6(1), 7 and 8(2) at one minute; and days
+/// that break some or none of them at the minute at which 6(2) or 6(3) is broken, or both.
+fn broken_at_once(change: i64) -> Vec<Edge> {
+    let at = |edge: i64| edge + change;
+    let extended = times(2, "d270 r45 d270 r45 d1 r600");
+    let mut edges: Vec<Edge> = [
+        format!("d165 r45 d165 r45 d{}", at(271)),
+        format!("d165 r45 d{} r45 d272", at(165)),
+        format!("{extended}d200 r45 d{} r45 d272", at(70)),
+        format!("w210 d165 r45 d165 r45 d{}", at(271)),
+        format!("w{} d165 r45 d165 r45 d272", at(210)),
+        format!("w{} d200 r45 d200 r45 d202", at(210)),
+        format!("w{} d272", at(630)),
+    ]
+    .iter()
+    .map(|shorthand| edge(shorthand))
+    .collect();
+    for (day, driven) in [
+        ("d2", 1),
+        ("w900 d2", 1),
+        ("d272", 271),
+        ("w630 d272", 271),
+        ("d200 r45 d200 r45 d202", 601),
+        ("w210 d200 r45 d200 r45 d202", 601),
+        ("d165 r45 d165 r45 d272", 601),
+        ("w210 d165 r45 d165 r45 d272", 601),
+    ] {
+        let day = words(day);
+        let days = |minutes: i64| [driving_days(minutes as u32), day.clone()].concat();
+        let weeks = |first, second| [driving_week(first as u32), days(second)].concat();
+        edges.extend([
+            whole(days(at(3_361 - driven))),
+            whole(weeks(at(3_000), 2_401 - driven)),
+            whole(weeks(at(2_040), 3_361 - driven)),
+            whole(weeks(2_040 - change, at(3_361 - driven))),
+        ]);
+    }
+    edges
 }
 
 /// Rests before setting off, at the start and after a break; and a minute after.

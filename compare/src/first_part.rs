@@ -1,8 +1,8 @@
 //! Request 2: "a rest is a first part only if driving has been done since the
 //! sum was last cleared, or since minute 0 if it never was." Two mistakes about it.
 
+use second::broken::Broken;
 use second::fast::Judge;
-use second::fixed;
 use second::reading::{self, entries};
 use second::recording::{minutes, Activity, Recording};
 use second::runs::runs;
@@ -10,12 +10,13 @@ use second::verdict::Outcome;
 use second::Limits;
 
 use crate::cards::split_at;
-use crate::mistake::{judged_words, Mistake};
+use crate::mistake::{broken, judged_words, Mistake};
 use crate::operation::{answer, one, verdict_answer, Answer, Input, Operation};
 
 /// The operations that rely on the break sum.
-const JUDGING: [Operation; 3] = [
+const JUDGING: [Operation; 4] = [
     Operation::FixedTest,
+    Operation::ArticleTest,
     Operation::ReadingTest,
     Operation::Verdict,
 ];
@@ -78,14 +79,21 @@ fn wrong_answer(first_part: FirstPart, operation: Operation, input: &Input) -> A
         let outcome = outcome(&words, &without_rule_1, breach);
         return verdict_answer(&outcome, input);
     }
-    let minutes = minutes(&words);
-    let recording = Recording::new(&minutes, &without_rule_1);
-    let rule = match operation {
-        _ if breach.is_some() => 1,
-        Operation::FixedTest => fixed::broken_rule(&recording),
-        _ => reading::broken_rule(&recording, &entries(&input.bytes)),
+    let broken = Broken {
+        article_7: breach.is_some(),
+        ..broken(&words, &without_rule_1)
     };
-    answer(Ok(one(rule)), input.clone())
+    let value = match operation {
+        Operation::FixedTest => broken.smallest_rule(),
+        Operation::ArticleTest => broken.first_article(),
+        _ if broken.article_7 => 1,
+        _ => {
+            let minutes = minutes(&words);
+            let recording = Recording::new(&minutes, &without_rule_1);
+            reading::broken_rule(&recording, &entries(&input.bytes))
+        }
+    };
+    answer(Ok(one(value)), input.clone())
 }
 
 /// The outcome of a recording whose rule 1 is broken at this minute.

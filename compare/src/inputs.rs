@@ -110,6 +110,7 @@ fn turned_away(dice: &mut Dice, recording: &Input, tries: &mut Vec<Try>) {
     for operation in [
         Operation::List,
         Operation::FixedTest,
+        Operation::ArticleTest,
         Operation::ReadingTest,
         Operation::WriteText,
         Operation::WriteCard,
@@ -135,7 +136,7 @@ fn weighed(dice: &mut Dice, recording: &Input, readings: &[Vec<u8>], tries: &mut
     let outcome = judge.outcome();
     let course = Course::new(&recording.words, &limits);
     list(dice, recording, course.long_rests.len(), tries);
-    fixed_tests(dice, recording, course.total as u32, &outcome, tries);
+    fixed_tests(dice, recording, &course, &outcome, tries);
     let first = match &outcome {
         Outcome::Pass(reading) => reading.clone(),
         Outcome::Breach { minute, .. } => {
@@ -170,14 +171,16 @@ fn list(dice: &mut Dice, recording: &Input, count: usize, tries: &mut Vec<Try>) 
     }
 }
 
-/// Stretches: all of it, some of it, up to the breach, and past the end.
+/// Stretches: all of it, some of it, up to the breach, up to where the first broken
+/// article last changes, and past the end.
 fn fixed_tests(
     dice: &mut Dice,
     recording: &Input,
-    total: u32,
+    course: &Course,
     outcome: &Outcome,
     tries: &mut Vec<Try>,
 ) {
+    let total = course.total as u32;
     let breach = match outcome {
         Outcome::Pass(_) => dice.below(total + 1),
         Outcome::Breach { minute, .. } => *minute as u32,
@@ -187,19 +190,42 @@ fn fixed_tests(
         1 => total + 2 + dice.below(1_000),
         _ => u32::MAX,
     };
-    for (variant, m) in [
+    let mut stretches = vec![
         ("whole", total),
         ("some of it", dice.below(total + 1)),
         ("up to the breach", breach),
         ("up to the breach", breach.saturating_sub(1)),
         ("over the total", over),
-    ] {
-        let input = Input {
-            number: m as usize,
-            ..recording.clone()
-        };
-        tries.push(attempt(Operation::FixedTest, variant, input));
+    ];
+    if let Some(m) = last_change(course).filter(|&m| m != breach) {
+        stretches.extend([("up to a change", m), ("up to a change", m - 1)]);
     }
+    for (variant, m) in stretches {
+        for operation in [Operation::FixedTest, Operation::ArticleTest] {
+            let input = Input {
+                number: m as usize,
+                ..recording.clone()
+            };
+            tries.push(attempt(operation, variant, input));
+        }
+    }
+}
+
+/// The least m at which the first broken article is that of the whole recording, if
+/// one is broken. What is broken stays so, so m is found by halving.
+fn last_change(course: &Course) -> Option<u32> {
+    let first_article = |m| course.broken(m).first_article();
+    let whole = first_article(course.total);
+    let (mut before, mut after) = (0, course.total);
+    while after - before > 1 {
+        let middle = (before + after) / 2;
+        if first_article(middle) == whole {
+            after = middle;
+        } else {
+            before = middle;
+        }
+    }
+    (whole > 0).then_some(after as u32)
 }
 
 fn reading_tests(

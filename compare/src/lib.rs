@@ -2,6 +2,7 @@
 //! inputs from fixed seeds, lent buffers whole; and how a difference is shown, on
 //! the smallest input that still has it.
 
+pub mod article_order;
 mod cards;
 pub mod cases;
 pub mod difference;

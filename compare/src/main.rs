@@ -25,6 +25,7 @@ fn main() {
         few_days: 5_000,
         breaks: 4_000,
         split_rests: 4_000,
+        much_driving: 3_000,
         ordinary: 1_500,
         grown: 240,
         stages: 5,

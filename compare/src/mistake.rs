@@ -1,17 +1,22 @@
-//! Wrong words on a rule that a request changed: the programs that go by them, and
-//! the inputs that could show them.
+//! Wrong words on what a request says: the programs that go by them, and the inputs
+//! that could show them.
 
+use second::broken::Broken;
+use second::runs::Course;
+use second::Limits;
+
+use crate::article_order;
 use crate::cards::split_at;
 use crate::first_part;
 use crate::operation::{second, Answer, Input, Operation};
 use crate::split_rest;
 
-/// A wrong word on a rule. An input that it goes wrong on is counted in either of two
-/// rows: the mistake makes another answer of it, or the same.
+/// A wrong word on a rule, or on an order of them. An input that it bears on is counted
+/// in either of two rows: the mistake makes another answer of it, or the same.
 pub struct Mistake {
-    /// The operations that rely on the rule.
+    /// The operations that rely on the word.
     pub judging: &'static [Operation],
-    /// Whether it goes wrong somewhere in a recording.
+    /// Whether it bears on a recording.
     pub is_made: fn(&[u32]) -> bool,
     /// What such an operation answers by it, if not a refusal.
     pub answer: fn(Operation, &Input) -> Answer,
@@ -25,7 +30,7 @@ pub struct About {
     pub mistakes: &'static [Mistake],
 }
 
-pub const REQUESTS: [About; 2] = [
+pub const REQUESTS: [About; 3] = [
     About {
         title: "first part by mistake",
         mistakes: &[first_part::ANY_REST, first_part::SINCE_MINUTE_0],
@@ -33,6 +38,10 @@ pub const REQUESTS: [About; 2] = [
     About {
         title: "rule 9 by mistake",
         mistakes: &[split_rest::NEVER, split_rest::ANY_DAY],
+    },
+    About {
+        title: "articles by mistake",
+        mistakes: &[article_order::BY_NUMBER],
     },
 ];
 
@@ -63,7 +72,7 @@ impl Mistake {
         [self.other_answer, self.same_answer]
     }
 
-    /// Whether the operation relies on the rule and does not refuse.
+    /// Whether the operation relies on the word and does not refuse.
     fn judges(&self, operation: Operation, answer: &Answer) -> bool {
         self.judging.contains(&operation) && answer.told.is_ok()
     }
@@ -72,7 +81,15 @@ impl Mistake {
 /// The recording, or the stretch of it that is tested.
 pub fn judged_words(operation: Operation, input: &Input) -> Vec<u32> {
     match operation {
-        Operation::FixedTest => split_at(&input.words, input.number as u32).0,
+        Operation::FixedTest | Operation::ArticleTest => {
+            split_at(&input.words, input.number as u32).0
+        }
         _ => input.words.clone(),
     }
+}
+
+/// Which of the fixed rules these words break.
+pub fn broken(words: &[u32], limits: &Limits) -> Broken {
+    let course = Course::new(words, limits);
+    course.broken(course.total)
 }

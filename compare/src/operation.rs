@@ -10,6 +10,7 @@ pub enum Operation {
     Weigh,
     List,
     FixedTest,
+    ArticleTest,
     ReadingTest,
     Entry,
     EntryRefusal,
@@ -21,10 +22,11 @@ pub enum Operation {
 }
 
 impl Operation {
-    pub const ALL: [Operation; 11] = [
+    pub const ALL: [Operation; 12] = [
         Operation::Weigh,
         Operation::List,
         Operation::FixedTest,
+        Operation::ArticleTest,
         Operation::ReadingTest,
         Operation::Entry,
         Operation::EntryRefusal,
@@ -40,6 +42,7 @@ impl Operation {
             Operation::Weigh => "weighing",
             Operation::List => "listing long rests",
             Operation::FixedTest => "fixed test",
+            Operation::ArticleTest => "article test",
             Operation::ReadingTest => "reading test",
             Operation::Entry => "entry",
             Operation::EntryRefusal => "its companion",
@@ -57,6 +60,7 @@ impl Operation {
             Operation::Weigh => "weigh",
             Operation::List => "list",
             Operation::FixedTest => "fixed",
+            Operation::ArticleTest => "article",
             Operation::ReadingTest => "reading",
             Operation::Entry => "entry",
             Operation::EntryRefusal => "refusal",
@@ -73,7 +77,7 @@ impl Operation {
         match self {
             Operation::Weigh => &[1, 2],
             Operation::List => &[1, 2, 3],
-            Operation::FixedTest => &[1, 2, 5],
+            Operation::FixedTest | Operation::ArticleTest => &[1, 2, 5],
             Operation::ReadingTest => &[1, 2, 6],
             Operation::Entry | Operation::EntryRefusal => &[6, 7],
             Operation::ReadText => &[8, 9],
@@ -131,6 +135,7 @@ pub fn second(operation: Operation, input: &Input) -> Answer {
         }),
         Operation::List => second_list(words, &mut after.lent_words, &mut after.lent_ends),
         Operation::FixedTest => second::fixed::test(words, number).map(one),
+        Operation::ArticleTest => second::fixed::article_test(words, number).map(one),
         Operation::ReadingTest => second::reading::test(words, bytes).map(one),
         Operation::Entry => second_entry(bytes, number),
         Operation::EntryRefusal => match second::entry::entry_refusal(bytes, number) {

@@ -210,6 +210,105 @@ fn any_duty(dice: &mut Dice) -> Activity {
     )
 }
 
+/// A day that breaks some of articles 6(1), 7 and 8(2), at about one minute. Half of the
+/// time there are days before it, with as much driving in the week that 6(2) is broken
+/// at about that minute too, or in two weeks that 6(3) is, or both. Now and then one of
+/// all these days breaks something by itself.
+pub fn much_driving(dice: &mut Dice) -> Vec<u32> {
+    let (day, driven) = last_day(dice);
+    let mut words = Vec::new();
+    match dice.below(4) {
+        0 => words.extend(driving_days(about(dice, 3_361 - driven))),
+        1 => {
+            let to_the_most = one_of(dice, &[3_361, 2_401]) - driven;
+            let second = about(dice, to_the_most);
+            words.extend(driving_week(about(dice, 5_401 - driven - second)));
+            words.extend(driving_days(second));
+        }
+        _ => {}
+    }
+    words.extend(day);
+    if dice.one_in(3) {
+        spoil_a_break(dice, &mut words);
+    }
+    words
+}
+
+/// A day, and its driving up to the minute at which it breaks what it breaks, or would.
+fn last_day(dice: &mut Dice) -> (Vec<u32>, u32) {
+    let any = dice.between(1, 260);
+    let last = one_of(dice, &[any, 271]);
+    let (any, most) = (dice.between(0, 540 - last), about(dice, 601 - last));
+    let before = one_of(dice, &[any, most]);
+    let mut day = Vec::new();
+    let mut left = before;
+    while left > 0 {
+        let drive = left.min(one_of(dice, &[165, 270]));
+        day.extend([word(drive, Activity::Driving), word(45, Activity::Rest)]);
+        left -= drive;
+    }
+    let reached = total_minutes(&day) as u32 + last;
+    let (any, most) = (dice.between(1, 60), about(dice, 901 - reached));
+    day.insert(0, word(one_of(dice, &[any, most]), any_duty(dice)));
+    day.push(word(last + dice.below(10), Activity::Driving));
+    (day, before + last)
+}
+
+/// This minute, or one near it.
+fn about(dice: &mut Dice, minute: u32) -> u32 {
+    let any = dice.between(0, 40);
+    minute + one_of(dice, &[20, 20, 20, 19, 21, any]) - 20
+}
+
+/// Days of nine hours of driving, and one of what is left, with a weekly rest after the
+/// third. In 10,080 minutes a long day fits in after those of 3,360.
+pub fn driving_days(minutes: u32) -> Vec<u32> {
+    let mut words = Vec::new();
+    let mut left = minutes;
+    while left > 0 {
+        let first = left.min(270);
+        let second = (left - first).min(270);
+        words.push(word(first, Activity::Driving));
+        if second > 0 {
+            words.extend([word(45, Activity::Rest), word(second, Activity::Driving)]);
+        }
+        left -= first + second;
+        let third = minutes - left == 3 * 540;
+        let rest = if third { 1_440 } else { 660 };
+        words.push(word(rest, Activity::Rest));
+    }
+    words
+}
+
+/// Such days, and rest up to the week's end.
+pub fn driving_week(minutes: u32) -> Vec<u32> {
+    let mut words = driving_days(minutes);
+    let rest = 10_080 - total_minutes(&words) as u32;
+    words.push(word(rest, Activity::Rest));
+    words
+}
+
+/// A break of 45 minutes made too short, which breaks article 7, or so long that its day
+/// breaks 8(2); or a drive between two, by which its day breaks 6(1), or nearly.
+fn spoil_a_break(dice: &mut Dice, words: &mut Vec<u32>) {
+    let whole_break = word(45, Activity::Rest);
+    let is_one = |&index: &usize| words[index] == whole_break;
+    let breaks: Vec<usize> = (0..words.len()).filter(is_one).collect();
+    if breaks.is_empty() {
+        return;
+    }
+    let index = one_of(dice, &breaks);
+    let instead = match dice.below(3) {
+        0 => vec![word(dice.between(1, 44), Activity::Rest)],
+        1 => vec![word(dice.between(300, 539), Activity::Rest)],
+        _ => {
+            let drive = word(dice.between(50, 90), Activity::Driving);
+            vec![whole_break, drive, whole_break]
+        }
+    };
+    words.splice(index..=index, instead);
+}
+
 /// One recording in four with a rest of about three hours or more in some or most of
 /// its days, if it fits in: days of up to 15 hours before a daily rest, which is as
 /// much shorter then, or of nine to eleven hours.

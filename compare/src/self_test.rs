@@ -7,6 +7,7 @@ use second::recording::word;
 use second::runs::runs;
 use second::Limits;
 
+use compare::article_order;
 use compare::cases::{self, Plan};
 use compare::difference::{compared, smallest, Difference};
 use compare::first_part;
@@ -24,7 +25,7 @@ struct Wrong {
     most_bytes: usize,
 }
 
-const WRONG: [Wrong; 12] = [
+const WRONG: [Wrong; 13] = [
     Wrong {
         name: "rule 10 a minute late",
         program: rule_10_a_minute_late,
@@ -97,6 +98,12 @@ const WRONG: [Wrong; 12] = [
         most_words: 12,
         most_bytes: 15,
     },
+    Wrong {
+        name: "the place of the smallest rule",
+        program: |operation, input| article_order::BY_NUMBER.program(operation, input),
+        most_words: 1,
+        most_bytes: 0,
+    },
 ];
 
 /// The edges alone, and few recordings of each other kind.
@@ -105,6 +112,7 @@ const PLAN: Plan = Plan {
     few_days: 50,
     breaks: 20,
     split_rests: 20,
+    much_driving: 20,
     ordinary: 5,
     grown: 0,
     stages: 0,

@@ -236,7 +236,7 @@ fn fitted(operation: Operation, input: &Input, words: Vec<u32>) -> Vec<Input> {
         Operation::Verdict => resize(&mut fitted.lent_bytes, 3 * rests),
         Operation::WriteText => resize(&mut fitted.lent_bytes, new.text - old.text),
         Operation::WriteCard => resize(&mut fitted.lent_bytes, new.record - old.record),
-        Operation::FixedTest => {
+        Operation::FixedTest | Operation::ArticleTest => {
             let moved = fitted.number as i64 + new.total - old.total;
             fitted.number = moved.max(0) as usize;
         }

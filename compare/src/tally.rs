@@ -80,7 +80,7 @@ pub struct Tally {
     variants: Table,
     /// By whether a mistake about a request would show.
     mistakes: [Table; REQUESTS.len()],
-    /// The refusals, rules and articles that each operation answered with.
+    /// The refusals, rules, places and articles that each operation answered with.
     told: BTreeSet<(usize, String)>,
 }
 
@@ -143,13 +143,14 @@ impl Tally {
     }
 }
 
-/// What kind of answer it is: a refusal, a rule, a pass or an article.
+/// What kind of answer it is: a refusal, a rule, a place, a pass or an article.
 fn class(operation: Operation, answer: &Answer) -> String {
     match (&answer.told, operation) {
         (Err(number), _) => format!("refusal {number}"),
         (Ok(values), Operation::FixedTest | Operation::ReadingTest) => {
             format!("rule {}", values[0])
         }
+        (Ok(values), Operation::ArticleTest) => format!("place {}", values[0]),
         (Ok(values), Operation::Verdict) if values.len() == 3 => format!("article {}", values[2]),
         (Ok(_), _) => "answer".into(),
     }
@@ -161,6 +162,7 @@ fn classes(operation: Operation) -> Vec<String> {
     let refusals = refusals.map(|number| format!("refusal {number}"));
     let answers: Vec<String> = match operation {
         Operation::FixedTest => (0..=5).map(|rule| format!("rule {rule}")).collect(),
+        Operation::ArticleTest => (0..=5).map(|place| format!("place {place}")).collect(),
         Operation::ReadingTest => (0..=11).map(|rule| format!("rule {rule}")).collect(),
         Operation::Verdict => (1..=6)
             .map(|article| format!("article {article}"))
