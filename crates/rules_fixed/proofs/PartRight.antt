@@ -11,7 +11,7 @@ use borrow.Author.Tests.{ltb-true, eqb-true, eqb-false, lt-ltb, ne-eqb}
 use Rattle.recording.specs.Tests.{_and_, _or_, pick, one}
 use Rattle.recording.specs.Words.{isDriving}
 use Rattle.recording.specs.Weeks.{isRest}
-use Rattle.recording.proofs.TestLaws.{and-left, and-right, or-cases, or-left, or-right, clash, is-false}
+use Rattle.recording.proofs.TestLaws.{and-left, and-right, or-cases, or-left, or-right, or-false, clash, is-false}
 use Rattle.rules.specs.Fixed.{dayAtMost, ordinaryDay, extendedDays, weekAtMost, fortnightAtMost, rested, drove, accumulatedAtMost, dayLength, unbroken, smallestRule}
 use Rattle.rules.proofs.ArticleOrder.{rule-none, none-rule}
 use Rattle.rules.proofs.ByWord.{not-rested}
@@ -169,6 +169,29 @@ first-kept f now now′ b c l e = at (eqb (f .rule) 0) refl e
         → pick t (pick (eqb (smallestRule c) 0) f (record { at = now; rule = smallestRule c })) f ≡ f
     at true t e = rw (none (eqb (smallestRule b) 0) refl (eqb-true (f .rule) 0 t) e) refl
     at false t e = refl
+
+-- a minute that breaks nothing leaves what is broken as it was
+pub none-more : (r b : Breaches) → smallestRule b ≡ 0 → eitherBroken r b ≡ r
+unfolding eitherBroken
+none-more r b e =
+    let z = rule-none b e in
+    λ i. record {
+      daily = none-or (r .daily) (ap (λ (x : Breaches). x .daily) z) i;
+      weekly = none-or (r .weekly) (ap (λ (x : Breaches). x .weekly) z) i;
+      fortnightly = none-or (r .fortnightly) (ap (λ (x : Breaches). x .fortnightly) z) i;
+      breaks = none-or (r .breaks) (ap (λ (x : Breaches). x .breaks) z) i;
+      rests = none-or (r .rests) (ap (λ (x : Breaches). x .rests) z) i;
+    }
+  where
+    none-or : (r : Bool) {b : Bool} → b ≡ false → r or b ≡ r
+    none-or r e = ap (λ (b : Bool). r or b) e ∙ or-false r
+
+pub first-as-it-was : (f : Break) (now b : ℕ) → b ≡ 0 → firstBreak f now b ≡ f
+first-as-it-was f now b e = rw e (at (eqb (f .rule) 0))
+  where
+    at : (t : Bool) → pick t f f ≡ f
+    at true = refl
+    at false = refl
 
 -- ---- a part of n minutes and one more, in a week
 not-ended : (now : ℕ) (w : Week) → now < w .end → weekNext now w ≡ w

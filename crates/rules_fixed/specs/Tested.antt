@@ -1,4 +1,4 @@
--- Public: what the enum of both tests' answers says.
+-- Public: what the enum of the tests' answers says.
 -- Assumes nothing.
 use Prim.Native.Nat.{ℕ}
 use Rattle.recording.specs.Answers.{Answer, refused, answered}

@@ -55,6 +55,12 @@ pub struct Account {
     pub first: Break,
 }
 
+// Which rules are broken, and the first breach.
+pub struct Breached {
+    pub broken: Breaches,
+    pub first: Break,
+}
+
 // A part of a run: its minutes, and the account after it.
 pub struct Part {
     pub minutes: u32,
@@ -326,6 +332,20 @@ fn first_break(f: Break, minute: u32, b: u32) -> Break
     f
 }
 
+// What is broken, and the first breach, with what is broken at the minute that ends now; mostly nothing is.
+fn breached_at(broken: Breaches, first: Break, minute: u32, b: Breaches) -> Breached
+    ensures { λ r. ⌜ (r .broken ≡ eitherBroken broken b) × (r .first ≡ firstBreak first minute (smallestRule b)) ⌝ }
+{
+    let rule = smallest_rule(b);
+    if rule == 0 {
+        return Breached { broken, first };
+    }
+    Breached {
+        broken: either_broken(broken, b),
+        first: first_break(first, minute, rule),
+    }
+}
+
 // The account after a part of a run, n minutes of this activity: no week ends before the last, and they are one minute or change
 // nothing that is broken.
 fn part_after(s: Account, activity: u32, n: u32) -> Account
@@ -355,14 +375,17 @@ fn part_after(s: Account, activity: u32, n: u32) -> Account
             let w = week_more(k, week);
             let d = accumulated_more(k, rested_for(rest, accumulated));
             let b = broken_at(now, y, w, d);
+            let after = breached_at(broken, first, now, b);
+            let broken = after.broken;
+            let first = after.first;
             Account {
                 now: now,
                 from: now,
                 day: y,
                 week: week_next(now, w),
                 accumulated: d,
-                broken: either_broken(broken, b),
-                first: first_break(first, now, smallest_rule(b)),
+                broken: broken,
+                first: first,
             }
         }
     }

@@ -33,14 +33,14 @@ broken-at-requires c κs =
     let z = (c .before .before .before .before .before .before .before .before .before .before .before .before .before .before) in
     let k = day-after-bounded (z .args .s .now - z .args .s .from) (z .args .s .now) (z .args .s .week .end) (z .args .s .day) (its-day _ (z .pre .0)) in
     let n = driving-most (z .args .activity) (z .args .n) in
-    let at-day-after = c .before .before .before .before in
+    let at-day-after = (c .before .before .before .before) in
     rw (c .before .before .before .day-more .ensures, day-start, at-day-after .day-after .ensures, c .before .before .week-more .ensures, at-day-after .before .driving-of .ensures)
     (omega (arith, k .start), omega (arith, z .pre .0 .last), omega (arith, z .pre .0 .weekly))
 
 week-next-requires-2 : tie.Need-week-next-requires-2
 week-next-requires-2 c κs =
-    let z = (c .before .before .before .before .before .before .before .before .before .before .before .before .before .before .before) in
-    rw (c .before .before .before .week-more .ensures) (omega (arith, z .pre .0 .end, z .pre .1))
+    let z = (c .before .before .before .before .before .before .before .before .before .before .before .before .before .before .before .before .before .before) in
+    rw (c .before .before .before .before .before .before .week-more .ensures) (omega (arith, z .pre .0 .end, z .pre .1))
 
 returns : tie.Need-returns
 unfolding partAfter restPart
@@ -51,10 +51,9 @@ unfolding partAfter busyPart
 returns-2 c =
     simp (
       ne-eqb _ _ (c .before .before .before .before .before .before .before .before .before .before .before .before .match .rest .1),
-      c .first-break .ensures,
-      c .before .smallest-rule .ensures,
-      c .before .before .either-broken .ensures,
-      c .before .before .before .week-next2 .ensures,
+      c .week-next2 .ensures,
+      c .before .before .before .breached-at .ensures .0,
+      c .before .before .before .breached-at .ensures .1,
       c .before .before .before .before .broken-at .ensures,
       c .before .before .before .before .before .accumulated-more .ensures,
       c .before .before .before .before .before .before .rested-for .ensures,
@@ -78,9 +77,7 @@ part-after-spec =
     (λ c κs. search needs)
     accumulated-more-requires
     broken-at-requires
+    (λ c κs. search needs)
     week-next-requires-2
-    (λ c κs. search needs)
-    (λ c κs. search needs)
-    (λ c κs. search needs)
     returns
     returns-2)
