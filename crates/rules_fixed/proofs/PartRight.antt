@@ -174,17 +174,14 @@ first-kept f now now′ b c l e = at (eqb (f .rule) 0) refl e
 pub none-more : (r b : Breaches) → smallestRule b ≡ 0 → eitherBroken r b ≡ r
 unfolding eitherBroken
 none-more r b e =
-    let z = rule-none b e in
-    λ i. record {
-      daily = none-or (r .daily) (ap (λ (x : Breaches). x .daily) z) i;
-      weekly = none-or (r .weekly) (ap (λ (x : Breaches). x .weekly) z) i;
-      fortnightly = none-or (r .fortnightly) (ap (λ (x : Breaches). x .fortnightly) z) i;
-      breaks = none-or (r .breaks) (ap (λ (x : Breaches). x .breaks) z) i;
-      rests = none-or (r .rests) (ap (λ (x : Breaches). x .rests) z) i;
-    }
-  where
-    none-or : (r : Bool) {b : Bool} → b ≡ false → r or b ≡ r
-    none-or r e = ap (λ (b : Bool). r or b) e ∙ or-false r
+    ap (eitherBroken r) (rule-none b e)
+    ∙ (λ i. record {
+      daily = or-false (r .daily) i;
+      weekly = or-false (r .weekly) i;
+      fortnightly = or-false (r .fortnightly) i;
+      breaks = or-false (r .breaks) i;
+      rests = or-false (r .rests) i;
+    })
 
 pub first-as-it-was : (f : Break) (now b : ℕ) → b ≡ 0 → firstBreak f now b ≡ f
 first-as-it-was f now b e = rw e (at (eqb (f .rule) 0))
