@@ -393,18 +393,18 @@ worked =
     tests (r 11520 ∷ times 5 (w 780 ∷ r 660 ∷ []) (w 780 ∷ r 540 ∷ w 120 ∷ [])) (weekly 0 0 (daily 6 [])) 11 ∷
     []
 
--- the same with the rest after it; one of 600 minutes
-abbrev pub shift : List ℕ
+-- an ordinary day with the rest after it, and a day of 600 minutes of driving with its own
+abbrev shift : List ℕ
 shift = ordinary ++ r 660 ∷ []
 
-abbrev pub longShift : List ℕ
+abbrev longShift : List ℕ
 longShift = d 270 ∷ r 45 ∷ d 270 ∷ r 45 ∷ d 60 ∷ r 660 ∷ []
 
--- a first week with 2,040 minutes of driving, and one with 2,700
-abbrev pub week2040 : List ℕ → List ℕ
+-- a first week with 2,040 minutes of driving, and one with 2,700, then these words
+abbrev week2040 : List ℕ → List ℕ
 week2040 after = times 3 (d 255 ∷ r 45 ∷ d 255 ∷ r 660 ∷ []) (d 255 ∷ r 45 ∷ d 255 ∷ r 5880 ∷ after)
 
-abbrev pub week2700 : List ℕ → List ℕ
+abbrev week2700 : List ℕ → List ℕ
 week2700 after = times 4 shift (ordinary ++ r 4515 ∷ after)
 
 -- Request 4: two, three and more of the fixed rules break at one minute

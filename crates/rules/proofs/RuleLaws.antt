@@ -1,12 +1,12 @@
 -- A test that finds no broken rule says that each rule holds, and the converse. Assumes nothing.
-use mathlib.Core.Path.{_≡_, refl, sym, ap, _∙_}
+use mathlib.Core.Path.{_≡_, refl, ap, _∙_}
 use mathlib.Core.Bool.{Bool, true, false, not}
 use mathlib.Core.List.{List, [], _∷_, List·Memᴰ as In, List·Memᴰ·head as here, List·Memᴰ·tail as there}
 use Prim.Native.Nat.{ℕ, zero, suc, _+_}
 use native.Mathlib.Omega.{arith}
 use lib.Dec.{leb}
 use lib.ListN.{length}
-use borrow.Author.Tests.{eqb-true, eq-eqb}
+use borrow.Author.Tests.{eqb-true, eq-eqb, not-false}
 use Rattle.recording.specs.Tests.{_and_, pick, one}
 use Rattle.recording.specs.Rests.{closedRests, judgedEnd, longRests}
 use Rattle.recording.specs.Days.{days, drivingIn}
@@ -35,20 +35,16 @@ pub record FixedRules (ms : List ℕ) : Type 0 where
   pub one : rule1 ms ≡ true
   pub five : rule5 (days ms) ≡ true
 
-kept : (b : Bool) → not b ≡ false → b ≡ true
-kept true e = refl
-kept false e = sym e
-
 pub fixed-rules : (ms : List ℕ) → fixedTest ms ≡ 0 → FixedRules ms
 unfolding fixedTest breaches breachesBy
 fixed-rules ms t =
     let e = rule-none (breaches ms) t in
     record {
-      two = kept _ (ap (λ (b : Breaches). b .daily) e);
-      three = kept _ (ap (λ (b : Breaches). b .weekly) e);
-      four = kept _ (ap (λ (b : Breaches). b .fortnightly) e);
-      one = kept _ (ap (λ (b : Breaches). b .breaks) e);
-      five = kept _ (ap (λ (b : Breaches). b .rests) e);
+      two = not-false _ (ap (λ (b : Breaches). b .daily) e);
+      three = not-false _ (ap (λ (b : Breaches). b .weekly) e);
+      four = not-false _ (ap (λ (b : Breaches). b .fortnightly) e);
+      one = not-false _ (ap (λ (b : Breaches). b .breaks) e);
+      five = not-false _ (ap (λ (b : Breaches). b .rests) e);
     }
 
 pub rules-fixed : (ms : List ℕ) → FixedRules ms → fixedTest ms ≡ 0

@@ -324,11 +324,11 @@ run-kept (suc n) s a k =
 ran : (n : ℕ) {s : Account} {a : ℕ} {t : Account} → Bounded s → t ≡ accountFrom s (replicate n a) → Ran s a n t
 ran n {s} {a} k e = rw e (run-kept n s a k)
 
-same-test : (a b : Bool) → Bool·beq a b ≡ true → a ≡ b
-same-test true true e = refl
-same-test true false e = sym e
-same-test false true e = e
-same-test false false e = refl
+equal-tests : (a b : Bool) → Bool·beq a b ≡ true → a ≡ b
+equal-tests true true e = refl
+equal-tests true false e = sym e
+equal-tests false true e = e
+equal-tests false false e = refl
 
 same-broken : (a b : Breaches) → sameBroken a b ≡ true → a ≡ b
 unfolding sameBroken
@@ -337,11 +337,11 @@ same-broken a b e =
     let to-fortnightly = and-left _ _ to-breaks in
     let to-weekly = and-left _ _ to-fortnightly in
     λ i. record {
-      daily = same-test (a .daily) (b .daily) (and-left _ _ to-weekly) i;
-      weekly = same-test (a .weekly) (b .weekly) (and-right _ _ to-weekly) i;
-      fortnightly = same-test (a .fortnightly) (b .fortnightly) (and-right _ _ to-fortnightly) i;
-      breaks = same-test (a .breaks) (b .breaks) (and-right _ _ to-breaks) i;
-      rests = same-test (a .rests) (b .rests) (and-right _ _ e) i;
+      daily = equal-tests (a .daily) (b .daily) (and-left _ _ to-weekly) i;
+      weekly = equal-tests (a .weekly) (b .weekly) (and-right _ _ to-weekly) i;
+      fortnightly = equal-tests (a .fortnightly) (b .fortnightly) (and-right _ _ to-fortnightly) i;
+      breaks = equal-tests (a .breaks) (b .breaks) (and-right _ _ to-breaks) i;
+      rests = equal-tests (a .rests) (b .rests) (and-right _ _ e) i;
     }
 
 pub part-ran : {s : Account} {a n : ℕ} {t : Account} → Bounded s → 0 < n → s .now + n ≤ s .week .end → t ≡ partAfter s a n → sameBreaches s t ≡ true → Ran s a n t
