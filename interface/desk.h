@@ -5,19 +5,20 @@
  * Any content is fine: every operation answers for all words, bytes and numbers.
  *
  * Answers. A number below DESK_ANSWER is a refusal, by its number:
- *    1 a word has no minutes                 7 the reading has no entry of that number
- *    2 the total passes 120,960              8 the text is not of the form
- *    3 the list is too short                 9 too few words for the run lines or the changes
- *    4 the reading buffer is too short      10 too few bytes for the text or the record
- *    5 m is over the total                  11 the record is not of the form, or the recording not of whole days
- *    6 the reading has the wrong byte count 12 the record has an unknown activity
+ *    1 a word has no minutes                      8 the text is not of the form
+ *    2 the total passes 120,960                   9 too few words for the run lines or the changes
+ *    3 the list is too short                     10 too few bytes for the text or the record
+ *    4 the reading buffer is too short           11 the record is not of the form, or the recording not of whole days
+ *    5 m is over the total                       12 the record has an unknown activity
+ *    6 the reading has the wrong byte count      13 the verdict is a breach, so there is no lawful reading
+ *    7 the reading has no entry of that number
  * Otherwise the operation answered, and the macros below give its value. Only desk_entry_refusal answers with a bare
  * number. On a refusal every buffer is as it was. An operation that fills a buffer writes from its start and leaves what
  * lies beyond.
  *
  * Each promise stands with its function in crates/interface/src/lib.rt, and is proved. Nothing is kept between calls, so
- * threads may call at the same time, each on buffers that no other is using. Have 1 MiB of stack for
- * desk_verdict; the most that was measured is 671 KiB, on a recording made to take much.
+ * threads may call at the same time, each on buffers that no other is using. Have 1 MiB of stack for desk_verdict and for
+ * desk_first_reading; the most that was measured is 671 KiB, on a recording made to take much.
  */
 #ifndef DESK_H
 #define DESK_H
@@ -95,9 +96,15 @@ uint64_t desk_read_card(const uint8_t *bytes, size_t bytes_count, uint32_t *word
  * before, the bits for slot, crew and card out zero; refusal 1, 2, 11 or 10. The value is its length. */
 uint64_t desk_write_card(const uint32_t *words, size_t words_count, uint8_t *bytes, size_t bytes_count);
 
-/* The verdict; refusal 1, 2 or 4. A pass writes the first lawful reading, three bytes for each long rest, and its value is
- * their count. A breach writes nothing. */
-uint64_t desk_verdict(const uint32_t *words, size_t words_count, uint8_t *reading, size_t reading_count);
+/* The verdict: pass or breach, with no buffer lent; refusal 1 or 2. The value of a pass is 0. */
+uint64_t desk_verdict(const uint32_t *words, size_t words_count);
+
+/* The first lawful reading, three bytes for each long rest; refusal 1, 2 or 4, then 13 where the verdict is a breach. The
+ * value is the count of its bytes.
+ *
+ * To have both, ask for the reading first, and for the verdict only on refusal 13: what has a lawful reading is a pass, so
+ * that a pass then costs one search, and not two. */
+uint64_t desk_first_reading(const uint32_t *words, size_t words_count, uint8_t *reading, size_t reading_count);
 
 #ifdef __cplusplus
 }

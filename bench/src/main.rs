@@ -1,7 +1,10 @@
 //! The desk and the second program side by side on the same recordings. Their answers must be equal.
 //!
-//! Without a word: the time of one verdict on each kind of recording, and of reading and writing a card. `files FOLDER` writes the
-//! recordings into a file for each kind, and `count desk FILE` or `count second FILE` judges those of a file once each; `card card_read desk`
+//! The desk is asked as by a caller who wants the reading too: for the first reading and, where there is none, for the verdict; and for the
+//! verdict alone, as lane staff do.
+//!
+//! Without a word: the time of both on each kind of recording, and of reading and writing a card. `files FOLDER` writes the recordings into a
+//! file for each kind, and `count desk FILE`, `count verdict FILE` or `count second FILE` judges those of a file once each; `card card_read desk`
 //! and its like read or write each card once: bench/run counts their instructions.
 
 mod card;
@@ -14,6 +17,7 @@ use std::path::Path;
 use std::process::exit;
 use std::time::Instant;
 
+use hours_desk::Refusal;
 use second::dice::Dice;
 use second::fast::Judge;
 use second::grow;
@@ -36,13 +40,15 @@ fn main() {
     match words[..] {
         [] => {
             println!("microseconds  recordings passes  desk median    most  second median    most  ratio of medians");
-            kinds()
-                .iter()
-                .for_each(|(kind, recordings)| time(kind, recordings));
+            let alone: Vec<String> = (kinds().iter())
+                .map(|(kind, recordings)| time(kind, recordings))
+                .collect();
             for name in ["card_read", "card_write"] {
                 let times = |program| card::times(card::call(name, program));
-                line(name, "-", times("desk"), times("second"));
+                line(name, "-", &sorted(times("desk")), &sorted(times("second")));
             }
+            println!("\nverdict alone recordings passes      median    mean    most  ratio to the desk above, medians, means");
+            alone.iter().for_each(|line| println!("{line}"));
         }
         ["files", folder] => {
             for (kind, recordings) in kinds().iter().chain(&by_weeks()) {
@@ -52,12 +58,15 @@ fn main() {
         ["count", "desk", file] => files::read(Path::new(file))
             .iter()
             .for_each(|words| counted_desk(words)),
+        ["count", "verdict", file] => files::read(Path::new(file))
+            .iter()
+            .for_each(|words| counted_verdict(words)),
         ["count", "second", file] => files::read(Path::new(file))
             .iter()
             .for_each(|words| counted_second(words)),
         ["card", name, program] => drop(card::times(card::call(name, program))),
         _ => {
-            eprintln!("bench, bench files FOLDER, bench count desk FILE, bench count second FILE, bench card NAME PROGRAM");
+            eprintln!("bench, bench files FOLDER, bench count desk|verdict|second FILE, bench card NAME PROGRAM");
             exit(2);
         }
     }
@@ -123,7 +132,16 @@ fn cut(word: &u32) -> Vec<u32> {
 #[no_mangle]
 pub fn counted_desk(words: &[u32]) {
     let mut reading = [0; READING];
-    let _ = black_box(hours_desk::verdict(words, &mut reading));
+    let read = black_box(hours_desk::first_reading(words, &mut reading));
+    if read == Err(Refusal::NoLawfulReading) {
+        let _ = black_box(hours_desk::verdict(words));
+    }
+}
+
+#[inline(never)]
+#[no_mangle]
+pub fn counted_verdict(words: &[u32]) {
+    let _ = black_box(hours_desk::verdict(words));
 }
 
 #[inline(never)]
@@ -132,30 +150,55 @@ pub fn counted_second(words: &[u32]) {
     black_box(Judge::new(words, &Limits::document()).outcome());
 }
 
-fn time(kind: &str, recordings: &[Vec<u32>]) {
+/// Prints the line of a kind, and gives the one of the verdict alone.
+fn time(kind: &str, recordings: &[Vec<u32>]) -> String {
     let limits = Limits::document();
-    let (mut ours, mut theirs) = (Vec::new(), Vec::new());
+    let (mut ours, mut alone, mut theirs) = (Vec::new(), Vec::new(), Vec::new());
     let mut passes = 0;
     for words in recordings {
         let mut reading = [0; READING];
         let before = Instant::now();
-        let ours_says = desk::verdict(words, &mut reading);
+        let ours_says = desk::outcome(words, &mut reading);
         ours.push(before.elapsed().as_secs_f64() * 1e6);
+        let before = Instant::now();
+        let alone_says = hours_desk::verdict(words);
+        alone.push(before.elapsed().as_secs_f64() * 1e6);
         let before = Instant::now();
         let theirs_says = Judge::new(words, &limits).outcome();
         theirs.push(before.elapsed().as_secs_f64() * 1e6);
-        if ours_says.as_ref() != Ok(&theirs_says) {
-            println!("{kind}: {words:?}\n  desk {ours_says:?}\n  second {theirs_says:?}");
-            exit(1);
+        let first: &[u8] = match &theirs_says {
+            Outcome::Pass(first) => first,
+            Outcome::Breach { .. } => &[],
+        };
+        let alone_says = alone_says.map(|verdict| desk::with_reading(verdict, first));
+        for says in [ours_says, alone_says] {
+            if says.as_ref() != Ok(&theirs_says) {
+                println!("{kind}: {words:?}\n  desk {says:?}\n  second {theirs_says:?}");
+                exit(1);
+            }
         }
         passes += usize::from(matches!(theirs_says, Outcome::Pass(_)));
     }
-    line(kind, &passes.to_string(), ours, theirs);
+    let (ours, alone) = (sorted(ours), sorted(alone));
+    line(kind, &passes.to_string(), &ours, &sorted(theirs));
+    let mean = |times: &[f64]| times.iter().sum::<f64>() / times.len() as f64;
+    let n = alone.len();
+    format!(
+        "{kind:13} {n:10} {passes:>6} {:11.0} {:7.0} {:7.0} {:33.2}, {:5.2}",
+        alone[n / 2],
+        mean(&alone),
+        alone[n - 1],
+        alone[n / 2] / ours[n / 2],
+        mean(&alone) / mean(&ours),
+    )
 }
 
-fn line(kind: &str, passes: &str, mut ours: Vec<f64>, mut theirs: Vec<f64>) {
-    ours.sort_by(f64::total_cmp);
-    theirs.sort_by(f64::total_cmp);
+fn sorted(mut times: Vec<f64>) -> Vec<f64> {
+    times.sort_by(f64::total_cmp);
+    times
+}
+
+fn line(kind: &str, passes: &str, ours: &[f64], theirs: &[f64]) {
     let n = ours.len();
     println!(
         "{kind:12} {n:11} {passes:>6} {:12.0} {:7.0} {:14.0} {:7.0} {:17.2}",

@@ -24,14 +24,13 @@ pub fn desk(operation: Operation, input: &Input) -> Answer {
         Operation::WriteText => hours_desk::write_text(words, &mut after.lent_bytes).map(one),
         Operation::ReadCard => hours_desk::read_card(bytes, &mut after.lent_words).map(one),
         Operation::WriteCard => hours_desk::write_card(words, &mut after.lent_bytes).map(one),
-        Operation::Verdict => {
-            hours_desk::verdict(words, &mut after.lent_bytes).map(|verdict| match verdict {
-                hours_desk::Verdict::Pass { written } => vec![PASS, written as u64],
-                hours_desk::Verdict::Breach { minute, article } => {
-                    vec![BREACH, minute.into(), article.into()]
-                }
-            })
-        }
+        Operation::Verdict => hours_desk::verdict(words).map(|verdict| match verdict {
+            hours_desk::Verdict::Pass => vec![PASS],
+            hours_desk::Verdict::Breach { minute, article } => {
+                vec![BREACH, minute.into(), article.into()]
+            }
+        }),
+        Operation::FirstReading => hours_desk::first_reading(words, &mut after.lent_bytes).map(one),
     };
     answer(told.map_err(hours_desk::Refusal::number), after)
 }

@@ -11,14 +11,15 @@ use second::Limits;
 
 use crate::cards::split_at;
 use crate::mistake::{broken, judged_words, Mistake};
-use crate::operation::{answer, one, verdict_answer, Answer, Input, Operation};
+use crate::operation::{answer, one, outcome_answer, Answer, Input, Operation};
 
 /// The operations that rely on the break sum.
-const JUDGING: [Operation; 4] = [
+const JUDGING: [Operation; 5] = [
     Operation::FixedTest,
     Operation::ArticleTest,
     Operation::ReadingTest,
     Operation::Verdict,
+    Operation::FirstReading,
 ];
 
 /// What has been driven before a rest of 15 minutes or more that does not clear
@@ -75,9 +76,9 @@ fn wrong_answer(first_part: FirstPart, operation: Operation, input: &Input) -> A
         unbroken_driving: i64::MAX,
         ..Limits::document()
     };
-    if operation == Operation::Verdict {
+    if let Operation::Verdict | Operation::FirstReading = operation {
         let outcome = outcome(&words, &without_rule_1, breach);
-        return verdict_answer(&outcome, input);
+        return outcome_answer(operation, &outcome, input);
     }
     let broken = Broken {
         article_7: breach.is_some(),

@@ -5,7 +5,7 @@
 use second::dice::Dice;
 use second::fast::Judge;
 use second::runs::{Course, LongRest};
-use second::verdict::Outcome;
+use second::verdict::{Outcome, Verdict};
 use second::Limits;
 
 use crate::cards;
@@ -46,16 +46,41 @@ impl Room {
             Room::Longer => need + dice.between(1, 40) as usize,
         }
     }
+
+    /// By the length that a buffer came to have.
+    fn of(length: usize, need: usize) -> Room {
+        match length {
+            _ if length == need => Room::JustFits,
+            _ if length > need => Room::Longer,
+            _ if length + 1 == need => Room::ShortByOne,
+            _ => Room::Empty,
+        }
+    }
+
+    /// What such a buffer is told by in the table.
+    pub fn name(self) -> &'static str {
+        match self {
+            Room::JustFits => "just fits",
+            Room::ShortByOne => "short by one",
+            Room::Empty => "empty",
+            Room::Longer => "longer",
+        }
+    }
+
+    /// The same of a buffer for a reading, where the verdict is a breach.
+    pub fn name_in_a_breach(self) -> &'static str {
+        match self {
+            Room::JustFits => "breach, just fits",
+            Room::ShortByOne => "breach, short by one",
+            Room::Empty => "breach, empty",
+            Room::Longer => "breach, longer",
+        }
+    }
 }
 
-/// What such a buffer is told by in the table.
+/// The same by its length.
 pub fn beside(length: usize, need: usize) -> &'static str {
-    match length {
-        _ if length == need => "just fits",
-        _ if length > need => "longer",
-        _ if length + 1 == need => "short by one",
-        _ => "empty",
-    }
+    Room::of(length, need).name()
 }
 
 pub fn one_of<T: Copy>(dice: &mut Dice, choices: &[T]) -> T {
@@ -84,7 +109,7 @@ pub fn of_recording(dice: &mut Dice, words: &[u32], readings: &[Vec<u8>]) -> Vec
     tries
 }
 
-/// The verdict on a recording, with room enough and without.
+/// The verdict on a recording, and its first reading with room enough and without.
 pub fn verdicts_of_recording(dice: &mut Dice, words: &[u32]) -> Vec<Try> {
     let recording = Input {
         words: words.to_vec(),
@@ -92,14 +117,18 @@ pub fn verdicts_of_recording(dice: &mut Dice, words: &[u32]) -> Vec<Try> {
     };
     let mut tries = Vec::new();
     match second::recording::weigh(words) {
-        Ok(measure) => verdicts(dice, &recording, 3 * measure.long_rests, &mut tries),
+        Ok(measure) => {
+            let passes = second::verdict::verdict(words) == Ok(Verdict::Pass);
+            verdicts(dice, &recording, 3 * measure.long_rests, passes, &mut tries);
+        }
         Err(_) => {
+            tries.push(attempt(Operation::Verdict, "any", recording.clone()));
             let length = dice.below(9) as usize;
             let input = Input {
                 lent_bytes: lent(dice, length),
                 ..recording
             };
-            tries.push(attempt(Operation::Verdict, "any", input));
+            tries.push(attempt(Operation::FirstReading, "any", input));
         }
     }
     tries
@@ -115,6 +144,7 @@ fn turned_away(dice: &mut Dice, recording: &Input, tries: &mut Vec<Try>) {
         Operation::WriteText,
         Operation::WriteCard,
         Operation::Verdict,
+        Operation::FirstReading,
     ] {
         let mut length = || dice.below(9) as usize;
         let (words, ends, bytes, lent_bytes) = (length(), length(), length(), length());
@@ -154,7 +184,10 @@ fn weighed(dice: &mut Dice, recording: &Input, readings: &[Vec<u8>], tries: &mut
         };
         tries.push(attempt(Operation::ReadingTest, "nearly lawful", input));
     }
-    verdicts(dice, recording, first.len(), tries);
+    verdicts(dice, recording, first.len(), passes, tries);
+    if let Outcome::Breach { minute, .. } = outcome {
+        up_to_the_breach(dice, recording, minute as u32, tries);
+    }
     texts(dice, recording, tries);
     cards::of_recording(dice, recording, tries);
 }
@@ -320,8 +353,9 @@ fn random_reading(dice: &mut Dice, rests: &[LongRest]) -> Vec<u8> {
         .collect()
 }
 
-/// One verdict with room enough and one without.
-fn verdicts(dice: &mut Dice, recording: &Input, need: usize, tries: &mut Vec<Try>) {
+/// The verdict, and the first reading with room enough and without.
+fn verdicts(dice: &mut Dice, recording: &Input, need: usize, passes: bool, tries: &mut Vec<Try>) {
+    tries.push(attempt(Operation::Verdict, "words", recording.clone()));
     let enough = one_of(dice, &[Room::JustFits, Room::Longer]);
     let too_few = one_of(dice, &[Room::ShortByOne, Room::Empty]);
     for room in [enough, too_few] {
@@ -333,7 +367,29 @@ fn verdicts(dice: &mut Dice, recording: &Input, need: usize, tries: &mut Vec<Try
             lent_bytes: lent(dice, length),
             ..recording.clone()
         };
-        tries.push(attempt(Operation::Verdict, beside(length, need), input));
+        let room = Room::of(length, need);
+        let variant = match passes {
+            true => room.name(),
+            false => room.name_in_a_breach(),
+        };
+        tries.push(attempt(Operation::FirstReading, variant, input));
+    }
+}
+
+/// The verdict and the first reading of the stretch up to the breach, which has no
+/// lawful reading, or of the one a minute shorter, which has one.
+fn up_to_the_breach(dice: &mut Dice, recording: &Input, breach: u32, tries: &mut Vec<Try>) {
+    let words = cards::split_at(&recording.words, breach - dice.below(2)).0;
+    let long_rests = second::recording::weigh(&words).map_or(0, |measure| measure.long_rests);
+    let room = one_of(dice, &[Room::JustFits, Room::Longer]);
+    let length = room.length(dice, 3 * long_rests);
+    let input = Input {
+        words,
+        lent_bytes: lent(dice, length),
+        ..Input::default()
+    };
+    for operation in [Operation::Verdict, Operation::FirstReading] {
+        tries.push(attempt(operation, "up to the breach", input.clone()));
     }
 }
 

@@ -18,7 +18,7 @@ pub struct Mistake {
     pub judging: &'static [Operation],
     /// Whether it bears on a recording.
     pub is_made: fn(&[u32]) -> bool,
-    /// What such an operation answers by it, if not a refusal.
+    /// What such an operation answers by it, if it comes to judging.
     pub answer: fn(Operation, &Input) -> Answer,
     pub other_answer: &'static str,
     pub same_answer: &'static str,
@@ -72,9 +72,9 @@ impl Mistake {
         [self.other_answer, self.same_answer]
     }
 
-    /// Whether the operation relies on the word and does not refuse.
+    /// Whether the operation relies on the word and comes to judging.
     fn judges(&self, operation: Operation, answer: &Answer) -> bool {
-        self.judging.contains(&operation) && answer.told.is_ok()
+        self.judging.contains(&operation) && answer.is_judged()
     }
 }
 

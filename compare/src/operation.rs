@@ -19,10 +19,11 @@ pub enum Operation {
     ReadCard,
     WriteCard,
     Verdict,
+    FirstReading,
 }
 
 impl Operation {
-    pub const ALL: [Operation; 12] = [
+    pub const ALL: [Operation; 13] = [
         Operation::Weigh,
         Operation::List,
         Operation::FixedTest,
@@ -35,6 +36,7 @@ impl Operation {
         Operation::ReadCard,
         Operation::WriteCard,
         Operation::Verdict,
+        Operation::FirstReading,
     ];
 
     pub fn name(self) -> &'static str {
@@ -51,6 +53,7 @@ impl Operation {
             Operation::ReadCard => "reading a card",
             Operation::WriteCard => "writing a card",
             Operation::Verdict => "verdict",
+            Operation::FirstReading => "first reading",
         }
     }
 
@@ -69,13 +72,14 @@ impl Operation {
             Operation::ReadCard => "card in",
             Operation::WriteCard => "card out",
             Operation::Verdict => "verdict",
+            Operation::FirstReading => "first",
         }
     }
 
     /// The refusals of the documents, in their order.
     pub fn refusals(self) -> &'static [u8] {
         match self {
-            Operation::Weigh => &[1, 2],
+            Operation::Weigh | Operation::Verdict => &[1, 2],
             Operation::List => &[1, 2, 3],
             Operation::FixedTest | Operation::ArticleTest => &[1, 2, 5],
             Operation::ReadingTest => &[1, 2, 6],
@@ -84,7 +88,7 @@ impl Operation {
             Operation::WriteText => &[1, 2, 10],
             Operation::ReadCard => &[11, 12, 2, 9],
             Operation::WriteCard => &[1, 2, 11, 10],
-            Operation::Verdict => &[1, 2, 4],
+            Operation::FirstReading => &[1, 2, 4, NO_LAWFUL_READING],
         }
     }
 }
@@ -118,9 +122,19 @@ pub struct Answer {
 /// A program that answers for every operation.
 pub type Program = fn(Operation, &Input) -> Answer;
 
-/// A breach is told as 1, its minute and its article; a pass as 0 and its count.
+/// A breach is told as 1, its minute and its article; a pass as 0 alone.
 pub const PASS: u64 = 0;
 pub const BREACH: u64 = 1;
+
+/// What the first reading refuses where the verdict is a breach.
+pub const NO_LAWFUL_READING: u8 = 13;
+
+impl Answer {
+    /// Whether the rules were asked. No other refusal than 13 comes of them.
+    pub fn is_judged(&self) -> bool {
+        self.told.is_ok() || self.told == Err(NO_LAWFUL_READING)
+    }
+}
 
 pub fn second(operation: Operation, input: &Input) -> Answer {
     let mut after = input.clone();
@@ -146,8 +160,9 @@ pub fn second(operation: Operation, input: &Input) -> Answer {
         Operation::WriteText => second::text::write(words, &mut after.lent_bytes).map(one),
         Operation::ReadCard => second::card::read(bytes, &mut after.lent_words).map(one),
         Operation::WriteCard => second::card::write(words, &mut after.lent_bytes).map(one),
-        Operation::Verdict => {
-            second::verdict::verdict(words, &mut after.lent_bytes).map(verdict_values)
+        Operation::Verdict => second::verdict::verdict(words).map(verdict_values),
+        Operation::FirstReading => {
+            second::verdict::first_reading(words, &mut after.lent_bytes).map(one)
         }
     };
     answer(told.map_err(Refusal::number), after)
@@ -155,23 +170,27 @@ pub fn second(operation: Operation, input: &Input) -> Answer {
 
 fn verdict_values(verdict: Verdict) -> Vec<u64> {
     match verdict {
-        Verdict::Pass { written } => vec![PASS, written as u64],
+        Verdict::Pass => vec![PASS],
         Verdict::Breach { minute, article } => vec![BREACH, minute as u64, article.into()],
     }
 }
 
-/// The answer of a verdict that comes out so, in a buffer with room for it.
-pub fn verdict_answer(outcome: &Outcome, input: &Input) -> Answer {
+/// The verdict of a recording that comes out so, or its first reading in a buffer
+/// with room for it.
+pub fn outcome_answer(operation: Operation, outcome: &Outcome, input: &Input) -> Answer {
     let mut after = input.clone();
-    let verdict = match *outcome {
-        Outcome::Pass(ref reading) => {
-            let written = reading.len();
-            after.lent_bytes[..written].copy_from_slice(reading);
-            Verdict::Pass { written }
+    let told = match (operation, outcome) {
+        (Operation::FirstReading, Outcome::Pass(reading)) => {
+            after.lent_bytes[..reading.len()].copy_from_slice(reading);
+            Ok(one(reading.len()))
         }
-        Outcome::Breach { minute, article } => Verdict::Breach { minute, article },
+        (Operation::FirstReading, Outcome::Breach { .. }) => Err(NO_LAWFUL_READING),
+        (_, Outcome::Pass(_)) => Ok(verdict_values(Verdict::Pass)),
+        (_, &Outcome::Breach { minute, article }) => {
+            Ok(verdict_values(Verdict::Breach { minute, article }))
+        }
     };
-    answer(Ok(verdict_values(verdict)), after)
+    answer(told, after)
 }
 
 /// The records' starts and ends go to a list, and come back whatever the answer.

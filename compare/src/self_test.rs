@@ -5,102 +5,149 @@ use second::card::{changes, Change};
 use second::fast::Judge;
 use second::recording::word;
 use second::runs::runs;
+use second::verdict::{verdict, Verdict};
 use second::Limits;
 
 use compare::article_order;
 use compare::cases::{self, Plan};
 use compare::difference::{compared, smallest, Difference};
 use compare::first_part;
-use compare::operation::{second, verdict_answer, Answer, Input, Operation, Program};
+use compare::operation::{
+    outcome_answer, second, Answer, Input, Operation, Program, NO_LAWFUL_READING,
+};
 use compare::split_rest;
 
 use crate::desk::desk;
 
-/// A wrong program, and how many words and bytes are passed at most where its
-/// smallest difference shows.
+/// A wrong program, the operations that must notice it, each by itself, and how many
+/// words and bytes are passed at most where the smallest difference shows.
 struct Wrong {
     name: &'static str,
     program: Program,
+    noticed_by: &'static [Operation],
     most_words: usize,
     most_bytes: usize,
 }
 
-const WRONG: [Wrong; 13] = [
+const WRONG: [Wrong; 17] = [
     Wrong {
         name: "rule 10 a minute late",
-        program: rule_10_a_minute_late,
+        program: |operation, input| rule_10_a_minute_late(Operation::Verdict, operation, input),
+        noticed_by: &[Operation::Verdict],
+        most_words: 13,
+        most_bytes: 0,
+    },
+    Wrong {
+        name: "rule 10 a minute late",
+        program: |operation, input| {
+            rule_10_a_minute_late(Operation::FirstReading, operation, input)
+        },
+        noticed_by: &[Operation::FirstReading],
         most_words: 4,
         most_bytes: 0,
     },
     Wrong {
         name: "rule 8 a week late",
-        program: rule_8_a_week_late,
+        program: |operation, input| rule_8_a_week_late(Operation::Verdict, operation, input),
+        noticed_by: &[Operation::Verdict],
+        most_words: 60,
+        most_bytes: 0,
+    },
+    Wrong {
+        name: "rule 8 a week late",
+        program: |operation, input| rule_8_a_week_late(Operation::FirstReading, operation, input),
+        noticed_by: &[Operation::FirstReading],
         most_words: 8,
         most_bytes: 0,
     },
     Wrong {
         name: "a byte beyond the text",
         program: a_byte_beyond_the_text,
+        noticed_by: &[Operation::WriteText],
         most_words: 0,
         most_bytes: 0,
     },
     Wrong {
         name: "a refusal told as an answer",
         program: refusal_5_as_an_answer,
+        noticed_by: &[Operation::FixedTest],
         most_words: 0,
         most_bytes: 0,
     },
     Wrong {
         name: "a carrier that is not later",
         program: a_carrier_that_is_not_later,
+        noticed_by: &[Operation::ReadingTest],
         most_words: 2,
         most_bytes: 6,
     },
     Wrong {
         name: "no change at a midnight that changes nothing",
         program: no_change_at_midnight,
+        noticed_by: &[Operation::WriteCard],
         most_words: 1,
         most_bytes: 0,
     },
     Wrong {
         name: "refusal 12 before 11",
         program: refusal_12_before_11,
+        noticed_by: &[Operation::ReadCard],
         most_words: 0,
         most_bytes: 2,
     },
     Wrong {
         name: "equal changes joined",
         program: equal_changes_joined,
+        noticed_by: &[Operation::ReadCard],
         most_words: 0,
         most_bytes: 4,
     },
     Wrong {
         name: "a first part before any driving",
         program: |operation, input| first_part::ANY_REST.program(operation, input),
+        noticed_by: first_part::ANY_REST.judging,
         most_words: 4,
         most_bytes: 0,
     },
     Wrong {
         name: "a first part by driving before the sum was cleared",
         program: |operation, input| first_part::SINCE_MINUTE_0.program(operation, input),
+        noticed_by: first_part::SINCE_MINUTE_0.judging,
         most_words: 7,
         most_bytes: 0,
     },
     Wrong {
         name: "nine hours that count after three",
         program: |operation, input| split_rest::NEVER.program(operation, input),
+        noticed_by: split_rest::NEVER.judging,
         most_words: 10,
         most_bytes: 12,
     },
     Wrong {
         name: "nine hours that three of a day before free",
         program: |operation, input| split_rest::ANY_DAY.program(operation, input),
+        noticed_by: split_rest::ANY_DAY.judging,
         most_words: 12,
         most_bytes: 15,
     },
     Wrong {
         name: "the place of the smallest rule",
         program: |operation, input| article_order::BY_NUMBER.program(operation, input),
+        noticed_by: article_order::BY_NUMBER.judging,
+        most_words: 1,
+        most_bytes: 0,
+    },
+    Wrong {
+        name: "refusal 13 before 4",
+        program: refusal_13_before_4,
+        noticed_by: &[Operation::FirstReading],
+        most_words: 2,
+        most_bytes: 0,
+    },
+    Wrong {
+        name: "a byte written on refusal 13",
+        program: a_byte_written_on_refusal_13,
+        noticed_by: &[Operation::FirstReading],
         most_words: 1,
         most_bytes: 0,
     },
@@ -125,23 +172,28 @@ const PLAN: Plan = Plan {
 
 pub fn run() {
     for wrong in &WRONG {
-        let found = noticed(wrong.program);
-        let (words, bytes) = (found.input.words.len(), found.input.bytes.len());
-        assert!(
-            words <= wrong.most_words && bytes <= wrong.most_bytes,
-            "{}: {words} words and {bytes} bytes are left\n{found}",
-            wrong.name
-        );
-        println!("noticed: {}, by {}", wrong.name, found.shown());
+        for &operation in wrong.noticed_by {
+            let found = noticed(wrong.program, operation);
+            let (words, bytes) = (found.input.words.len(), found.input.bytes.len());
+            assert!(
+                words <= wrong.most_words && bytes <= wrong.most_bytes,
+                "{}: {words} words and {bytes} bytes are left\n{found}",
+                wrong.name
+            );
+            let (by, name) = (found.shown(), wrong.name);
+            println!("noticed in {}: {name}, by {by}", operation.name());
+        }
     }
     println!();
 }
 
-/// The first difference from a wrong program, on the smallest input.
-fn noticed(wrong: Program) -> Box<Difference> {
+/// The first difference of an operation from a wrong program, on the smallest input.
+fn noticed(wrong: Program, operation: Operation) -> Box<Difference> {
     let mut first = None;
     cases::each(&PLAN, &mut |_, attempt| {
-        first = compared(desk, wrong, attempt.operation, &attempt.input).err();
+        if attempt.operation == operation {
+            first = compared(desk, wrong, operation, &attempt.input).err();
+        }
         first.is_none()
     });
     let first = first.expect("a wrong program is noticed");
@@ -149,30 +201,31 @@ fn noticed(wrong: Program) -> Box<Difference> {
 }
 
 /// 8,641 minutes between weekly rests.
-fn rule_10_a_minute_late(operation: Operation, input: &Input) -> Answer {
+fn rule_10_a_minute_late(wrong: Operation, operation: Operation, input: &Input) -> Answer {
     let limits = Limits {
         between_weekly_rests: 8_641,
         ..Limits::document()
     };
-    judged_by(&limits, operation, input)
+    judged_by(&limits, wrong, operation, input)
 }
 
 /// A debt due a week late.
-fn rule_8_a_week_late(operation: Operation, input: &Input) -> Answer {
+fn rule_8_a_week_late(wrong: Operation, operation: Operation, input: &Input) -> Answer {
     let limits = Limits {
         due_weeks: 5,
         ..Limits::document()
     };
-    judged_by(&limits, operation, input)
+    judged_by(&limits, wrong, operation, input)
 }
 
-/// The second program with other numbers in the verdict.
-fn judged_by(limits: &Limits, operation: Operation, input: &Input) -> Answer {
+/// The second program with other numbers in the verdict or in the first reading alone.
+fn judged_by(limits: &Limits, wrong: Operation, operation: Operation, input: &Input) -> Answer {
     let answer = second(operation, input);
-    if operation != Operation::Verdict || answer.told.is_err() {
+    if operation != wrong || !answer.is_judged() {
         return answer;
     }
-    verdict_answer(&Judge::new(&input.words, limits).outcome(), input)
+    let outcome = Judge::new(&input.words, limits).outcome();
+    outcome_answer(operation, &outcome, input)
 }
 
 /// The byte after the text set to 0.
@@ -248,6 +301,27 @@ fn equal_changes_joined(operation: Operation, input: &Input) -> Answer {
             .collect();
         values[0] = joined.len() as u64;
         answer.lent_words = [&joined, &input.lent_words[joined.len()..]].concat();
+    }
+    answer
+}
+
+/// A breach told so also where the buffer is too short.
+fn refusal_13_before_4(operation: Operation, input: &Input) -> Answer {
+    let mut answer = second(operation, input);
+    let too_short = operation == Operation::FirstReading && answer.told == Err(4);
+    if too_short && verdict(&input.words) != Ok(Verdict::Pass) {
+        answer.told = Err(NO_LAWFUL_READING);
+    }
+    answer
+}
+
+/// The first byte of the buffer set to 0, though there is no lawful reading.
+fn a_byte_written_on_refusal_13(operation: Operation, input: &Input) -> Answer {
+    let mut answer = second(operation, input);
+    if answer.told == Err(NO_LAWFUL_READING) {
+        if let Some(byte) = answer.lent_bytes.first_mut() {
+            *byte = 0;
+        }
     }
     answer
 }

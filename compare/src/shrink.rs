@@ -233,7 +233,7 @@ fn fitted(operation: Operation, input: &Input, words: Vec<u32>) -> Vec<Input> {
             resize(&mut fitted.lent_words, rests);
             resize(&mut fitted.lent_ends, rests);
         }
-        Operation::Verdict => resize(&mut fitted.lent_bytes, 3 * rests),
+        Operation::FirstReading => resize(&mut fitted.lent_bytes, 3 * rests),
         Operation::WriteText => resize(&mut fitted.lent_bytes, new.text - old.text),
         Operation::WriteCard => resize(&mut fitted.lent_bytes, new.record - old.record),
         Operation::FixedTest | Operation::ArticleTest => {

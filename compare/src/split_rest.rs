@@ -8,10 +8,14 @@ use second::runs::{Course, LongRest};
 use second::Limits;
 
 use crate::mistake::Mistake;
-use crate::operation::{answer, one, verdict_answer, Answer, Input, Operation};
+use crate::operation::{answer, one, outcome_answer, Answer, Input, Operation};
 
 /// The operations that rely on rule 9.
-const JUDGING: [Operation; 2] = [Operation::ReadingTest, Operation::Verdict];
+const JUDGING: [Operation; 3] = [
+    Operation::ReadingTest,
+    Operation::Verdict,
+    Operation::FirstReading,
+];
 
 /// Where a rest of 180 to 539 minutes lies before a long rest.
 #[derive(Clone, Copy)]
@@ -74,8 +78,9 @@ fn wrong_course<'a>(frees: Frees, words: &[u32], limits: &'a Limits) -> Course<'
 fn wrong_answer(frees: Frees, operation: Operation, input: &Input) -> Answer {
     let limits = Limits::document();
     let course = wrong_course(frees, &input.words, &limits);
-    if operation == Operation::Verdict {
-        return verdict_answer(&Judge::of(course).outcome(), input);
+    if let Operation::Verdict | Operation::FirstReading = operation {
+        let outcome = Judge::of(course).outcome();
+        return outcome_answer(operation, &outcome, input);
     }
     let rule = wrong_rule(&course.long_rests, &input.words, &entries(&input.bytes));
     answer(Ok(one(rule)), input.clone())

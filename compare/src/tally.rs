@@ -2,11 +2,12 @@
 
 use std::collections::BTreeSet;
 
-use crate::inputs::Try;
-use crate::mistake::{Mistake, REQUESTS};
-use crate::operation::{Answer, Operation};
+use crate::inputs::{Room, Try};
+use crate::mistake::REQUESTS;
+use crate::operation::{Answer, Operation, BREACH};
 
-/// The inputs in each row of a mistake that an operation is compared on at least.
+/// The inputs in each row of a mistake that an operation is compared on at least, and
+/// the first readings with each buffer.
 const EACH_ROW: usize = 500;
 
 /// A number for each operation.
@@ -31,15 +32,13 @@ impl Table {
         at.map_or(0, |(_, counts)| counts[operation as usize])
     }
 
-    /// The rows of a mistake that have too few inputs of an operation.
-    fn too_few(&self, mistake: &Mistake) -> Vec<String> {
+    /// These rows, where they have too few inputs of an operation.
+    fn too_few(&self, operation: Operation, rows: &[&str]) -> Vec<String> {
         let mut too_few = Vec::new();
-        for &operation in mistake.judging {
-            for row in mistake.rows() {
-                let count = self.counted(row, operation);
-                if count < EACH_ROW {
-                    too_few.push(format!("{}: {row} {count} times", operation.name()));
-                }
+        for row in rows {
+            let count = self.counted(row, operation);
+            if count < EACH_ROW {
+                too_few.push(format!("{}: {row} {count} times", operation.name()));
             }
         }
         too_few
@@ -120,8 +119,8 @@ impl Tally {
         println!();
     }
 
-    /// The operations with fewer inputs than asked for, also in a row of a mistake,
-    /// and the answers that were never met.
+    /// The operations with fewer inputs than asked for, also in a row of a mistake or
+    /// with a buffer for a reading, and the answers that were never met.
     pub fn missing(&self, at_least: usize) -> Vec<String> {
         let mut missing = Vec::new();
         for (operation, sum) in Operation::ALL.into_iter().zip(self.kinds.sums()) {
@@ -136,14 +135,20 @@ impl Tally {
         }
         for (table, request) in self.mistakes.iter().zip(REQUESTS) {
             for mistake in request.mistakes {
-                missing.extend(table.too_few(mistake));
+                for &operation in mistake.judging {
+                    missing.extend(table.too_few(operation, &mistake.rows()));
+                }
             }
+        }
+        for room in Room::ALL {
+            let rows = [room.name(), room.name_in_a_breach()];
+            missing.extend(self.variants.too_few(Operation::FirstReading, &rows));
         }
         missing
     }
 }
 
-/// What kind of answer it is: a refusal, a rule, a place, a pass or an article.
+/// What kind of answer it is: a refusal, a rule, a place, an article or a pass.
 fn class(operation: Operation, answer: &Answer) -> String {
     match (&answer.told, operation) {
         (Err(number), _) => format!("refusal {number}"),
@@ -151,7 +156,10 @@ fn class(operation: Operation, answer: &Answer) -> String {
             format!("rule {}", values[0])
         }
         (Ok(values), Operation::ArticleTest) => format!("place {}", values[0]),
-        (Ok(values), Operation::Verdict) if values.len() == 3 => format!("article {}", values[2]),
+        (Ok(values), Operation::Verdict) => match values[..] {
+            [BREACH, _, article] => format!("article {article}"),
+            _ => "pass".into(),
+        },
         (Ok(_), _) => "answer".into(),
     }
 }
@@ -166,7 +174,7 @@ fn classes(operation: Operation) -> Vec<String> {
         Operation::ReadingTest => (0..=11).map(|rule| format!("rule {rule}")).collect(),
         Operation::Verdict => (1..=6)
             .map(|article| format!("article {article}"))
-            .chain(["answer".into()])
+            .chain(["pass".into()])
             .collect(),
         _ => vec!["answer".into()],
     };

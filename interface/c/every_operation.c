@@ -41,14 +41,21 @@ static void print_both_tests(const uint32_t *words, size_t count, uint32_t m)
 
 static void print_verdict(const uint32_t *words, size_t count)
 {
-    uint8_t reading[8] = {9, 9, 9, 9, 9, 9, 9, 9};
-    uint64_t answer = desk_verdict(words, count, reading, sizeof reading);
+    uint64_t answer = desk_verdict(words, count);
     if (DESK_PASSED(answer))
-        printf("verdict: pass, %" PRIu64 " bytes, buffer", DESK_VALUE(answer));
+        printf("verdict: pass, %" PRIu64 "\n", DESK_VALUE(answer));
     else if (DESK_BREACHED(answer))
-        printf("verdict: breach at %" PRIu32 ", article %" PRIu32 ", buffer", DESK_MINUTE(answer), DESK_ARTICLE(answer));
+        printf("verdict: breach at %" PRIu32 ", article %" PRIu32 "\n", DESK_MINUTE(answer), DESK_ARTICLE(answer));
     else
-        printf("verdict: refused %" PRIu64 ", buffer", answer);
+        printf("verdict: refused %" PRIu64 "\n", answer);
+}
+
+/* The first lawful reading in so many bytes of a buffer, and the whole buffer. */
+static void print_first_reading(const uint32_t *words, size_t count, size_t lent)
+{
+    uint8_t reading[8] = {9, 9, 9, 9, 9, 9, 9, 9};
+    print_value("first reading", desk_first_reading(words, count, reading, lent));
+    printf(" ");
     print_bytes(reading, sizeof reading);
 }
 
@@ -56,6 +63,7 @@ int main(void)
 {
     const uint32_t words[] = {WORD(240, DRIVING), WORD(660, REST), WORD(60, WORK), WORD(2700, REST), WORD(1, WORK)};
     const uint32_t long_day[] = {WORD(901, WORK)};
+    const uint32_t long_day_after_rest[] = {WORD(540, REST), WORD(901, WORK)};
     /* These break 6.1, 7 and 8.2 at minute 901, and without their work 6.1 and 7 at 691; the late drive 7 and 8.2 at 901. */
     const uint32_t drives[] = {WORD(210, WORK),    WORD(165, DRIVING), WORD(45, REST),
                                WORD(165, DRIVING), WORD(45, REST),     WORD(271, DRIVING)};
@@ -127,7 +135,18 @@ int main(void)
     print_bytes(record, sizeof record);
 
     print_verdict(words, 5);
+    print_verdict(words, 0);
     print_verdict(long_day, 1);
     print_verdict(no_minutes, 1);
+    print_verdict(too_long, 2);
+
+    print_first_reading(words, 5, 8);
+    print_first_reading(words, 0, 0);
+    print_first_reading(no_minutes, 1, 8);
+    print_first_reading(too_long, 2, 8);
+    print_first_reading(words, 5, 5);
+    print_first_reading(long_day_after_rest, 2, 2);
+    print_first_reading(long_day_after_rest, 2, 3);
+    print_first_reading(long_day_after_rest, 2, 8);
     return 0;
 }

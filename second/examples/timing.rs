@@ -1,11 +1,11 @@
-//! The time a verdict takes, on each kind of recording.
+//! The time a verdict takes, alone and with its reading, on each kind of recording.
 
 use std::time::Instant;
 
 use second::dice::Dice;
 use second::fast::Judge;
 use second::grow;
-use second::verdict::Outcome;
+use second::verdict::Verdict;
 use second::Limits;
 
 fn main() {
@@ -38,25 +38,33 @@ fn main() {
 /// Prints the median and the most of time and steps.
 fn report(name: &str, recordings: impl Iterator<Item = Vec<u32>>) {
     let limits = Limits::document();
+    let mut alone = Vec::new();
     let mut times = Vec::new();
     let mut steps = Vec::new();
     let mut passes = 0;
     let mut rests = 0;
     for words in recordings {
         let before = Instant::now();
+        let verdict = Judge::new(&words, &limits).verdict();
+        alone.push(before.elapsed().as_secs_f64() * 1e6);
+        let before = Instant::now();
         let mut judge = Judge::new(&words, &limits);
-        let outcome = judge.outcome();
+        judge.outcome();
         times.push(before.elapsed().as_secs_f64() * 1e6);
         steps.push(judge.steps);
-        passes += usize::from(matches!(outcome, Outcome::Pass(_)));
+        passes += usize::from(verdict == Verdict::Pass);
         rests = rests.max(judge.long_rests());
     }
+    alone.sort_by(f64::total_cmp);
     times.sort_by(f64::total_cmp);
     steps.sort();
     let count = times.len();
     println!(
         "{name}: {count} recordings ({passes} pass, at most {rests} long rests): \
-         microseconds median {:.0}, most {:.0}; steps median {}, most {}",
+         microseconds median {:.0}, most {:.0}; with the reading median {:.0}, most {:.0}; \
+         steps median {}, most {}",
+        alone[count / 2],
+        alone[count - 1],
         times[count / 2],
         times[count - 1],
         steps[count / 2],

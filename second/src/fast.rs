@@ -4,7 +4,7 @@ use crate::limits::Limits;
 use crate::reading::bytes;
 use crate::runs::Course;
 use crate::search::Search;
-use crate::verdict::Outcome;
+use crate::verdict::{Outcome, Verdict};
 
 /// Questions about a recording and its stretches.
 pub struct Judge<'a> {
@@ -44,26 +44,38 @@ impl<'a> Judge<'a> {
         reading.map(|entries| bytes(&entries))
     }
 
-    /// The verdict. A breach of the fixed rules stands from some minute on, so
-    /// readings are asked for only before it.
+    /// The verdict alone: the first lawful reading is not looked for.
+    pub fn verdict(&mut self) -> Verdict {
+        if self.is_lawful(self.course.total) {
+            return Verdict::Pass;
+        }
+        let (minute, article) = self.breach();
+        Verdict::Breach { minute, article }
+    }
+
+    /// The verdict, a pass with its first lawful reading.
     pub fn outcome(&mut self) -> Outcome {
+        if let Some(reading) = self.first_reading(self.course.total) {
+            return Outcome::Pass(reading);
+        }
+        let (minute, article) = self.breach();
+        Outcome::Breach { minute, article }
+    }
+
+    /// Minute and article, where there is no lawful reading. A breach of the fixed
+    /// rules stands from some minute on, so readings are asked for only before it.
+    fn breach(&mut self) -> (i64, u8) {
         match self.course.first_fixed_breach() {
-            None => match self.first_reading(self.course.total) {
-                Some(reading) => Outcome::Pass(reading),
-                None => self.reading_breach(self.course.total),
-            },
-            Some(breach) if self.has_reading(breach.minute - 1) => Outcome::Breach {
-                minute: breach.minute,
-                article: breach.rule,
-            },
-            Some(breach) => self.reading_breach(breach.minute - 1),
+            None => (self.reading_breach(self.course.total), 6),
+            Some(fixed) if self.has_reading(fixed.minute - 1) => (fixed.minute, fixed.rule),
+            Some(fixed) => (self.reading_breach(fixed.minute - 1), 6),
         }
     }
 
     /// The least m without a lawful reading, where the stretch of `unlawful`
     /// has none and keeps the fixed rules. Lawfulness is lost once and for all
     /// as m grows, so m is found by halving.
-    fn reading_breach(&mut self, mut unlawful: i64) -> Outcome {
+    fn reading_breach(&mut self, mut unlawful: i64) -> i64 {
         let mut lawful = 0;
         while unlawful - lawful > 1 {
             let middle = (lawful + unlawful) / 2;
@@ -73,10 +85,7 @@ impl<'a> Judge<'a> {
                 unlawful = middle;
             }
         }
-        Outcome::Breach {
-            minute: unlawful,
-            article: 6,
-        }
+        unlawful
     }
 
     /// Whether some reading of the stretch of m keeps rules 6 to 11, where that
@@ -124,7 +133,7 @@ impl<'a> Judge<'a> {
     }
 }
 
-/// The verdict on words that weighing does not turn away.
+/// The verdict with its reading, on words that weighing does not turn away.
 pub fn outcome(words: &[u32], limits: &Limits) -> Outcome {
     Judge::new(words, limits).outcome()
 }

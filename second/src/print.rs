@@ -1,13 +1,12 @@
 //! What the desk program prints.
 
 use crate::card;
-use crate::fast;
 use crate::limits::Limits;
 use crate::reading::{entries, Entry};
 use crate::refusal::Refusal;
 use crate::runs::Course;
 use crate::text;
-use crate::verdict::Outcome;
+use crate::verdict::{first_reading, verdict, Verdict};
 
 /// "standard input, at most 65,536 bytes; more prints as refusal 9"
 pub const MOST_BYTES: usize = 65_536;
@@ -27,8 +26,8 @@ fn page(input: &[u8], read: impl Fn(&[u8]) -> Result<Vec<u32>, Refusal>) -> Stri
     if input.len() > MOST_BYTES {
         return refused(Refusal::TooFewWords);
     }
-    match read(input) {
-        Ok(words) => judged(&words),
+    match read(input).and_then(|words| judged(&words)) {
+        Ok(page) => page,
         Err(refusal) => refused(refusal),
     }
 }
@@ -38,21 +37,26 @@ fn refused(refusal: Refusal) -> String {
     format!("(verdict\n(refused {})\n)\n", refusal.number())
 }
 
-fn judged(words: &[u32]) -> String {
+/// Request 5: "Callers, the desk program included, use the two." "A breach has,
+/// after minutes, `(breach m a)` in place of judged and reading."
+fn judged(words: &[u32]) -> Result<String, Refusal> {
+    let verdict = verdict(words)?;
     let limits = Limits::document();
     let course = Course::new(words, &limits);
     let total = course.total;
-    match fast::outcome(words, &limits) {
-        Outcome::Pass(reading) => {
+    let found = match verdict {
+        Verdict::Pass => {
+            let mut reading = vec![0; 3 * course.long_rests.len()];
+            first_reading(words, &mut reading)?;
             let judged_end = course.judged_end(total);
             let rests = rest_lines(&course, &entries(&reading));
-            format!("(verdict\n(minutes {total})\n(judged {judged_end})\n(reading\n{rests})\n)\n")
+            format!("(judged {judged_end})\n(reading\n{rests})\n")
         }
-        Outcome::Breach { minute, article } => {
-            let article = article_name(article);
-            format!("(verdict\n(minutes {total})\n(breach {minute} {article})\n)\n")
+        Verdict::Breach { minute, article } => {
+            format!("(breach {minute} {})\n", article_name(article))
         }
-    }
+    };
+    Ok(format!("(verdict\n(minutes {total})\n{found})\n"))
 }
 
 /// "These are N, S and each rest's start and end; a weekly rest prints

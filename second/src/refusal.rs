@@ -29,6 +29,8 @@ pub enum Refusal {
     DayForm = 11,
     /// "12 for unknown activity anywhere"
     UnknownActivity = 12,
+    /// "13 when the verdict is a breach"
+    NoLawfulReading = 13,
 }
 
 impl Refusal {

@@ -14,7 +14,7 @@ use second::recording::{minutes, Recording};
 use second::runs::Course;
 use second::small;
 use second::Limits;
-use shorthand::{assert_breach, times, words};
+use shorthand::{assert_breach, driving_days, times, words};
 
 const REST: u32 = 0;
 const DRIVING: u32 = 3;
@@ -328,31 +328,6 @@ fn driven_more(dice: &mut Dice, words: &[u32]) -> Vec<u32> {
         _ => *word,
     };
     words.iter().map(changed).collect()
-}
-
-/// Days of driving with breaks, some with a weekly rest after them; now and then a
-/// run longer or shorter.
-fn driving_days(dice: &mut Dice) -> Vec<u32> {
-    let days = [
-        "d270 r45 d270 r660",
-        "d270 r45 d270 r45 d60 r660",
-        "d240 r45 d240 r660",
-        "w120 d200 r660",
-        "w600 d120 r660",
-        "d270 r45 d270 r3000",
-    ];
-    let taste: Vec<u32> = (0..6).map(|_| dice.between(1, 6)).collect();
-    let seldom = dice.between(10, 400);
-    let mut recording = Vec::new();
-    for _ in 0..dice.between(6, 30) {
-        for mut word in words(days[dice.weighted(&taste)]) {
-            if dice.one_in(seldom) {
-                word = word % 4 + 4 * dice.between(word / 8, word / 4 + 100);
-            }
-            recording.push(word);
-        }
-    }
-    recording
 }
 
 /// Ordinary and grown recordings, as they are and with more driving; days with much

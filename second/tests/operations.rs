@@ -4,7 +4,7 @@ mod shorthand;
 
 use second::entry::{entry, entry_refusal};
 use second::reading;
-use second::verdict::{verdict, Verdict};
+use second::verdict::{first_reading, verdict, Verdict};
 use second::Refusal;
 use shorthand::words;
 
@@ -14,44 +14,51 @@ const NO_MINUTES: u32 = 3;
 fn verdict_refusals_in_order() {
     let recording = words("w10 r600 w10 r600 w1");
     let mut short = [7; 5];
+    assert_eq!(verdict(&recording), Ok(Verdict::Pass));
     assert_eq!(
-        verdict(&recording, &mut short),
+        first_reading(&recording, &mut short),
         Err(Refusal::ReadingBufferTooShort)
     );
     let at_fault = [&recording[..], &[NO_MINUTES]].concat();
-    assert_eq!(verdict(&at_fault, &mut short), Err(Refusal::NoMinutes));
     let too_long = [&recording[..], &[u32::MAX, NO_MINUTES]].concat();
-    assert_eq!(verdict(&too_long, &mut short), Err(Refusal::TotalPassed));
+    for (recording, refusal) in [
+        (at_fault, Refusal::NoMinutes),
+        (too_long, Refusal::TotalPassed),
+    ] {
+        assert_eq!(verdict(&recording), Err(refusal));
+        assert_eq!(first_reading(&recording, &mut short), Err(refusal));
+    }
     assert_eq!(short, [7; 5]);
 }
 
 #[test]
-fn a_pass_writes_its_reading_alone() {
+fn a_reading_is_written_alone() {
     let recording = words("w10 r600 w10 r600 w1");
     let mut buffer = [7; 8];
-    assert_eq!(
-        verdict(&recording, &mut buffer),
-        Ok(Verdict::Pass { written: 6 })
-    );
+    assert_eq!(first_reading(&recording, &mut buffer), Ok(6));
     assert_eq!(buffer, [0, 0, 0, 0, 0, 0, 7, 7]);
-    assert_eq!(verdict(&[], &mut []), Ok(Verdict::Pass { written: 0 }));
+    assert_eq!(first_reading(&[], &mut []), Ok(0));
 }
 
 #[test]
 fn a_breach_writes_nothing() {
     let recording = words("w10 r600 w901");
-    let mut buffer = [7; 3];
     let breach = Verdict::Breach {
         minute: 1_511,
         article: 5,
     };
-    assert_eq!(verdict(&recording, &mut buffer), Ok(breach));
-    assert_eq!(buffer, [7; 3]);
-    // The refusal comes first, though the recording is a breach.
+    assert_eq!(verdict(&recording), Ok(breach));
+    let mut buffer = [7; 3];
     assert_eq!(
-        verdict(&recording, &mut buffer[..2]),
+        first_reading(&recording, &mut buffer),
+        Err(Refusal::NoLawfulReading)
+    );
+    // A short buffer is seen first, though the recording is a breach.
+    assert_eq!(
+        first_reading(&recording, &mut buffer[..2]),
         Err(Refusal::ReadingBufferTooShort)
     );
+    assert_eq!(buffer, [7; 3]);
 }
 
 #[test]

@@ -6,7 +6,7 @@ mod shorthand;
 
 use second::fixed;
 use second::reading::{self, bytes, entries, Entry};
-use second::verdict::{verdict, Verdict};
+use second::verdict::{first_reading, verdict, Verdict};
 use shorthand::{attempt, days, general_figure, tight_days, tight_weeks, times, words};
 
 const STORED: &str = include_str!("../../crates/cases_verdict/stdout");
@@ -21,9 +21,10 @@ impl Lines {
     }
 
     fn case(&mut self, name: &str, shorthand: &str) {
+        let words = words(shorthand);
         let mut reading = [9; 669];
-        let (answer, written) = answered(&words(shorthand), &mut reading);
-        self.push(name, &(answer + &shown(&reading[..written])));
+        let written = first_reading(&words, &mut reading).unwrap_or(0);
+        self.push(name, &(told(&words) + &shown(&reading[..written])));
     }
 
     fn runs(&mut self, shorthand: &str) {
@@ -38,7 +39,7 @@ impl Lines {
     /// The verdict, and the first broken article of a stretch.
     fn first(&mut self, name: &str, shorthand: &str, m: usize) {
         let in_order = ["none", "6.1", "6.2", "6.3", "7", "8.2"];
-        let (answer, _) = answered(&words(shorthand), &mut [9; 669]);
+        let answer = told(&words(shorthand));
         let first = match fixed::article_test(&words(shorthand), m) {
             Ok(place) => format!("first {}", in_order[usize::from(place)]),
             Err(refusal) => format!("refused {}", refusal.number()),
@@ -55,24 +56,30 @@ impl Lines {
         self.push(name, &format!("rule {rule}"));
     }
 
+    /// The verdict, and what the first reading answers with so many bytes lent.
     fn lent(&mut self, shorthand: &str, lent: usize) {
+        let words = words(shorthand);
         let mut reading = [9; 9];
-        let (answer, _) = answered(&words(shorthand), &mut reading[..lent]);
+        let answer = match first_reading(&words, &mut reading[..lent]) {
+            Ok(written) => format!("{written} bytes"),
+            Err(refusal) => format!("refused {}", refusal.number()),
+        };
         let name = format!("{shorthand} into {lent}");
-        self.push(&name, &format!("{answer},{}", shown(&reading)));
+        let verdict = told(&words);
+        self.push(&name, &format!("{verdict}; {answer},{}", shown(&reading)));
     }
 }
 
-/// The verdict, and the count of bytes that a pass writes.
-fn answered(words: &[u32], reading: &mut [u8]) -> (String, usize) {
+/// What the verdict answers.
+fn told(words: &[u32]) -> String {
     let articles = ["7", "6.1", "6.2", "6.3", "8.2", "8"];
-    match verdict(words, reading) {
-        Ok(Verdict::Pass { written }) => ("pass".into(), written),
+    match verdict(words) {
+        Ok(Verdict::Pass) => "pass".into(),
         Ok(Verdict::Breach { minute, article }) => {
             let article = articles[usize::from(article) - 1];
-            (format!("breach {minute}, {article}"), 0)
+            format!("breach {minute}, {article}")
         }
-        Err(refusal) => (format!("refused {}", refusal.number()), 0),
+        Err(refusal) => format!("refused {}", refusal.number()),
     }
 }
 
@@ -271,6 +278,8 @@ fn refusals(lines: &mut Lines) {
     lines.lent("w10 r600 w10 r600 w1", 9);
     lines.lent("w10 r600 w901", 2);
     lines.lent("w10 r600 w901", 3);
+    lines.lent("w10 r600 w901", 9);
+    lines.lent("r15 d270 r30 d1", 0);
     lines.lent("w10 r600 w0", 2);
     lines.lent("w900", 0);
 }

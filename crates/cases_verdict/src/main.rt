@@ -1,8 +1,9 @@
 // The cases of document 01, "On the edge", the figures of source document 000, and the edges of weeks, debts and buffers, each
-// with what the verdict answers. A pass shows its reading: d is a daily rest (0/0/0), any other entry is kind/week/carrier.
+// with what the verdict answers. A pass shows its first reading: d is a daily rest (0/0/0), any other entry is kind/week/carrier.
 use libc::STDOUT_FILENO;
+use recording::Filling;
 use rules_fixed::Tested;
-use verdict::Outcome;
+use verdict::Judgement;
 
 // The word of a letter of the shorthand, with no minutes yet; 4 for another byte.
 fn activity(byte: u8) -> u32 {
@@ -175,16 +176,16 @@ fn show_article(article: u32) {
     ;
 }
 
-fn show_answer(answer: Outcome) {
-    match answer {
-        Outcome::Refused(n) => {
+fn show_verdict(judgement: Judgement) {
+    match judgement {
+        Judgement::Refused(n) => {
             io::write_all(STDOUT_FILENO, b": refused ");
             show_number(n);
         }
-        Outcome::Passed(_) => {
+        Judgement::Passed => {
             io::write_all(STDOUT_FILENO, b": pass");
         }
-        Outcome::Breached(breach) => {
+        Judgement::Breached(breach) => {
             io::write_all(STDOUT_FILENO, b": breach ");
             show_number(breach.minute);
             io::write_all(STDOUT_FILENO, b", ");
@@ -193,23 +194,22 @@ fn show_answer(answer: Outcome) {
     }
 }
 
-// What was written into a reading.
-fn show_written(answer: Outcome, reading: &[u8]) {
-    match answer {
-        Outcome::Refused(_) => (),
-        Outcome::Passed(n) => {
-            show_entries(first_bytes(reading, n as usize));
+// The first reading, where there is one.
+fn show_reading(words: &[u32]) {
+    let mut reading = [9u8; 669];
+    match verdict::first_reading(words, &mut reading) {
+        Filling::Refused(_) => (),
+        Filling::Written(n) => {
+            show_entries(first_bytes(&reading, n as usize));
         }
-        Outcome::Breached(_) => (),
     }
 }
 
 fn show(name: &[u8], words: &[u32], count: usize) {
-    let mut reading = [9u8; 669];
-    let answer = verdict::verdict(first_words(words, count), &mut reading);
+    let recording = first_words(words, count);
     io::write_all(STDOUT_FILENO, name);
-    show_answer(answer);
-    show_written(answer, &reading);
+    show_verdict(verdict::verdict(recording));
+    show_reading(recording);
     io::write_all(STDOUT_FILENO, b"\n");
 }
 
@@ -290,11 +290,9 @@ fn show_place(tested: Tested) {
 
 // The verdict, and the first broken article of a stretch.
 fn show_first(name: &[u8], words: &[u32], count: usize, m: u32) {
-    let mut reading = [9u8; 669];
     let recording = first_words(words, count);
-    let answer = verdict::verdict(recording, &mut reading);
     io::write_all(STDOUT_FILENO, name);
-    show_answer(answer);
+    show_verdict(verdict::verdict(recording));
     show_place(rules_fixed::article_test(recording, m));
     io::write_all(STDOUT_FILENO, b"\n");
 }
@@ -617,23 +615,40 @@ fn show_nine(bytes: &[u8; 9]) {
     io::write_all(STDOUT_FILENO, b"\n");
 }
 
-// Nine bytes, of which so many are lent; all are shown after the answer.
+// What the first reading answers.
+fn show_filling(answer: Filling) {
+    match answer {
+        Filling::Refused(n) => {
+            io::write_all(STDOUT_FILENO, b"; refused ");
+            show_number(n);
+        }
+        Filling::Written(n) => {
+            io::write_all(STDOUT_FILENO, b"; ");
+            show_number(n);
+            io::write_all(STDOUT_FILENO, b" bytes");
+        }
+    }
+}
+
+// Nine bytes, of which so many are lent for the first reading; all are shown after its answer.
 fn show_lent(shorthand: &[u8], lent: usize) {
     let mut words = [0u32; 16];
     let count = runs(&mut words, 0, shorthand);
     let mut bytes = [9u8; 9];
     if lent <= 9 {
-        let answer = verdict::verdict(first_words(&words, count), &mut bytes[0..lent]);
+        let recording = first_words(&words, count);
+        let answer = verdict::first_reading(recording, &mut bytes[0..lent]);
         io::write_all(STDOUT_FILENO, shorthand);
         io::write_all(STDOUT_FILENO, b" into ");
         io::print_decimal(STDOUT_FILENO, lent as u64);
-        show_answer(answer);
+        show_verdict(verdict::verdict(recording));
+        show_filling(answer);
         io::write_all(STDOUT_FILENO, b",");
         show_nine(&bytes);
     }
 }
 
-// What the verdict turns away, in this order, and what it leaves.
+// What the verdict and the first reading turn away, each in its order, and what is left in the buffer.
 fn show_refusals() {
     show_runs(b"w5 r0");
     show_runs(b"r0 w120961");
@@ -644,6 +659,8 @@ fn show_refusals() {
     show_lent(b"w10 r600 w10 r600 w1", 9);
     show_lent(b"w10 r600 w901", 2);
     show_lent(b"w10 r600 w901", 3);
+    show_lent(b"w10 r600 w901", 9);
+    show_lent(b"r15 d270 r30 d1", 0);
     show_lent(b"w10 r600 w0", 2);
     show_lent(b"w900", 0);
 }

@@ -17,11 +17,12 @@ use Rattle.recording.specs.declared.Filling.the-variants as filling
 use Rattle.recording.specs.declared.Measure.{Measure}
 use Rattle.recording.proofs.LongRests.{few-rests}
 use Rattle.recording.proofs.Listing.{measured-is}
-use Rattle.rules.specs.Order.{Bytes}
 use Rattle.rules.specs.Reading.{entryBytes, readingSize}
 use Rattle.rules.specs.Verdict.{prefix, firstLawful, breachMinute, article, Verdict, pass, breach, verdictBy, verdict}
-use Rattle.rules.specs.Operations.{verdictGiven, Outcome, passed, breached, outcomeOf, outcome, readingAfter}
-use Rattle.rules.proofs.Breach.{first-sound}
+use Rattle.rules.specs.Operations.{Finding, passed, breached, verdictGiven, firstReadingGiven}
+use Rattle.rules.proofs.EntryLaws.{first-size}
+use Rattle.rules.proofs.VerdictAndReading.{VerdictGiven, found-refused, found-pass, found-breach, verdict-given, breach-given}
+use Rattle.rules.proofs.VerdictAndReading.{ReadingGiven, turned-away, short, breaching, reading, reading-given}
 use Rattle.text.specs.Passes.{Put}
 use Rattle.text_lines.specs.Reading.{textRead}
 use Rattle.recording.proofs.Slices.{put-in-front}
@@ -36,31 +37,13 @@ abbrev pub blank : ℕ → List ℕ
 blank n = replicate n 0
 
 -- ---- the verdict
-bytes-length : (n : ℕ) (r : List ℕ) → Bytes n r → length r ≡ n
-bytes-length zero [] b = refl
-bytes-length zero (x ∷ r) b = absurd b
-bytes-length (suc n) [] b = absurd b
-bytes-length (suc n) (x ∷ r) b = ap suc (bytes-length n r (b .1))
-
 pass-length : (ms r : List ℕ) → verdict ms ≡ pass r → length r ≡ readingSize ms
 unfolding verdict
 pass-length ms r e = at (firstLawful ms) refl e
   where
     at : (o : Option (List ℕ)) → firstLawful ms ≡ o → verdictBy o (breachMinute ms) (article (prefix (breachMinute ms) ms)) ≡ pass r → length r ≡ readingSize ms
     at none q e = let z : _≡_ {A = ℕ} 0 1 = cc in absurd (omega arith)
-    at (some f) q e = let z : f ≡ r = cc in ap length (sym z) ∙ bytes-length (readingSize ms) f (first-sound ms q .bytes)
-
--- refusal 4 does not occur: the reading fits
-judged-is : (ws : List ℕ) (room : ℕ) {k : Measure} → entryBytes * longRestsAtMost ≤ room → measured ws ≡ answered k → verdictGiven ws room ≡ answered (verdict (minutesOf ws))
-unfolding verdictGiven
-judged-is ws room {k} h q =
-    let m = measured-is ws q in
-    let c : k .count ≡ length (longRests (minutesOf ws)) = ap (λ (x : Measure). x .count) (m .is) in
-    rw (q, le-ltb room (entryBytes * k .count) (omega (arith, few-rests (minutesOf ws) (m .within)))) refl
-
-judged-refused : (ws : List ℕ) (room : ℕ) {n : ℕ} → measured ws ≡ refused n → verdictGiven ws room ≡ refused n
-unfolding verdictGiven
-judged-refused ws room q = rw q refl
+    at (some f) q e = let z : f ≡ r = cc in ap length (sym z) ∙ first-size ms f q
 
 pub text-is : (ws : List ℕ) {k : Measure} {v : Verdict} → measured ws ≡ answered k → verdict (minutesOf ws) ≡ v → verdictText ws ≡ pageOf (minutesOf ws) v
 unfolding verdictText answerText
@@ -80,26 +63,17 @@ pub record Breaching (ws : List ℕ) (m a : ℕ) : Type 0 where
   pub within : length (minutesOf ws) ≤ totalAtMost
   pub text : verdictText ws ≡ pageOf (minutesOf ws) (breach m a)
 
-module _ (ws : List ℕ) (size : ℕ) (fits : entryBytes * longRestsAtMost ≤ size) where
-  room : entryBytes * longRestsAtMost ≤ length (blank size)
-  room = omega (arith, length-replicate size zero)
-
-  pub refused-text : {n : ℕ} → refused n ≡ outcome (verdictGiven ws (length (blank size))) → verdictText ws ≡ refusalPage n
-  refused-text {n} e = at (measured ws) refl
-    where
-      at : (a : Answer Measure) → measured ws ≡ a → verdictText ws ≡ refusalPage n
-      at (refused m) q = let z : _≡_ {A = Answer Outcome} (refused n) (refused m) = e ∙ ap outcome (judged-refused ws (length (blank size)) q) in let y : m ≡ n = cc in text-refused ws q
-          ∙ ap refusalPage y
-      at (answered k) q = let z : _≡_ {A = Answer Outcome} (refused n) (answered (outcomeOf (verdict (minutesOf ws)))) = e ∙ ap outcome (judged-is ws (length
-          (blank size)) room q) in let y : _≡_ {A = ℕ} 0 1 = cc in absurd (omega arith)
-
-  pub passed-text : {n : ℕ} {new : List ℕ} → answered (passed n) ≡ outcome (verdictGiven ws (length (blank size))) → new ≡ readingAfter (verdictGiven ws (length (blank size))) (blank size)
+-- the reading that was written
+module _ (ws : List ℕ) (size : ℕ) where
+  pub passed-text : {n : ℕ} {new : List ℕ} → answered n ≡ counted (firstReadingGiven ws (length (blank size))) → new ≡ filled (firstReadingGiven ws (length (blank size))) (blank size)
       → Passing ws n new
-  passed-text {n} {new} e b = at (measured ws) refl
+  passed-text {n} {new} e b = at (reading-given ws (length (blank size))) e b
     where
-      by : {k : Measure} → measured ws ≡ answered k → (v : Verdict) → verdict (minutesOf ws) ≡ v → answered (passed n) ≡ answered (outcomeOf v) → new ≡ readingAfter (answered v) (blank size)
-          → Passing ws n new
-      by q (pass r) p e b =
+      at : {g : Answer (List ℕ)} → ReadingGiven ws (length (blank size)) g → answered n ≡ counted g → new ≡ filled g (blank size) → Passing ws n new
+      at (turned-away q m) e b = let z : _≡_ {A = ℕ} 0 1 = cc in absurd (omega arith)
+      at (short q h) e b = let z : _≡_ {A = ℕ} 0 1 = cc in absurd (omega arith)
+      at (breaching q h p) e b = let z : _≡_ {A = ℕ} 0 1 = cc in absurd (omega arith)
+      at (reading {r = r} q h p) e b =
           let z : n ≡ length r = cc in
           let t : take n new ≡ r = ap (take n) b ∙ take-at r (drop (length r) (blank size)) n (sym z) in
           record {
@@ -108,29 +82,42 @@ module _ (ws : List ℕ) (size : ℕ) (fits : entryBytes * longRestsAtMost ≤ s
             read = record { within = measured-is ws q .within; size = ap length t ∙ pass-length (minutesOf ws) r p };
             text = text-is ws q p ∙ ap (λ (l : List ℕ). pageOf (minutesOf ws) (pass l)) (sym t);
           }
-      by q (breach m a) p e b = let z : _≡_ {A = ℕ} 0 1 = cc in absurd (omega arith)
 
-      at : (a : Answer Measure) → measured ws ≡ a → Passing ws n new
-      at (refused m) q = let z : _≡_ {A = Answer Outcome} (answered (passed n)) (refused m) = e ∙ ap outcome (judged-refused ws (length
-          (blank size)) q) in let y : _≡_ {A = ℕ} 0 1 = cc in absurd (omega arith)
-      at (answered k) q =
-          by q (verdict (minutesOf ws)) refl (e ∙ ap outcome (judged-is ws (length (blank size)) room q))
-          (b ∙ ap (λ (j : Answer Verdict). readingAfter j (blank size)) (judged-is ws (length (blank size)) room q))
+pub counted-refused : (g : Answer (List ℕ)) {n : ℕ} → refused n ≡ counted g → g ≡ refused n
+counted-refused (refused m) {n} e = let same : m ≡ n = cc in ap refused same
+counted-refused (answered r) e = let z : _≡_ {A = ℕ} 0 1 = cc in absurd (omega arith)
 
-  pub breached-text : {m a : ℕ} → answered (breached m a) ≡ outcome (verdictGiven ws (length (blank size))) → Breaching ws m a
-  breached-text {m} {a} e = at (measured ws) refl
+-- the breach, where the verdict is one
+pub breached-text : (ws : List ℕ) {m a : ℕ} → answered (breached m a) ≡ verdictGiven ws → Breaching ws m a
+breached-text ws {m} {a} e = at (verdict-given ws) e
+  where
+    at : {f : Answer Finding} → VerdictGiven ws f → answered (breached m a) ≡ f → Breaching ws m a
+    at (found-refused q o) e = let z : _≡_ {A = ℕ} 0 1 = cc in absurd (omega arith)
+    at (found-pass q p) e = let z : _≡_ {A = ℕ} 0 1 = cc in absurd (omega arith)
+    at (found-breach {m = x} {a = y} q p) e =
+        let f : x ≡ m = cc in
+        let g : y ≡ a = cc in
+        record { within = measured-is ws q .within; text = text-is ws q p ∙ (λ i. pageOf (minutesOf ws) (breach (f i) (g i))) }
+
+-- and where it is none, the refusal: the room is enough for any reading, so it is weighing's
+module _ (ws : List ℕ) (room : ℕ) (fits : entryBytes * longRestsAtMost ≤ room) where
+  refused-text : {n : ℕ} → firstReadingGiven ws room ≡ refused n → ((m a : ℕ) → verdictGiven ws ≡ answered (breached m a) → ⊥) → verdictText ws ≡ refusalPage n
+  refused-text {n} e unbroken = at (reading-given ws room) e
     where
-      by : {k : Measure} → measured ws ≡ answered k → (v : Verdict) → verdict (minutesOf ws) ≡ v → answered (breached m a) ≡ answered (outcomeOf v) → Breaching ws m a
-      by q (pass r) p e = let z : _≡_ {A = ℕ} 0 1 = cc in absurd (omega arith)
-      by q (breach x y) p e =
-          let f : x ≡ m = cc in
-          let g : y ≡ a = cc in
-          record { within = measured-is ws q .within; text = text-is ws q p ∙ (λ i. pageOf (minutesOf ws) (breach (f i) (g i))) }
+      at : {g : Answer (List ℕ)} → ReadingGiven ws room g → g ≡ refused n → verdictText ws ≡ refusalPage n
+      at (turned-away {n = m} q o) e = let y : m ≡ n = cc in text-refused ws q ∙ ap refusalPage y
+      at (short {k} q h) e =
+          let is = measured-is ws q in
+          let c : k .count ≡ length (longRests (minutesOf ws)) = ap (λ (x : Measure). x .count) (is .is) in
+          absurd (omega (arith, few-rests (minutesOf ws) (is .within)))
+      at (breaching q h p) e = absurd (unbroken _ _ (breach-given ws q p))
+      at (reading q h p) e = let z : _≡_ {A = ℕ} 0 1 = cc in absurd (omega arith)
 
-      at : (x : Answer Measure) → measured ws ≡ x → Breaching ws m a
-      at (refused n) q = let z : _≡_ {A = Answer Outcome} (answered (breached m a)) (refused n) = e ∙ ap outcome (judged-refused ws (length
-          (blank size)) q) in let y : _≡_ {A = ℕ} 0 1 = cc in absurd (omega arith)
-      at (answered k) q = by q (verdict (minutesOf ws)) refl (e ∙ ap outcome (judged-is ws (length (blank size)) room q))
+  pub refused-both : {n m : ℕ} → firstReadingGiven ws room ≡ refused n → refused m ≡ verdictGiven ws → verdictText ws ≡ refusalPage n
+  refused-both e f = refused-text e (λ m a q. let z : _≡_ {A = ℕ} 0 1 = cc in absurd (omega arith))
+
+  pub never-passed : {n : ℕ} → firstReadingGiven ws room ≡ refused n → answered passed ≡ verdictGiven ws → verdictText ws ≡ refusalPage n
+  never-passed e f = refused-text e (λ m a q. let z : _≡_ {A = ℕ} 0 1 = cc in absurd (omega arith))
 
 pub verdict-size : (ws : List ℕ) → length (verdictText ws) ≤ pageAtMost
 verdict-size ws = at (measured ws) refl

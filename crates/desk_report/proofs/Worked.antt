@@ -14,7 +14,7 @@ use Rattle.rules.specs.Opened as rules
 use Rattle.rules.specs.Verdict.{pass, breach, verdict}
 use Rattle.rules.proofs.Breach.{verdict-pass}
 use Rattle.rules.proofs.OnlyDaily.{allDaily, daily-first}
-use Rattle.rules.proofs.Cases.{Case, passes, Says, AllSay, starred, worked, ordered, on-the-edge, d, w, r, times, daily, weekly}
+use Rattle.rules.proofs.Cases.{Case, passes, Says, AllSay, starred, worked, ordered, asked, on-the-edge, d, w, r, times, daily, weekly}
 use Rattle.text_lines.specs.Form.{runName, digitAt, decimal, lineText, textOfLines, runsThen, weeksThenEnd, textOf}
 use Rattle.text_lines.specs.Reading.{same, numberFrom, numberAfter, runOr, lineOf, linesFrom, stageAfter, stageFrom, isText, wordsOf, textRead}
 use Rattle.card.specs.Reading as card
@@ -83,8 +83,8 @@ say-at [] t i = on-the-edge .0
 say-at (c ∷ cs) t zero = t .0
 say-at (c ∷ cs) t (suc i) = say-at cs (t .1) i
 
-edge : (i : ℕ) → Says (caseAt (starred ++ worked ++ ordered) i)
-edge = say-at (starred ++ worked ++ ordered) on-the-edge
+edge : (i : ℕ) → Says (caseAt (starred ++ worked ++ ordered ++ asked) i)
+edge = say-at (starred ++ worked ++ ordered ++ asked) on-the-edge
 
 breach-printed : (ws : List ℕ) {n m a : ℕ} → totalFrom 0 ws ≡ answered n → verdict (minutesOf ws) ≡ breach m a
     → verdictText ws ≡ bracketed (numbered minutesName (totalBy ws) ++ breachText m a)

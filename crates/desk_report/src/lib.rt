@@ -1,16 +1,17 @@
 // What the desk program prints, composed in a buffer. What is said of it stands in specs/.
 use recording::Filling;
-use verdict::Outcome;
+use verdict::Judgement;
 ghost use mathlib.Core.Path.{_≡_};
 ghost use Prim.Native.Nat.{_+_, _≤_};
 ghost use lib.ListN.{length};
-ghost use Rattle.recording.specs.Answers.{counted, filled};
+ghost use Rattle.recording.specs.Answers.{refused, counted, filled};
 ghost use Rattle.recording.specs.Words.{minutesOf};
 ghost use Rattle.recording.specs.Operations.{totalAtMost, written};
 ghost use Rattle.rules.specs.Verdict.{pass, breach};
+ghost use Rattle.rules.specs.Operations.{firstReadingGiven};
 ghost use Rattle.text.specs.Passes.{Put, places, roomy};
 ghost use Rattle.desk_report.specs.Printed.{spaced, numbered, spanText, dailyText, weeklyText, restText, articleText, breachText, verdictText, inputAtMost, deskText, cardText, intoRoom};
-ghost use Rattle.desk_report.specs.Composing.{pageAtMost, restsOf, Readable, refusalPage, pageOf, passHead, Read, Within, readText, inputText};
+ghost use Rattle.desk_report.specs.Composing.{pageAtMost, readingRoom, restsOf, Readable, refusalPage, pageOf, passHead, Read, Within, readText, inputText};
 
 // Bytes enough for whatever is printed.
 pub const PAGE_BYTES: usize = 8320;
@@ -188,19 +189,31 @@ fn pass_page(out: &mut [u8], words: &[u32], reading: &[u8]) -> usize
     text::put_all(out, told, b")\n)\n")
 }
 
-// What is printed for a recording: its verdict, or a refusal.
+// What is printed for a recording whose first reading is refused with n: its breach, or that refusal. It is never a pass.
+fn unread_page(out: &mut [u8], words: &[u32], n: u32) -> usize
+    requires { ⌜ firstReadingGiven (now words) readingRoom ≡ refused n ⌝ }
+    ensures { λ r. ⌜ Put (now (out .entry)) 0 (verdictText (now (words .entry))) r (now (out .exit)) ⌝ }
+{
+    let judgement = verdict::verdict(words);
+    match judgement {
+        Judgement::Refused(_) => refusal_page(out, n),
+        Judgement::Passed => refusal_page(out, n),
+        Judgement::Breached(found) => breach_page(out, words, found.minute, found.article),
+    }
+}
+
+// What is printed for a recording: its first reading, a breach, or a refusal. The reading is asked for first, so that a pass is found once.
 fn verdict_page(out: &mut [u8], words: &[u32]) -> usize
     ensures { λ r. ⌜ Put (now (out .entry)) 0 (verdictText (now (words .entry))) r (now (out .exit)) ⌝ }
 {
     let mut reading = [0u8; READING_BYTES];
-    let outcome = verdict::verdict(words, &mut reading);
-    match outcome {
-        Outcome::Refused(n) => refusal_page(out, n),
-        Outcome::Passed(n) => {
+    let answer = verdict::first_reading(words, &mut reading);
+    match answer {
+        Filling::Refused(n) => unread_page(out, words, n),
+        Filling::Written(n) => {
             let size = n as usize;
             pass_page(out, words, &reading[..size])
         }
-        Outcome::Breached(found) => breach_page(out, words, found.minute, found.article),
     }
 }
 

@@ -16,21 +16,19 @@ use Rattle.recording.specs.Rests.{judgedEnd}
 use Rattle.recording.specs.Operations.{totalAtMost, faultOf, unlessFault, totalFrom, measured, listed}
 use Rattle.recording.specs.declared.Measure.{Measure}
 use Rattle.recording.proofs.Walks.{judged-within}
-use Rattle.recording.proofs.LongRests.{few-rests}
 use Rattle.recording.proofs.Listing.{Measured, measured-is}
 use Rattle.rules.specs.declared.Breaches.{Breaches}
 use Rattle.rules.specs.Fixed.{breaches, smallestRule, fixedTest, firstArticle}
-use Rattle.rules.specs.Reading.{entryBytes, readingSize}
-use Rattle.rules.specs.Verdict.{prefix, firstLawful, breachMinute, articleBy, article, Verdict, verdictBy, verdict}
-use Rattle.rules.specs.Operations.{Outcome, passed, breached, outcomeOf, outcome, breachesTested, fixedTested, articleTested, readingTested, verdictGiven, entryAt}
+use Rattle.rules.specs.Reading.{entryBytes}
+use Rattle.rules.specs.Verdict.{prefix, firstLawful, breachMinute, articleBy, article, Verdict, pass, breach, verdictBy, verdict}
+use Rattle.rules.specs.Operations.{Finding, passed, breached, findingOf, verdictGiven, readingOf, firstReadingGiven, breachesTested, fixedTested, articleTested, readingTested, entryAt}
 use Rattle.rules.proofs.ArticleOrder.{rule-most}
-use Rattle.rules.proofs.EntryLaws.{first-size}
 use Rattle.text_lines.specs.Reading.{linesIn, wordsOf, isText, textRead}
 use Rattle.text.specs.Writing.{textOfMinutes, textWritten}
 use Rattle.card.specs.Reading.{changesIn, isUnknown, isDayRecord, cardRead}
 use Rattle.card.specs.Reading as card
 use Rattle.card.specs.Writing.{recordOfMinutes, isWholeDays, cardWritten}
-use Rattle.interface.specs.Codes.{answerUnit, judgedUnit, countUnit, articleUnit, codeOf, itself, measureValue, outcomeValue, entryPlace, entryCode, answerIn, measureIn, outcomeIn}
+use Rattle.interface.specs.Codes.{answerUnit, judgedUnit, countUnit, articleUnit, codeOf, itself, measureValue, findingValue, entryPlace, entryCode, answerIn, measureIn, findingIn}
 
 -- ---- an answer whose refusal, if it is one, is below the unit
 data Told {A : Type 0} : Answer A → Type 0 where
@@ -164,14 +162,23 @@ module _ (reading : List ℕ) (number : ℕ) where
       there false true e = let z : _≡_ {A = ℕ} 0 1 = cc in absurd (omega arith)
       there false false e = cc
 
--- ---- the verdict: a count is below the unit, an article below its own
-data Within : Outcome → Type 0 where
-  passing : {n : ℕ} → n < answerUnit → Within (passed n)
+-- ---- the first reading
+told-reading : (v : Verdict) → Told (readingOf v)
+told-reading (pass r) = by-value r
+told-reading (breach m a) = by-number {n = 13} (omega arith)
+
+pub first-reading-back : (ws : List ℕ) (room : ℕ) → answerIn itself (codeOf itself (counted (firstReadingGiven ws room))) ≡ counted (firstReadingGiven ws room)
+unfolding firstReadingGiven
+first-reading-back ws room = count-back (told-counted (told-then (told-measured ws) (λ k. told-if (ltb room (entryBytes * k .count)) (omega arith) (told-reading (verdict (minutesOf ws))))))
+
+-- ---- the verdict: an article is below its unit
+data Within : Finding → Type 0 where
+  passing : Within passed
   breaching : (m : ℕ) {a : ℕ} → a < articleUnit → Within (breached m a)
 
-outcome-back : {o : Outcome} → Within o → outcomeIn (outcomeValue o) ≡ o
-outcome-back (passing {n} h) = rw (lt-ltb n answerUnit h)
-outcome-back (breaching m {a} h) =
+finding-back : {f : Finding} → Within f → findingIn (findingValue f) ≡ f
+finding-back passing = refl
+finding-back (breaching m {a} h) =
     let past : ltb (answerUnit + articleUnit * m + a) answerUnit ≡ false = le-ltb (answerUnit + articleUnit * m + a) answerUnit (omega arith) in
     let parts : answerUnit + articleUnit * m + a - answerUnit ≡ m * articleUnit + a = omega arith in
     let minute : (answerUnit + articleUnit * m + a - answerUnit) / articleUnit ≡ m = ap (λ v. v / articleUnit) parts ∙ digits-div m h in
@@ -186,35 +193,23 @@ article-small ms = at (smallestRule (breaches ms)) (rule-most (breaches ms))
     at zero h = omega arith
     at (suc rule) h = omega arith
 
-verdict-within : (ms : List ℕ) → length ms ≤ totalAtMost → Within (outcomeOf (verdict ms))
-unfolding verdict readingSize
-verdict-within ms h = at (firstLawful ms) refl
+verdict-within : (ms : List ℕ) → Within (findingOf (verdict ms))
+unfolding verdict
+verdict-within ms = at (firstLawful ms)
   where
-    at : (f : Option (List ℕ)) → firstLawful ms ≡ f → Within (outcomeOf (verdictBy f (breachMinute ms) (article (prefix (breachMinute ms) ms))))
-    at none e = breaching _ (article-small _)
-    at (some r) e = passing {n = length r} (omega (arith, first-size ms r e, few-rests ms h))
+    at : (f : Option (List ℕ)) → Within (findingOf (verdictBy f (breachMinute ms) (article (prefix (breachMinute ms) ms))))
+    at none = breaching _ (article-small _)
+    at (some r) = passing
 
-told-outcome : {a : Answer Verdict} → Told a → Told (outcome a)
-told-outcome (by-number h) = by-number h
-told-outcome (by-value v) = by-value (outcomeOf v)
-
-module _ (ws : List ℕ) (room : ℕ) where
-  within : {o : Outcome} → outcome (verdictGiven ws room) ≡ answered o → Within o
+module _ (ws : List ℕ) where
+  within : (f : Finding) → verdictGiven ws ≡ answered f → Within f
   unfolding verdictGiven
-  within {o} e = at (measured ws) refl e
+  within f = at (measured ws)
     where
-      here : (b : Bool) → length (minutesOf ws) ≤ totalAtMost → outcome (refuseIf b 4 (answered (verdict (minutesOf ws)))) ≡ answered o → Within o
-      here true h e = let z : _≡_ {A = ℕ} 0 1 = cc in absurd (omega arith)
-      here false h e = let same : outcomeOf (verdict (minutesOf ws)) ≡ o = cc in rw (← same) (verdict-within (minutesOf ws) h)
+      at : (a : Answer Measure) → andThen a (λ _. answered (findingOf (verdict (minutesOf ws)))) ≡ answered f → Within f
+      at (refused n) e = let z : _≡_ {A = ℕ} 0 1 = cc in absurd (omega arith)
+      at (answered k) e = let same : findingOf (verdict (minutesOf ws)) ≡ f = cc in rw (← same) (verdict-within (minutesOf ws))
 
-      at : (a : Answer Measure) → measured ws ≡ a
-          → outcome (andThen a (λ k. refuseIf (ltb room (entryBytes * k .count)) 4 (answered (verdict (minutesOf ws))))) ≡ answered o → Within o
-      at (refused n) q e = let z : _≡_ {A = ℕ} 0 1 = cc in absurd (omega arith)
-      at (answered k) q e = here (ltb room (entryBytes * k .count)) (measured-is ws q .within) e
-
-  pub verdict-back : answerIn outcomeIn (codeOf outcomeValue (outcome (verdictGiven ws room))) ≡ outcome (verdictGiven ws room)
+  pub verdict-back : answerIn findingIn (codeOf findingValue (verdictGiven ws)) ≡ verdictGiven ws
   unfolding verdictGiven
-  verdict-back =
-      read-back outcomeValue outcomeIn
-      (told-outcome (told-then (told-measured ws) (λ k. told-if (ltb room (entryBytes * k .count)) (omega arith) (by-value _))))
-      (λ o e. outcome-back (within e))
+  verdict-back = read-back findingValue findingIn (told-then (told-measured ws) (λ k. by-value _)) (λ f e. finding-back (within f e))

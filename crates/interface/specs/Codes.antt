@@ -7,7 +7,7 @@ use Rattle.recording.specs.Tests.{pick}
 use Rattle.recording.specs.Answers.{Answer, refused, answered}
 use Rattle.recording.specs.declared.Measure.{Measure}
 use Rattle.rules.specs.Reading.{entryBytes}
-use Rattle.rules.specs.Operations.{Outcome, passed, breached, entryAt}
+use Rattle.rules.specs.Operations.{Finding, passed, breached, entryAt}
 
 -- "The result itself says whether its number is a refusal or an answer, since both start at 1." A refusal is its own number, an answer one unit
 -- and its value.
@@ -32,13 +32,13 @@ countUnit = 17179869184
 abbrev pub measureValue : Measure → ℕ
 measureValue m = m .total + judgedUnit * m .judged + countUnit * m .count
 
--- A pass is the count of bytes written, a breach one unit more, eight times its minute and its article.
+-- A pass has no value, a breach one unit more, eight times its minute and its article.
 abbrev pub articleUnit : ℕ
 articleUnit = 8
 
-abbrev pub outcomeValue : Outcome → ℕ
-outcomeValue (passed n) = n
-outcomeValue (breached m a) = answerUnit + articleUnit * m + a
+abbrev pub findingValue : Finding → ℕ
+findingValue passed = 0
+findingValue (breached m a) = answerUnit + articleUnit * m + a
 
 -- "The answer is the three bytes themselves in the caller's reading": the place of the first of them there.
 abbrev pub entryPlace : ℕ → ℕ
@@ -54,5 +54,5 @@ answerIn reads code = pick (ltb code answerUnit) (refused code) (answered (reads
 abbrev pub measureIn : ℕ → Measure
 measureIn v = record { total = v % judgedUnit; judged = v / judgedUnit % judgedUnit; count = v / countUnit }
 
-abbrev pub outcomeIn : ℕ → Outcome
-outcomeIn v = pick (ltb v answerUnit) (passed v) (breached ((v - answerUnit) / articleUnit) ((v - answerUnit) % articleUnit))
+abbrev pub findingIn : ℕ → Finding
+findingIn v = pick (ltb v answerUnit) passed (breached ((v - answerUnit) / articleUnit) ((v - answerUnit) % articleUnit))

@@ -3,19 +3,19 @@ use recording::Filling;
 use recording::Span;
 use recording::Weighing;
 use rules_fixed::Tested;
-use verdict::Outcome;
+use verdict::Judgement;
 ghost use mathlib.Core.Path.{_≡_};
 ghost use lib.ListN.{length};
 ghost use Rattle.recording.specs.Answers.{counted, filled};
 ghost use Rattle.recording.specs.Operations.{measured, listed, written};
 ghost use Rattle.rules_fixed.specs.Tested.{tested};
-ghost use Rattle.rules.specs.Operations.{fixedTested, articleTested, readingTested, entryAt, entryRefusal, verdictGiven, outcome, readingAfter};
+ghost use Rattle.rules.specs.Operations.{fixedTested, articleTested, readingTested, entryAt, entryRefusal, verdictGiven, firstReadingGiven};
 ghost use Rattle.text_lines.specs.Reading.{textRead};
 ghost use Rattle.text.specs.Writing.{textWritten};
 ghost use Rattle.card.specs.Reading.{cardRead};
 ghost use Rattle.card.specs.Writing.{cardWritten};
-ghost use Rattle.verdict.specs.Outcomes.{outcomeBy};
-ghost use Rattle.interface.specs.Codes.{codeOf, itself, measureValue, outcomeValue, entryCode};
+ghost use Rattle.verdict.specs.Judgements.{findingBy};
+ghost use Rattle.interface.specs.Codes.{codeOf, itself, measureValue, findingValue, entryCode};
 
 // An answer is this and its value; less is a refusal.
 const ANSWER: u64 = 281474976710656;
@@ -29,7 +29,7 @@ const COUNT: u64 = 17179869184;
 const ARTICLES: u64 = 8;
 
 // A refusal's number; or ANSWER and the count.
-fn count_code(f: Filling) -> u64
+pub fn count_code(f: Filling) -> u64
     ensures { λ r. ⌜ r ≡ codeOf itself (written f) ⌝ }
 {
     match f {
@@ -48,14 +48,14 @@ fn rule_code(t: Tested) -> u64
     }
 }
 
-// A refusal's number; ANSWER and the count of a pass; or 2 × ANSWER, 8 × the minute and the article of a breach.
-pub fn outcome_code(o: Outcome) -> u64
-    ensures { λ r. ⌜ r ≡ codeOf outcomeValue (outcomeBy o) ⌝ }
+// A refusal's number; ANSWER for a pass; or 2 × ANSWER, 8 × the minute and the article of a breach.
+pub fn verdict_code(j: Judgement) -> u64
+    ensures { λ r. ⌜ r ≡ codeOf findingValue (findingBy j) ⌝ }
 {
-    match o {
-        Outcome::Refused(n) => n as u64,
-        Outcome::Passed(n) => ANSWER + (n as u64),
-        Outcome::Breached(b) => ANSWER
+    match j {
+        Judgement::Refused(n) => n as u64,
+        Judgement::Passed => ANSWER,
+        Judgement::Breached(b) => ANSWER
             + (ANSWER + ARTICLES * (b.minute as u64) + (b.article as u64)),
     }
 }
@@ -162,11 +162,19 @@ pub extern "C" fn desk_write_card(words: &[u32], bytes: &mut [u8]) -> u64
     count_code(card::write_card(words, bytes))
 }
 
-// The verdict: a refusal's number; ANSWER and the count of bytes of the reading; or 2 × ANSWER, 8 × the minute and the article.
+// The verdict: a refusal's number; ANSWER for a pass; or 2 × ANSWER, 8 × the minute and the article of a breach.
 #[no_mangle]
-pub extern "C" fn desk_verdict(words: &[u32], reading: &mut [u8]) -> u64
-    ensures { λ r. ⌜ r ≡ codeOf outcomeValue (outcome (verdictGiven (now (words .entry)) (length (now (reading .entry))))) ⌝ }
-    ensures { λ r. ⌜ now (reading .exit) ≡ readingAfter (verdictGiven (now (words .entry)) (length (now (reading .entry)))) (now (reading .entry)) ⌝ }
+pub extern "C" fn desk_verdict(words: &[u32]) -> u64
+    ensures { λ r. ⌜ r ≡ codeOf findingValue (verdictGiven (now (words .entry))) ⌝ }
 {
-    outcome_code(verdict::verdict(words, reading))
+    verdict_code(verdict::verdict(words))
+}
+
+// The first lawful reading: a refusal's number; or ANSWER and the count of its bytes.
+#[no_mangle]
+pub extern "C" fn desk_first_reading(words: &[u32], reading: &mut [u8]) -> u64
+    ensures { λ r. ⌜ r ≡ codeOf itself (counted (firstReadingGiven (now (words .entry)) (length (now (reading .entry))))) ⌝ }
+    ensures { λ r. ⌜ now (reading .exit) ≡ filled (firstReadingGiven (now (words .entry)) (length (now (reading .entry)))) (now (reading .entry)) ⌝ }
+{
+    count_code(verdict::first_reading(words, reading))
 }

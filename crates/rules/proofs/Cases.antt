@@ -1,5 +1,5 @@
--- The starred cases of document 01, "On the edge", a worked case at each edge of a number, and cases of several fixed rules that break at one minute, under
--- one law and one test that is computed.
+-- The starred cases of document 01, "On the edge", a worked case at each edge of a number, cases of several fixed rules that break at one minute, and cases
+-- of the verdict beside the first reading, under one law and one test that is computed.
 -- Assumes nothing.
 use mathlib.Core.Path.{_≡_, refl, sym, ap, ap₂, _∙_}
 use mathlib.Core.Logic.{_⊎_, inl, inr}
@@ -24,8 +24,8 @@ use Rattle.rules.specs.Fixed.{breaches, smallestRule, fixedTest, byArtic
 use Rattle.rules.specs.Reading.{Entry, dailyKind, weeklyKind, entryBytes, readingSize}
 use Rattle.rules.specs.ReadingRules.{shortened, readingTest}
 use Rattle.rules.specs.Order.{byteValues, Bytes}
-use Rattle.rules.specs.Verdict.{lawful, firstLawful, prefix, article, articleBy, pass, breach, verdict}
-use Rattle.rules.specs.Operations.{breachesTested, fixedTested, articleTested}
+use Rattle.rules.specs.Verdict.{lawful, firstLawful, prefix, article, articleBy, Verdict, pass, breach, verdict}
+use Rattle.rules.specs.Operations.{breachesTested, fixedTested, articleTested, passed, breached, findingOf, verdictGiven, readingInto, firstReadingGiven}
 use Rattle.rules.specs.Opened.{opened}
 use Rattle.rules.proofs.RuleLaws.{lawful-rules}
 use Rattle.rules.proofs.Breach.{Lawful, is-none, verdict-breach, verdict-pass}
@@ -38,6 +38,10 @@ pub data Case : Type 0 where
   passes : List ℕ → Case
   -- the verdict is a breach at a minute, with its article; a lawful reading of the stretch that is a minute shorter goes with it
   breaks : List ℕ → List ℕ → ℕ → ℕ → Case
+  -- the verdict is a pass as in `passes`, and the first reading with a buffer of so many bytes answers so
+  reads : List ℕ → ℕ → Answer (List ℕ) → Case
+  -- the verdict is a breach as in `breaks`, and the first reading with a buffer of so many bytes answers so
+  readsNone : List ℕ → List ℕ → ℕ → ℕ → ℕ → Answer (List ℕ) → Case
   -- fixed rules break at a minute, and none did before: their places in the regulation's order, the fixed test's number and the article test's place there
   together : List ℕ → ℕ → List ℕ → ℕ → ℕ → Case
   -- a reading's test has an answer
@@ -68,6 +72,8 @@ places b = placesFrom 1 (byArticle b)
 abbrev pub Says : Case → Type 0
 Says (passes ws) = verdict (minutesOf ws) ≡ pass (allDaily (minutesOf ws))
 Says (breaks ws reading m n) = verdict (minutesOf ws) ≡ breach m n
+Says (reads ws room reading) = (verdictGiven ws ≡ answered passed) × (firstReadingGiven ws room ≡ reading)
+Says (readsNone ws shorter m n room reading) = (verdictGiven ws ≡ answered (breached m n)) × (firstReadingGiven ws room ≡ reading)
 Says (together ws m broken rule place) =
     (places (breaches (prefix (m - 1) (minutesOf ws))) ≡ []) ×
     (places (breaches (prefix m (minutesOf ws))) ≡ broken) ×
@@ -106,6 +112,19 @@ same-numbers [] [] t = refl
 same-numbers [] (y ∷ ys) t = absurd (false≢true t)
 same-numbers (x ∷ xs) [] t = absurd (false≢true t)
 same-numbers (x ∷ xs) (y ∷ ys) t = ap₂ _∷_ (eqb-true x y (and-left _ _ t)) (same-numbers xs ys (and-right _ _ t))
+
+sameAnswer : Answer (List ℕ) → Answer (List ℕ) → Bool
+sameAnswer (refused m) (refused n) = eqb m n
+sameAnswer (refused m) (answered ys) = false
+sameAnswer (answered xs) (refused n) = false
+sameAnswer (answered xs) (answered ys) = sameNumbers xs ys
+
+same-answer : (a b : Answer (List ℕ)) → sameAnswer a b ≡ true → a ≡ b
+unfolding sameAnswer
+same-answer (refused m) (refused n) t = ap refused (eqb-true m n t)
+same-answer (refused m) (answered ys) t = absurd (false≢true t)
+same-answer (answered xs) (refused n) t = absurd (false≢true t)
+same-answer (answered xs) (answered ys) t = ap answered (same-numbers xs ys t)
 
 -- the words are accepted
 abbrev accepted : Answer ℕ → Bool
@@ -169,19 +188,34 @@ module _ (ws : List ℕ) where
   unfolding breachesTested
   tested-at m t h = rw (accepted-words ws t, total-by ws, le-ltb (totalBy ws) m (leb-true m (totalBy ws) h)) (ap answered (breaches-at m))
 
+  finding-at : {v : Verdict} → accepted (totalFrom 0 ws) ≡ true → verdict (minutesOf ws) ≡ v → verdictGiven ws ≡ answered (findingOf v)
+  unfolding verdictGiven
+  finding-at t e = rw (accepted-words ws t) (ap (λ v. answered (findingOf v)) e)
+
+  reading-at : {v : Verdict} (room : ℕ) → accepted (totalFrom 0 ws) ≡ true → verdict (minutesOf ws) ≡ v → firstReadingGiven ws room ≡ readingInto room (length (longRestsBy ws)) v
+  unfolding firstReadingGiven
+  reading-at room t e = rw (accepted-words ws t, rests-by ws) (ap (readingInto room (length (longRestsBy ws))) e)
+
   article-by : article (minutesOf ws) ≡ articleBy (fixedBy ws)
   unfolding article
   article-by = ap articleBy (fixed-by ws)
 
-holds : Case → Bool
-holds (passes ws) = lawfulBy ws (dailyBy ws)
-holds (breaks ws reading zero n) = false
-holds (breaks ws reading (suc m) n) =
+-- a breach at a minute, with its article
+breaksBy : List ℕ → List ℕ → ℕ → ℕ → Bool
+breaksBy ws reading zero n = false
+breaksBy ws reading (suc m) n =
     leb (suc m) (totalBy ws) and
     bytesTest (entryBytes * length (longRestsBy (cutAt m ws))) reading and
     lawfulBy (cutAt m ws) reading and
     noneBy (cutAt (suc m) ws) and
     eqb (articleBy (fixedBy (cutAt (suc m) ws))) n
+
+holds : Case → Bool
+holds (passes ws) = lawfulBy ws (dailyBy ws)
+holds (breaks ws reading m n) = breaksBy ws reading m n
+holds (reads ws room reading) = accepted (totalFrom 0 ws) and lawfulBy ws (dailyBy ws) and sameAnswer (readingInto room (length (longRestsBy ws)) (pass (dailyBy ws))) reading
+holds (readsNone ws shorter m n room reading) =
+    accepted (totalFrom 0 ws) and breaksBy ws shorter m n and sameAnswer (readingInto room (length (longRestsBy ws)) (breach m n)) reading
 holds (together ws m broken rule place) =
     accepted (totalFrom 0 ws) and
     leb m (totalBy ws) and
@@ -207,11 +241,13 @@ module _ (ws : List ℕ) (m : ℕ) where
   article-there : article (prefix m (minutesOf ws)) ≡ articleBy (fixedBy (cutAt m ws))
   article-there = rw (← cut-at m ws) (article-by (cutAt m ws))
 
-says : (c : Case) → holds c ≡ true → Says c
-unfolding holds fixedTested articleTested
-says (passes ws) t = verdict-pass _ _ (daily-first (minutesOf ws) (rw (lawful-daily-by ws) t))
-says (breaks ws reading zero n) t = absurd (false≢true t)
-says (breaks ws reading (suc m) n) t =
+daily-pass : (ws : List ℕ) → lawfulBy ws (dailyBy ws) ≡ true → verdict (minutesOf ws) ≡ pass (allDaily (minutesOf ws))
+daily-pass ws t = verdict-pass _ _ (daily-first (minutesOf ws) (rw (lawful-daily-by ws) t))
+
+breach-there : (ws reading : List ℕ) (m n : ℕ) → breaksBy ws reading m n ≡ true → verdict (minutesOf ws) ≡ breach m n
+unfolding breaksBy
+breach-there ws reading zero n t = absurd (false≢true t)
+breach-there ws reading (suc m) n t =
     let t1 = and-left _ _ t in
     let t2 = and-left _ _ t1 in
     let t3 = and-left _ _ t2 in
@@ -219,6 +255,19 @@ says (breaks ws reading (suc m) n) t =
     verdict-breach (minutesOf ws) m (reading, lawful-there ws m (and-right _ _ t3) (and-right _ _ t2)) (none-there ws (suc m) (and-right _ _ t1))
     (rw (total-by ws) within)
     ∙ ap (breach (suc m)) (article-there ws (suc m) ∙ eqb-true _ n (and-right _ _ t))
+
+says : (c : Case) → holds c ≡ true → Says c
+unfolding holds fixedTested articleTested
+says (passes ws) t = daily-pass ws t
+says (breaks ws reading m n) t = breach-there ws reading m n t
+says (reads ws room reading) t =
+    let t1 = and-left _ _ t in
+    let v = daily-pass ws (and-right _ _ t1) ∙ ap pass (daily-by ws) in
+    (finding-at ws (and-left _ _ t1) v, reading-at ws room (and-left _ _ t1) v ∙ same-answer _ reading (and-right _ _ t))
+says (readsNone ws shorter m n room reading) t =
+    let t1 = and-left _ _ t in
+    let v = breach-there ws shorter m n (and-right _ _ t1) in
+    (finding-at ws (and-left _ _ t1) v, reading-at ws room (and-left _ _ t1) v ∙ same-answer _ reading (and-right _ _ t))
 says (together ws m broken rule place) t =
     let t1 = and-left _ _ t in
     let t2 = and-left _ _ t1 in
@@ -436,7 +485,23 @@ ordered =
     breaks (week2040 (times 5 shift (d 270 ∷ r 45 ∷ d 120 ∷ r 660 ∷ d 271 ∷ []))) (daily 3 (weekly 0 0 (daily 6 []))) 17671 1 ∷
     []
 
+-- Request 5: the verdict, and the first reading in a buffer that is short, just enough or longer
+abbrev pub asked : List Case
+asked =
+    reads [] 0 (answered []) ∷
+    reads (w 900 ∷ []) 0 (answered []) ∷
+    reads (w 900 ∷ r 540 ∷ w 1 ∷ []) 2 (refused 4) ∷
+    reads (w 900 ∷ r 540 ∷ w 1 ∷ []) 3 (answered (daily 1 [])) ∷
+    reads (w 900 ∷ r 540 ∷ w 1 ∷ []) 4 (answered (daily 1 [])) ∷
+    reads (times 3 (w 840 ∷ r 600 ∷ []) (w 1 ∷ [])) 8 (refused 4) ∷
+    reads (times 3 (w 840 ∷ r 600 ∷ []) (w 1 ∷ [])) 9 (answered (daily 3 [])) ∷
+    readsNone (r 15 ∷ d 270 ∷ r 30 ∷ d 1 ∷ []) [] 316 1 0 (refused 13) ∷
+    readsNone (w 901 ∷ []) [] 901 5 0 (refused 13) ∷
+    readsNone (times 4 (w 840 ∷ r 600 ∷ []) (w 1 ∷ [])) (daily 3 []) 5761 6 11 (refused 4) ∷
+    readsNone (times 4 (w 840 ∷ r 600 ∷ []) (w 1 ∷ [])) (daily 3 []) 5761 6 12 (refused 13) ∷
+    []
+
 -- THE JOINT THEOREM
-pub on-the-edge : AllSay (starred ++ worked ++ ordered)
-unfolding opened endBy closedBy totalBy drivingUpTo cutAt keepsAccumulatedBy holds bytesTest sameNumbers
-on-the-edge = all-say (starred ++ worked ++ ordered) refl
+pub on-the-edge : AllSay (starred ++ worked ++ ordered ++ asked)
+unfolding opened endBy closedBy totalBy drivingUpTo cutAt keepsAccumulatedBy breaksBy holds bytesTest sameNumbers sameAnswer
+on-the-edge = all-say (starred ++ worked ++ ordered ++ asked) refl

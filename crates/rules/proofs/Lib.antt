@@ -9,6 +9,7 @@ pub mod Prefix
 pub mod Breach
 pub mod OnlyDaily
 pub mod EntryLaws
+pub mod VerdictAndReading
 pub mod RestWeekLaws
 pub mod ByWord
 pub mod Cases

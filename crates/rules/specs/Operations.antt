@@ -1,4 +1,5 @@
--- Public: document 01, "Operations", the tests, the verdict, and the entry of a reading; with the test of document 02, request 4.
+-- Public: document 01, "Operations", the tests, the verdict, and the entry of a reading; with the test of document 02, request 4, and the verdict as
+-- request 5 splits it.
 -- Assumes nothing.
 use mathlib.Core.Bool.{not}
 use mathlib.Core.Path.{_≡_}
@@ -7,7 +8,7 @@ use Prim.Native.Nat.{ℕ, _+_, _-_, _*_, _/_, _%_}
 use lib.Dec.{ltb, eqb}
 use lib.ListN.{length, take, drop}
 use Rattle.recording.specs.Tests.{_or_}
-use Rattle.recording.specs.Answers.{Answer, refused, answered, andThen, refuseIf, filled}
+use Rattle.recording.specs.Answers.{Answer, refused, answered, andThen, refuseIf}
 use Rattle.recording.specs.Words.{minutesOf}
 use Rattle.recording.specs.Operations.{measured}
 use Rattle.rules.specs.declared.Breaches.{Breaches}
@@ -37,30 +38,30 @@ readingTested words reading =
     andThen (measured words) (λ k.
     refuseIf (not (eqb (length reading) (entryBytes * k .count))) 6 (answered (readingTest (minutesOf words) reading)))
 
--- "The verdict: 1, 2; then 4, the reading buffer is under 3 × k bytes." Here for a buffer of `room` bytes.
-unfoldable pub verdictGiven : List ℕ → ℕ → Answer Verdict
-verdictGiven words room =
-    andThen (measured words) (λ k.
-    refuseIf (ltb room (entryBytes * k .count)) 4 (answered (verdict (minutesOf words))))
+-- Document 02, request 5: "Split the verdict: one operation gives pass or breach with minute and article, the other writes the first lawful reading."
+-- "The first turns away 1 and 2 only".
+pub data Finding : Type 0 where
+  passed : Finding
+  breached : ℕ → ℕ → Finding
 
--- The result: a pass "answers with the count" of bytes written; a breach "gives the least m without a lawful reading, and its article".
-pub data Outcome : Type 0 where
-  passed : ℕ → Outcome
-  breached : ℕ → ℕ → Outcome
+abbrev pub findingOf : Verdict → Finding
+findingOf (pass reading) = passed
+findingOf (breach m a) = breached m a
 
-abbrev pub outcomeOf : Verdict → Outcome
-outcomeOf (pass reading) = passed (length reading)
-outcomeOf (breach m a) = breached m a
+unfoldable pub verdictGiven : List ℕ → Answer Finding
+verdictGiven words = andThen (measured words) (λ _. answered (findingOf (verdict (minutesOf words))))
 
-abbrev pub outcome : Answer Verdict → Answer Outcome
-outcome (refused n) = refused n
-outcome (answered v) = answered (outcomeOf v)
+-- "the second turns away 1, 2 and 4, then 13 when the verdict is a breach." Here for a buffer of `room` bytes; as document 01 has it, 4 is "the reading
+-- buffer is under 3 × k bytes", and the reading goes "into the first 3 × k bytes; the rest stays". `counted` and `filled` of it are the result and the bytes.
+abbrev pub readingOf : Verdict → Answer (List ℕ)
+readingOf (pass reading) = answered reading
+readingOf (breach m a) = refused 13
 
--- The buffer: "A pass writes the first lawful reading into the first 3 × k bytes; the rest stays. A breach writes nothing".
-abbrev pub readingAfter : Answer Verdict → List ℕ → List ℕ
-readingAfter (refused n) old = old
-readingAfter (answered (pass reading)) old = filled (answered reading) old
-readingAfter (answered (breach m a)) old = old
+abbrev pub readingInto : ℕ → ℕ → Verdict → Answer (List ℕ)
+readingInto room rests v = refuseIf (ltb room (entryBytes * rests)) 4 (readingOf v)
+
+unfoldable pub firstReadingGiven : List ℕ → ℕ → Answer (List ℕ)
+firstReadingGiven words room = andThen (measured words) (λ k. readingInto room (k .count) (verdict (minutesOf words)))
 
 -- "Entry of a reading: 6, byte count not a multiple of 3; then 7, number 0 or over a third of the count. The answer is the three bytes themselves
 -- in the caller's reading."

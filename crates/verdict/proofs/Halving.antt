@@ -9,6 +9,7 @@ use lib.ListN.{length}
 use lib.Seq.{take-length}
 use Rattle.rules.specs.Fixed.{fixedTest}
 use Rattle.rules.specs.Verdict.{prefix, breachMinute, article, verdict}
+use Rattle.rules.specs.Operations.{breached, findingOf}
 use Rattle.rules.specs.Opened.{opened}
 use Rattle.rules.proofs.Breach.{HasLawful, prefix-lawful, Breach, breach-is, breach-after, is-none}
 use Rattle.rules_fixed.specs.Account.{accountFrom, opening}
@@ -19,7 +20,6 @@ use Rattle.rules_reading.specs.Items.{spansFrom}
 use Rattle.verdict_completion.specs.States.{advance}
 use Rattle.verdict_completion.specs.Runs.{Runs}
 use Rattle.verdict_first_reading.specs.First.{restsOnly}
-use Rattle.verdict.specs.Outcomes.{broken, findingOf}
 use Rattle.verdict.specs.Verdicts.{HasKept, HasReading, Bound, firstRests, dayStart, DayReadable, LastDay}
 use Rattle.verdict.proofs.Lawfulness.{fixed-first, from-has}
 
@@ -76,7 +76,7 @@ module _ (ms : List ℕ) (n : HasReading ms → ⊥) where
   no-lawful : HasLawful ms → ⊥
   no-lawful h = n (from-has h)
 
-  finding : {m a : ℕ} → m ≡ breachMinute ms → a ≡ article (prefix m ms) → broken m a ≡ findingOf (verdict ms)
+  finding : {m a : ℕ} → m ≡ breachMinute ms → a ≡ article (prefix m ms) → breached m a ≡ findingOf (verdict ms)
   unfolding verdict
   finding {m} {a} e f = rw (is-none ms no-lawful, f, sym e) refl
 
@@ -108,13 +108,13 @@ module _ (ms : List ℕ) (n : HasReading ms → ⊥) where
   some-rule m zero e z = absurd (z refl)
   some-rule m (suc r) e z = rw e refl
 
-  pub breach-unfixed : {m : ℕ} → m ≡ breachMinute ms → first .rule ≡ 0 → broken m 6 ≡ findingOf (verdict ms)
+  pub breach-unfixed : {m : ℕ} → m ≡ breachMinute ms → first .rule ≡ 0 → breached m 6 ≡ findingOf (verdict ms)
   breach-unfixed {m} e z = finding e (no-rule m (first-least ms .none-broken z m))
 
-  pub breach-below : {m : ℕ} → m ≡ breachMinute ms → (first .rule ≡ 0 → ⊥) → m < first .at → broken m 6 ≡ findingOf (verdict ms)
+  pub breach-below : {m : ℕ} → m ≡ breachMinute ms → (first .rule ≡ 0 → ⊥) → m < first .at → breached m 6 ≡ findingOf (verdict ms)
   breach-below {m} e z l = finding e (no-rule m (first-least ms .before z m l))
 
-  pub breach-there : {m : ℕ} → m ≡ breachMinute ms → (first .rule ≡ 0 → ⊥) → first .at ≤ m → broken m (first .rule) ≡ findingOf (verdict ms)
+  pub breach-there : {m : ℕ} → m ≡ breachMinute ms → (first .rule ≡ 0 → ⊥) → first .at ≤ m → breached m (first .rule) ≡ findingOf (verdict ms)
   breach-there {m} e z l =
       let b = breach-is ms no-lawful in
       let q : m ≡ first .at = at-first b e z l in
@@ -139,12 +139,12 @@ module _ (ms : List ℕ) (n : HasReading ms → ⊥) where
     pub least-in-fixed : (f .rule ≡ 0 → ⊥) → Bound ms (f .at)
     least-in-fixed z = subst (λ (b : Break). Bound ms (b .at)) (sym q) (bound-fixed (broken-first z))
 
-    pub breach-whole : {m : ℕ} → f .rule ≡ 0 → m ≡ breachMinute ms → broken m 6 ≡ findingOf (verdict ms)
+    pub breach-whole : {m : ℕ} → f .rule ≡ 0 → m ≡ breachMinute ms → breached m 6 ≡ findingOf (verdict ms)
     breach-whole z e = breach-unfixed e (sym (ap (λ (b : Break). b .rule) q) ∙ z)
 
-    pub breach-under : {m : ℕ} → (f .rule ≡ 0 → ⊥) → m ≡ breachMinute ms → m < f .at → broken m 6 ≡ findingOf (verdict ms)
+    pub breach-under : {m : ℕ} → (f .rule ≡ 0 → ⊥) → m ≡ breachMinute ms → m < f .at → breached m 6 ≡ findingOf (verdict ms)
     breach-under {m} z e l = breach-below e (broken-first z) (subst (λ (b : Break). m < b .at) q l)
 
-    pub breach-here : {m : ℕ} → (f .rule ≡ 0 → ⊥) → m ≡ breachMinute ms → f .at ≤ m → broken m (f .rule) ≡ findingOf (verdict ms)
+    pub breach-here : {m : ℕ} → (f .rule ≡ 0 → ⊥) → m ≡ breachMinute ms → f .at ≤ m → breached m (f .rule) ≡ findingOf (verdict ms)
     breach-here {m} z e l =
-        ap (λ (b : Break). broken m (b .rule)) q ∙ breach-there e (broken-first z) (subst (λ (b : Break). b .at ≤ m) q l)
+        ap (λ (b : Break). breached m (b .rule)) q ∙ breach-there e (broken-first z) (subst (λ (b : Break). b .at ≤ m) q l)

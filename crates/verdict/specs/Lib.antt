@@ -1,2 +1,2 @@
-pub mod Outcomes
+pub mod Judgements
 pub mod Verdicts

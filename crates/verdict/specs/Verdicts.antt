@@ -19,19 +19,7 @@ use Rattle.rules.specs.ReadingRules.{weeklyGap}
 use Rattle.verdict_completion.specs.Completable.{Course, at, count}
 use Rattle.rules_fixed.specs.Nets.{netsOf}
 use Rattle.verdict_first_reading.specs.First.{KeptBy, Least, restsOnly}
-use Rattle.verdict.specs.Outcomes.{Finding, unbroken, broken}
 use Rattle.verdict.specs.declared.Rests.{Rests}
-use Rattle.verdict.specs.declared.Ruling.{Ruling}
-use Rattle.verdict.specs.declared.Ruling.the-variants as ruling
-
--- ---- what a ruling says
-abbrev pub findingIn : Ruling → Finding
-findingIn ruling.Lawful = unbroken
-findingIn (ruling.Unlawful b) = broken (b .minute) (b .article)
-
-abbrev pub isUnbroken : Finding → Bool
-isUnbroken unbroken = true
-isUnbroken (broken m a) = false
 
 -- where it is wanted the first reading of these rests that keeps rules 6 to 11 is written, and only there
 pub record WrittenIf (wanted : Bool) (c : Course) (old new : List ℕ) : Type 0 where

@@ -1,4 +1,5 @@
-// The verdict on a recording: a pass with its first lawful reading, or a breach with its minute and article.
+// Two operations on a recording: the verdict, a pass or a breach with its minute and article; and its first lawful reading.
+use recording::Filling;
 use recording::Measure;
 use recording::Weighing;
 use rules_fixed::Break;
@@ -7,18 +8,18 @@ ghost use mathlib.Core.Path.{_≡_};
 ghost use Prim.Native.Nat.{ℕ, _+_, _*_, _≤_, _<_};
 ghost use lib.ListN.{length};
 ghost use Rattle.recording.specs.Words.{minutesOf};
-ghost use Rattle.recording.specs.Answers.{answered};
-ghost use Rattle.recording.specs.Operations.{totalAtMost, measured};
+ghost use Rattle.recording.specs.Answers.{answered, counted, filled};
+ghost use Rattle.recording.specs.Operations.{totalAtMost, measured, written};
 ghost use Rattle.recording.specs.Rests.{longRestsAtMost};
 ghost use Rattle.rules.specs.Verdict.{breachMinute, verdict};
 ghost use Rattle.rules_fixed.specs.Account.{accountFrom, opening};
-ghost use Rattle.rules.specs.Operations.{verdictGiven, outcome, readingAfter};
+ghost use Rattle.rules.specs.Operations.{breached, findingOf, verdictGiven, firstReadingGiven};
 ghost use Rattle.rules.specs.Reading.{entryBytes};
 ghost use Rattle.verdict_completion.specs.Completable.{at, count, Lies};
 ghost use Rattle.verdict_first_reading.specs.First.{restsOnly};
-ghost use Rattle.verdict.specs.Outcomes.{outcomeBy, broken, findingOf, found, findingBy};
-ghost use Rattle.verdict.specs.Verdicts.{findingIn, InFront, Some, ByRule, HasReading, Bound, AllRests, Whole, dayStart, DayReadable};
-ghost use Rattle.verdict.specs.Verdicts.{LastDay, DayTop, Sooner, NextDemand, FirstWithout, laterOf, NextActive, isUnbroken, WrittenIf};
+ghost use Rattle.verdict.specs.Judgements.{findingBy};
+ghost use Rattle.verdict.specs.Verdicts.{InFront, Some, ByRule, HasReading, Bound, AllRests, Whole, dayStart, DayReadable};
+ghost use Rattle.verdict.specs.Verdicts.{LastDay, DayTop, Sooner, NextDemand, FirstWithout, laterOf, NextActive, WrittenIf};
 
 // A breach: the length of the shortest stretch without a lawful reading, and its article, 1 to 6.
 pub struct Breach {
@@ -26,24 +27,11 @@ pub struct Breach {
     pub article: u32,
 }
 
-// What the verdict answers; a pass with the count of bytes written.
-pub enum Outcome {
-    Refused(u32),
-    Passed(u32),
-    Breached(Breach),
-}
-
-// The verdict with no reading.
+// What the verdict answers.
 pub enum Judgement {
     Refused(u32),
-    Pass,
+    Passed,
     Breached(Breach),
-}
-
-// What the long rests of a recording come to: it has a lawful reading, or its breach.
-pub enum Ruling {
-    Lawful,
-    Unlawful(Breach),
 }
 
 // The long rests of a recording: how many, its judged end, the smallest fixed rule that it breaks, or 0, and the first such breach.
@@ -419,7 +407,7 @@ fn breach_of(
 ) -> Breach
     requires { ⌜ (length (minutesOf (now words)) ≤ totalAtMost) × (AllRests (minutesOf (now words)) (now starts) (now ends) (now nets))
         × (total ≡ length (minutesOf (now words))) × (first ≡ accountFrom opening (minutesOf (now words)) .first) × ((HasReading (minutesOf (now words)) → ⊥)) ⌝ }
-    ensures { λ r. ⌜ broken (r .minute) (r .article) ≡ findingOf (verdict (minutesOf (now (words .entry)))) ⌝ }
+    ensures { λ r. ⌜ breached (r .minute) (r .article) ≡ findingOf (verdict (minutesOf (now (words .entry)))) ⌝ }
 {
     if first.rule == 0 {
         let minute = least_without(
@@ -461,8 +449,8 @@ fn breach_of(
     }
 }
 
-// Whether a recording has a lawful reading, and its breach where it has none, from its long rests.
-fn ruling_of(
+// The verdict on a recording, from its long rests: a pass where they have a lawful reading, else its breach.
+fn judged_by(
     words: &[u32],
     starts: &[u32],
     ends: &[u32],
@@ -472,10 +460,10 @@ fn ruling_of(
     nogoods: &mut [u32],
     front: &mut [u32],
     other: &mut [u32],
-) -> Ruling
+) -> Judgement
     requires { ⌜ (length (minutesOf (now words)) ≤ totalAtMost) × (total ≡ length (minutesOf (now words)))
         × (Whole (minutesOf (now words)) (now starts) (now ends) (now nets) rests) ⌝ }
-    ensures { λ r. ⌜ findingIn r ≡ findingOf (verdict (minutesOf (now (words .entry)))) ⌝ }
+    ensures { λ r. ⌜ findingBy r ≡ answered (findingOf (verdict (minutesOf (now (words .entry))))) ⌝ }
 {
     let asked = lawful_by(
         starts,
@@ -488,7 +476,7 @@ fn ruling_of(
         other,
     );
     if asked.yes {
-        return Ruling::Lawful;
+        return Judgement::Passed;
     }
     let first = rests.first;
     let breach = breach_of(
@@ -503,18 +491,130 @@ fn ruling_of(
         front,
         other,
     );
-    Ruling::Unlawful(breach)
+    Judgement::Breached(breach)
 }
 
-// Whether a recording has a lawful reading.
-fn passes(ruling: Ruling) -> bool
-    ensures { λ r. ⌜ r ≡ isUnbroken (findingIn ruling) ⌝ }
+// ---- the verdict
+
+// The verdict on a recording with this measure. The nogoods and the fronts are room for the search, of any length.
+fn verdict_within(
+    words: &[u32],
+    measure: Measure,
+    nogoods: &mut [u32],
+    front: &mut [u32],
+    other: &mut [u32],
+) -> Judgement
+    requires { ⌜ measured (now words) ≡ answered measure ⌝ }
+    ensures { λ r. ⌜ findingBy r ≡ verdictGiven (now (words .entry)) ⌝ }
 {
-    match ruling {
-        Ruling::Lawful => true,
-        Ruling::Unlawful(_) => false,
-    }
+    let mut starts = [0u32; recording::LONG_RESTS];
+    let mut ends = [0u32; recording::LONG_RESTS];
+    let mut nets = [0u32; recording::LONG_RESTS];
+    let whole = rests_of(words, &mut starts, &mut ends, &mut nets);
+    let k = whole.count;
+    judged_by(
+        words,
+        &starts[..k],
+        &ends[..k],
+        &nets[..k],
+        measure.total,
+        whole,
+        nogoods,
+        front,
+        other,
+    )
 }
+
+// The same with room for few long rests.
+fn verdict_of_few(words: &[u32], measure: Measure) -> Judgement
+    requires { ⌜ measured (now words) ≡ answered measure ⌝ }
+    ensures { λ r. ⌜ findingBy r ≡ verdictGiven (now (words .entry)) ⌝ }
+{
+    let mut nogoods = [0u32; FEW_NOGOODS];
+    let mut front = [0u32; FEW_STATES];
+    let mut other = [0u32; FEW_STATES];
+    verdict_within(words, measure, &mut nogoods, &mut front, &mut other)
+}
+
+// The same with room for some long rests.
+fn verdict_of_some(words: &[u32], measure: Measure) -> Judgement
+    requires { ⌜ measured (now words) ≡ answered measure ⌝ }
+    ensures { λ r. ⌜ findingBy r ≡ verdictGiven (now (words .entry)) ⌝ }
+{
+    let mut nogoods = [0u32; SOME_NOGOODS];
+    let mut front = [0u32; SOME_STATES];
+    let mut other = [0u32; SOME_STATES];
+    verdict_within(words, measure, &mut nogoods, &mut front, &mut other)
+}
+
+// The same with room for many long rests.
+fn verdict_of_many(words: &[u32], measure: Measure) -> Judgement
+    requires { ⌜ measured (now words) ≡ answered measure ⌝ }
+    ensures { λ r. ⌜ findingBy r ≡ verdictGiven (now (words .entry)) ⌝ }
+{
+    let mut nogoods = [0u32; MANY_NOGOODS];
+    let mut front = [0u32; MANY_STATES];
+    let mut other = [0u32; MANY_STATES];
+    verdict_within(words, measure, &mut nogoods, &mut front, &mut other)
+}
+
+// The same with room for as many long rests as there can be.
+fn verdict_of_most(words: &[u32], measure: Measure) -> Judgement
+    requires { ⌜ measured (now words) ≡ answered measure ⌝ }
+    ensures { λ r. ⌜ findingBy r ≡ verdictGiven (now (words .entry)) ⌝ }
+{
+    let mut nogoods = [0u32; verdict_nogoods::TABLE_WORDS];
+    let mut front = [0u32; MOST_STATES];
+    let mut other = [0u32; MOST_STATES];
+    verdict_within(words, measure, &mut nogoods, &mut front, &mut other)
+}
+
+// The same with room by the number of long rests, so that a short recording does not bear the cost of what a long one needs.
+fn verdict_in_room(words: &[u32], measure: Measure) -> Judgement
+    requires { ⌜ measured (now words) ≡ answered measure ⌝ }
+    ensures { λ r. ⌜ findingBy r ≡ verdictGiven (now (words .entry)) ⌝ }
+{
+    let count = measure.count;
+    if count <= FEW {
+        return verdict_of_few(words, measure);
+    }
+    if count <= SOME {
+        return verdict_of_some(words, measure);
+    }
+    if count <= MANY {
+        return verdict_of_many(words, measure);
+    }
+    verdict_of_most(words, measure)
+}
+
+// The verdict: refusals 1 and 2.
+pub fn verdict(words: &[u32]) -> Judgement
+    ensures { λ r. ⌜ findingBy r ≡ verdictGiven (now (words .entry)) ⌝ }
+{
+    let weighing = recording::weigh(words);
+    let Weighing::Weighed(measure) = weighing else {
+        return Judgement::Refused(recording::refusal_of(weighing));
+    };
+    verdict_in_room(words, measure)
+}
+
+// The same with room for the search that the caller lends, of any length.
+pub fn verdict_lent(
+    words: &[u32],
+    nogoods: &mut [u32],
+    front: &mut [u32],
+    other: &mut [u32],
+) -> Judgement
+    ensures { λ r. ⌜ findingBy r ≡ verdictGiven (now (words .entry)) ⌝ }
+{
+    let weighing = recording::weigh(words);
+    let Weighing::Weighed(measure) = weighing else {
+        return Judgement::Refused(recording::refusal_of(weighing));
+    };
+    verdict_within(words, measure, nogoods, front, other)
+}
+
+// ---- the first lawful reading
 
 // The first reading of the long rests that keeps rules 6 to 11, where it is wanted; else the reading is left as it was.
 fn write_if(
@@ -550,9 +650,8 @@ fn write_if(
     }
 }
 
-// The verdict on a recording with this measure: refusal 4; a pass writes the first lawful reading. The nogoods and the four fronts are room for the
-// search, of any length.
-pub fn verdict_within(
+// The first lawful reading of a recording with this measure: refusal 4, then 13. The nogoods and the four fronts are room for the search, of any length.
+fn reading_within(
     words: &[u32],
     measure: Measure,
     reading: &mut [u8],
@@ -561,34 +660,32 @@ pub fn verdict_within(
     other: &mut [u32],
     known: &mut [u32],
     beside: &mut [u32],
-) -> Outcome
+) -> Filling
     requires { ⌜ measured (now words) ≡ answered measure ⌝ }
-    ensures { λ r. ⌜ (outcomeBy r ≡ outcome (verdictGiven (now (words .entry)) (length (now (reading .entry)))))
-        × (now (reading .exit) ≡ readingAfter (verdictGiven (now (words .entry)) (length (now (reading .entry)))) (now (reading .entry))) ⌝ }
+    ensures { λ r. ⌜ written r ≡ counted (firstReadingGiven (now (words .entry)) (length (now (reading .entry)))) ⌝ }
+    ensures { λ r. ⌜ now (reading .exit) ≡ filled (firstReadingGiven (now (words .entry)) (length (now (reading .entry)))) (now (reading .entry)) ⌝ }
 {
-    let total = measure.total;
     let count = measure.count;
     let size = rules_entries::ENTRY_BYTES * (count as usize);
     if reading.len() < size {
-        return Outcome::Refused(4);
+        return Filling::Refused(4);
     }
     let mut starts = [0u32; recording::LONG_RESTS];
     let mut ends = [0u32; recording::LONG_RESTS];
     let mut nets = [0u32; recording::LONG_RESTS];
     let whole = rests_of(words, &mut starts, &mut ends, &mut nets);
     let k = whole.count;
-    let ruling = ruling_of(
-        words,
+    let asked = lawful_by(
         &starts[..k],
         &ends[..k],
         &nets[..k],
-        total,
-        whole,
+        whole.judged,
+        whole.rule,
         nogoods,
         front,
         other,
     );
-    let pass = passes(ruling);
+    let pass = asked.yes;
     write_if(
         pass,
         &starts[..k],
@@ -602,24 +699,24 @@ pub fn verdict_within(
         known,
         beside,
     );
-    let Ruling::Unlawful(breach) = ruling else {
-        return Outcome::Passed(size as u32);
-    };
-    Outcome::Breached(breach)
+    if pass {
+        return Filling::Written(size as u32);
+    }
+    Filling::Refused(13)
 }
 
 // The same with room for few long rests.
-fn within_few(words: &[u32], measure: Measure, reading: &mut [u8]) -> Outcome
+fn reading_of_few(words: &[u32], measure: Measure, reading: &mut [u8]) -> Filling
     requires { ⌜ measured (now words) ≡ answered measure ⌝ }
-    ensures { λ r. ⌜ (outcomeBy r ≡ outcome (verdictGiven (now (words .entry)) (length (now (reading .entry)))))
-        × (now (reading .exit) ≡ readingAfter (verdictGiven (now (words .entry)) (length (now (reading .entry)))) (now (reading .entry))) ⌝ }
+    ensures { λ r. ⌜ written r ≡ counted (firstReadingGiven (now (words .entry)) (length (now (reading .entry)))) ⌝ }
+    ensures { λ r. ⌜ now (reading .exit) ≡ filled (firstReadingGiven (now (words .entry)) (length (now (reading .entry)))) (now (reading .entry)) ⌝ }
 {
     let mut nogoods = [0u32; FEW_NOGOODS];
     let mut front = [0u32; FEW_STATES];
     let mut other = [0u32; FEW_STATES];
     let mut known = [0u32; FEW_STATES];
     let mut beside = [0u32; FEW_STATES];
-    verdict_within(
+    reading_within(
         words,
         measure,
         reading,
@@ -632,17 +729,17 @@ fn within_few(words: &[u32], measure: Measure, reading: &mut [u8]) -> Outcome
 }
 
 // The same with room for some long rests.
-fn within_some(words: &[u32], measure: Measure, reading: &mut [u8]) -> Outcome
+fn reading_of_some(words: &[u32], measure: Measure, reading: &mut [u8]) -> Filling
     requires { ⌜ measured (now words) ≡ answered measure ⌝ }
-    ensures { λ r. ⌜ (outcomeBy r ≡ outcome (verdictGiven (now (words .entry)) (length (now (reading .entry)))))
-        × (now (reading .exit) ≡ readingAfter (verdictGiven (now (words .entry)) (length (now (reading .entry)))) (now (reading .entry))) ⌝ }
+    ensures { λ r. ⌜ written r ≡ counted (firstReadingGiven (now (words .entry)) (length (now (reading .entry)))) ⌝ }
+    ensures { λ r. ⌜ now (reading .exit) ≡ filled (firstReadingGiven (now (words .entry)) (length (now (reading .entry)))) (now (reading .entry)) ⌝ }
 {
     let mut nogoods = [0u32; SOME_NOGOODS];
     let mut front = [0u32; SOME_STATES];
     let mut other = [0u32; SOME_STATES];
     let mut known = [0u32; SOME_STATES];
     let mut beside = [0u32; SOME_STATES];
-    verdict_within(
+    reading_within(
         words,
         measure,
         reading,
@@ -655,17 +752,17 @@ fn within_some(words: &[u32], measure: Measure, reading: &mut [u8]) -> Outcome
 }
 
 // The same with room for many long rests.
-fn within_many(words: &[u32], measure: Measure, reading: &mut [u8]) -> Outcome
+fn reading_of_many(words: &[u32], measure: Measure, reading: &mut [u8]) -> Filling
     requires { ⌜ measured (now words) ≡ answered measure ⌝ }
-    ensures { λ r. ⌜ (outcomeBy r ≡ outcome (verdictGiven (now (words .entry)) (length (now (reading .entry)))))
-        × (now (reading .exit) ≡ readingAfter (verdictGiven (now (words .entry)) (length (now (reading .entry)))) (now (reading .entry))) ⌝ }
+    ensures { λ r. ⌜ written r ≡ counted (firstReadingGiven (now (words .entry)) (length (now (reading .entry)))) ⌝ }
+    ensures { λ r. ⌜ now (reading .exit) ≡ filled (firstReadingGiven (now (words .entry)) (length (now (reading .entry)))) (now (reading .entry)) ⌝ }
 {
     let mut nogoods = [0u32; MANY_NOGOODS];
     let mut front = [0u32; MANY_STATES];
     let mut other = [0u32; MANY_STATES];
     let mut known = [0u32; MANY_STATES];
     let mut beside = [0u32; MANY_STATES];
-    verdict_within(
+    reading_within(
         words,
         measure,
         reading,
@@ -678,17 +775,17 @@ fn within_many(words: &[u32], measure: Measure, reading: &mut [u8]) -> Outcome
 }
 
 // The same with room for as many long rests as there can be.
-fn within_most(words: &[u32], measure: Measure, reading: &mut [u8]) -> Outcome
+fn reading_of_most(words: &[u32], measure: Measure, reading: &mut [u8]) -> Filling
     requires { ⌜ measured (now words) ≡ answered measure ⌝ }
-    ensures { λ r. ⌜ (outcomeBy r ≡ outcome (verdictGiven (now (words .entry)) (length (now (reading .entry)))))
-        × (now (reading .exit) ≡ readingAfter (verdictGiven (now (words .entry)) (length (now (reading .entry)))) (now (reading .entry))) ⌝ }
+    ensures { λ r. ⌜ written r ≡ counted (firstReadingGiven (now (words .entry)) (length (now (reading .entry)))) ⌝ }
+    ensures { λ r. ⌜ now (reading .exit) ≡ filled (firstReadingGiven (now (words .entry)) (length (now (reading .entry)))) (now (reading .entry)) ⌝ }
 {
     let mut nogoods = [0u32; verdict_nogoods::TABLE_WORDS];
     let mut front = [0u32; MOST_STATES];
     let mut other = [0u32; MOST_STATES];
     let mut known = [0u32; MOST_STATES];
     let mut beside = [0u32; MOST_STATES];
-    verdict_within(
+    reading_within(
         words,
         measure,
         reading,
@@ -700,67 +797,62 @@ fn within_most(words: &[u32], measure: Measure, reading: &mut [u8]) -> Outcome
     )
 }
 
-// The same with room by the number of long rests, so that a short recording does not bear the cost of what a long one needs.
-fn in_room(words: &[u32], measure: Measure, reading: &mut [u8]) -> Outcome
+// The same with room by the number of long rests.
+fn reading_in_room(words: &[u32], measure: Measure, reading: &mut [u8]) -> Filling
     requires { ⌜ measured (now words) ≡ answered measure ⌝ }
-    ensures { λ r. ⌜ (outcomeBy r ≡ outcome (verdictGiven (now (words .entry)) (length (now (reading .entry)))))
-        × (now (reading .exit) ≡ readingAfter (verdictGiven (now (words .entry)) (length (now (reading .entry)))) (now (reading .entry))) ⌝ }
+    ensures { λ r. ⌜ written r ≡ counted (firstReadingGiven (now (words .entry)) (length (now (reading .entry)))) ⌝ }
+    ensures { λ r. ⌜ now (reading .exit) ≡ filled (firstReadingGiven (now (words .entry)) (length (now (reading .entry)))) (now (reading .entry)) ⌝ }
 {
     let count = measure.count;
     if count <= FEW {
-        return within_few(words, measure, reading);
+        return reading_of_few(words, measure, reading);
     }
     if count <= SOME {
-        return within_some(words, measure, reading);
+        return reading_of_some(words, measure, reading);
     }
     if count <= MANY {
-        return within_many(words, measure, reading);
+        return reading_of_many(words, measure, reading);
     }
-    within_most(words, measure, reading)
+    reading_of_most(words, measure, reading)
 }
 
-// The verdict with minute and article and no reading: refusals 1 and 2.
-pub fn judge(words: &[u32]) -> Judgement
-    ensures { λ r. ⌜ findingBy r ≡ found (now (words .entry)) ⌝ }
+// The first lawful reading: refusals 1 and 2, then 4, then 13 where the verdict is a breach; or the count of its bytes.
+pub fn first_reading(words: &[u32], reading: &mut [u8]) -> Filling
+    ensures { λ r. ⌜ written r ≡ counted (firstReadingGiven (now (words .entry)) (length (now (reading .entry)))) ⌝ }
+    ensures { λ r. ⌜ now (reading .exit) ≡ filled (firstReadingGiven (now (words .entry)) (length (now (reading .entry)))) (now (reading .entry)) ⌝ }
 {
     let weighing = recording::weigh(words);
     let Weighing::Weighed(measure) = weighing else {
-        return Judgement::Refused(recording::refusal_of(weighing));
+        return Filling::Refused(recording::refusal_of(weighing));
     };
-    let total = measure.total;
-    let mut starts = [0u32; recording::LONG_RESTS];
-    let mut ends = [0u32; recording::LONG_RESTS];
-    let mut nets = [0u32; recording::LONG_RESTS];
-    let rests = rests_of(words, &mut starts, &mut ends, &mut nets);
-    let k = rests.count;
-    let mut nogoods = [0u32; verdict_nogoods::TABLE_WORDS];
-    let mut front = [0u32; MOST_STATES];
-    let mut other = [0u32; MOST_STATES];
-    let ruling = ruling_of(
+    reading_in_room(words, measure, reading)
+}
+
+// The same with room for the search that the caller lends, of any length.
+pub fn first_reading_lent(
+    words: &[u32],
+    reading: &mut [u8],
+    nogoods: &mut [u32],
+    front: &mut [u32],
+    other: &mut [u32],
+    known: &mut [u32],
+    beside: &mut [u32],
+) -> Filling
+    ensures { λ r. ⌜ written r ≡ counted (firstReadingGiven (now (words .entry)) (length (now (reading .entry)))) ⌝ }
+    ensures { λ r. ⌜ now (reading .exit) ≡ filled (firstReadingGiven (now (words .entry)) (length (now (reading .entry)))) (now (reading .entry)) ⌝ }
+{
+    let weighing = recording::weigh(words);
+    let Weighing::Weighed(measure) = weighing else {
+        return Filling::Refused(recording::refusal_of(weighing));
+    };
+    reading_within(
         words,
-        &starts[..k],
-        &ends[..k],
-        &nets[..k],
-        total,
-        rests,
-        &mut nogoods,
-        &mut front,
-        &mut other,
-    );
-    let Ruling::Unlawful(breach) = ruling else {
-        return Judgement::Pass;
-    };
-    Judgement::Breached(breach)
-}
-
-// The verdict: refusals 1 and 2, then 4; a pass writes the first lawful reading.
-pub fn verdict(words: &[u32], reading: &mut [u8]) -> Outcome
-    ensures { λ r. ⌜ (outcomeBy r ≡ outcome (verdictGiven (now (words .entry)) (length (now (reading .entry)))))
-        × (now (reading .exit) ≡ readingAfter (verdictGiven (now (words .entry)) (length (now (reading .entry)))) (now (reading .entry))) ⌝ }
-{
-    let weighing = recording::weigh(words);
-    let Weighing::Weighed(measure) = weighing else {
-        return Outcome::Refused(recording::refusal_of(weighing));
-    };
-    in_room(words, measure, reading)
+        measure,
+        reading,
+        nogoods,
+        front,
+        other,
+        known,
+        beside,
+    )
 }

@@ -63,7 +63,9 @@ mod library {
             bytes_count: usize,
         ) -> u64;
 
-        pub fn desk_verdict(
+        pub fn desk_verdict(words: *const u32, words_count: usize) -> u64;
+
+        pub fn desk_first_reading(
             words: *const u32,
             words_count: usize,
             reading: *mut u8,
@@ -120,9 +122,13 @@ pub fn write_card(words: &[u32], bytes: &mut [u8]) -> u64 {
     }
 }
 
-pub fn verdict(words: &[u32], reading: &mut [u8]) -> u64 {
+pub fn verdict(words: &[u32]) -> u64 {
+    unsafe { library::desk_verdict(words.as_ptr(), words.len()) }
+}
+
+pub fn first_reading(words: &[u32], reading: &mut [u8]) -> u64 {
     unsafe {
-        library::desk_verdict(
+        library::desk_first_reading(
             words.as_ptr(),
             words.len(),
             reading.as_mut_ptr(),

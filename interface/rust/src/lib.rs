@@ -1,15 +1,35 @@
 //! The hours desk for Rust: the operations of documents 01 and 02, from the
 //! desk's static library.
 //!
+//! Pass or breach, for lane staff, with no buffer at all:
+//!
 //! ```
-//! use hours_desk::{verdict, Verdict, LONG_RESTS_AT_MOST};
+//! use hours_desk::{verdict, Verdict};
 //!
 //! // A word is 4 × minutes + activity: rest 0, availability 1, work 2, driving 3.
 //! let words = [4 * 240 + 3, 4 * 660, 4 * 60 + 2];
-//! let mut reading = [0; 3 * LONG_RESTS_AT_MOST];
-//! match verdict(&words, &mut reading) {
-//!     Ok(Verdict::Pass { written }) => assert_eq!(reading[..written], [0, 0, 0]),
+//! match verdict(&words) {
+//!     Ok(Verdict::Pass) => println!("pass"),
 //!     Ok(Verdict::Breach { minute, article }) => panic!("a breach at {minute}, {article}"),
+//!     Err(refusal) => panic!("refused, {}", refusal.number()),
+//! }
+//!
+//! // The driving after those three words is 30 minutes too long: rule 1, article 7.
+//! let breach = Verdict::Breach { minute: 1_231, article: 1 };
+//! assert_eq!(verdict(&[&words[..], &[4 * 300 + 3]].concat()), Ok(breach));
+//! ```
+//!
+//! The reading on request. A caller who wants both asks for the reading first, and
+//! for the verdict only where there is none:
+//!
+//! ```
+//! use hours_desk::{first_reading, verdict, Refusal, LONG_RESTS_AT_MOST};
+//!
+//! let words = [4 * 240 + 3, 4 * 660, 4 * 60 + 2];
+//! let mut reading = [0; 3 * LONG_RESTS_AT_MOST];
+//! match first_reading(&words, &mut reading) {
+//!     Ok(written) => assert_eq!(reading[..written], [0, 0, 0]), // a daily rest
+//!     Err(Refusal::NoLawfulReading) => panic!("a breach: {:?}", verdict(&words)),
 //!     Err(refusal) => panic!("refused, {}", refusal.number()),
 //! }
 //! ```
@@ -19,8 +39,8 @@
 //! and leaves what lies beyond.
 //!
 //! Nothing is kept between calls, so threads may call at the same time.
-//! Have 1 MiB of stack for [`verdict`]; the most that was measured is 671 KiB,
-//! on a recording made to take much.
+//! Have 1 MiB of stack for [`verdict`] and for [`first_reading`]; the most that
+//! was measured is 671 KiB, on a recording made to take much.
 //! The main thread and the threads of `std` have more, unless told otherwise.
 
 mod calls;
@@ -57,6 +77,8 @@ pub enum Refusal {
     DayForm = 11,
     /// The record has a change with the card out and the crew bit zero.
     UnknownActivity = 12,
+    /// The verdict is a breach, so there is no lawful reading.
+    NoLawfulReading = 13,
 }
 
 impl Refusal {
@@ -79,6 +101,7 @@ impl Refusal {
             10 => Refusal::TooFewBytes,
             11 => Refusal::DayForm,
             12 => Refusal::UnknownActivity,
+            13 => Refusal::NoLawfulReading,
             other => unreachable!("the desk has no refusal {other}"),
         }
     }
@@ -107,8 +130,8 @@ pub struct Span {
 /// What the verdict answers.
 #[derive(Clone, Copy, Debug, PartialEq, Eq)]
 pub enum Verdict {
-    /// The first lawful reading stands in the buffer, of so many bytes.
-    Pass { written: usize },
+    /// The recording has a lawful reading.
+    Pass,
     /// The least stretch without a lawful reading; and the smallest of rules 1
     /// to 5 broken there, or 6.
     Breach { minute: u32, article: u8 },
@@ -233,18 +256,28 @@ pub fn write_card(words: &[u32], bytes: &mut [u8]) -> Result<usize, Refusal> {
     count(calls::write_card(words, bytes))
 }
 
-/// The verdict. A pass writes the first lawful reading, three bytes for each
-/// long rest; a breach writes nothing.
-pub fn verdict(words: &[u32], reading: &mut [u8]) -> Result<Verdict, Refusal> {
-    let value = value(calls::verdict(words, reading))?;
+/// The verdict: pass or breach. The refusals are 1 and 2.
+///
+/// Where the reading of a pass is wanted too, ask for [`first_reading`] alone, and
+/// for this only if it refuses 13.
+pub fn verdict(words: &[u32]) -> Result<Verdict, Refusal> {
+    let value = value(calls::verdict(words))?;
     if value < ANSWER {
-        return Ok(Verdict::Pass {
-            written: value as usize,
-        });
+        return Ok(Verdict::Pass);
     }
     let breach = value - ANSWER;
     Ok(Verdict::Breach {
         minute: (breach / ARTICLES) as u32,
         article: (breach % ARTICLES) as u8,
     })
+}
+
+/// The first lawful reading, three bytes for each long rest, and the count of
+/// its bytes. The refusals are 1, 2 and 4, then 13 where the verdict is a breach.
+///
+/// What has a lawful reading is a pass, so whoever wants both asks here first, and
+/// for the [`verdict`] only on refusal 13: a pass then costs one search, and
+/// not two.
+pub fn first_reading(words: &[u32], reading: &mut [u8]) -> Result<usize, Refusal> {
+    count(calls::first_reading(words, reading))
 }

@@ -144,8 +144,12 @@ fn names() {
         .says("desk_weigh is missing\ndesk_weight is not in the source");
     edit(CALLS, "fn desk_list(", "fn desk_lists(")
         .says("desk_list is missing\ndesk_lists is not in the source");
-    edit(HEADER, "uint8_t *text, size_t text_count, uint32_t *words", "uint8_t *text, size_t text_count, uint32_t *word")
-        .says("desk_read_text has `word: uint32_t *`, by the source `words: uint32_t *`");
+    edit(
+        HEADER,
+        "uint8_t *text, size_t text_count, uint32_t *words",
+        "uint8_t *text, size_t text_count, uint32_t *word",
+    )
+    .says("desk_read_text has `word: uint32_t *`, by the source `words: uint32_t *`");
 }
 
 #[test]
@@ -174,14 +178,20 @@ fn types() {
     );
     edit(HEADER, "weigh(const uint32_t", "weigh(uint32_t")
         .says("desk_weigh has `words: uint32_t *`, by the source `words: const uint32_t *`");
-    edit(HEADER, "text_count, uint32_t *words", "text_count, const uint32_t *words")
-        .says("desk_read_text has `words: const uint32_t *`, by the source `words: uint32_t *`");
+    edit(
+        HEADER,
+        "text_count, uint32_t *words",
+        "text_count, const uint32_t *words",
+    )
+    .says("desk_read_text has `words: const uint32_t *`, by the source `words: uint32_t *`");
     edit(HEADER, "desk_span *list", "desk_span list")
         .says("desk_list has `list: struct desk_span`, by the source `list: struct desk_span *`");
     edit(CALLS, "weigh(words: *const u32", "weigh(words: *const u8")
         .says("desk_weigh has `words: *const u8`, by the source `words: *const u32`");
     edit(CALLS, "list: *mut Span", "list: *const Span")
         .says("desk_list has `list: *const Span`, by the source `list: *mut Span`");
+    edit(CALLS, "reading: *mut u8", "reading: *const u8")
+        .says("desk_first_reading has `reading: *const u8`, by the source `reading: *mut u8`");
 }
 
 #[test]

@@ -1,8 +1,9 @@
 //! Every operation on small inputs: answers, refusals, and what a buffer holds.
 
 use hours_desk::{
-    article_test, entry, entry_refusal, fixed_test, list_long_rests, read_card, read_text,
-    reading_test, verdict, weigh, write_card, write_text, Measure, Refusal, Span, Verdict,
+    article_test, entry, entry_refusal, first_reading, fixed_test, list_long_rests, read_card,
+    read_text, reading_test, verdict, weigh, write_card, write_text, Measure, Refusal, Span,
+    Verdict, LONG_RESTS_AT_MOST,
 };
 
 /// 240 of driving, 660 of rest, 60 of work, 2,700 of rest, a minute of work.
@@ -167,28 +168,70 @@ fn cards() {
 
 #[test]
 fn verdicts() {
-    let mut reading = [9; 8];
-    let pass = Verdict::Pass { written: 6 };
-    assert_eq!(verdict(&WORDS, &mut reading), Ok(pass));
-    assert_eq!(reading, [0, 0, 0, 0, 0, 0, 9, 9]);
-    let breach = Verdict::Breach {
-        minute: 901,
-        article: 5,
-    };
-    assert_eq!(verdict(&[4 * 901 + 2], &mut reading), Ok(breach));
-    assert_eq!(reading, [0, 0, 0, 0, 0, 0, 9, 9]);
-    let refused = verdict(&WORDS, &mut reading[..5]);
-    assert_eq!(refused, Err(Refusal::ReadingBufferTooShort));
-    assert_eq!(verdict(&[], &mut []), Ok(Verdict::Pass { written: 0 }));
+    assert_eq!(verdict(&WORDS), Ok(Verdict::Pass));
+    assert_eq!(verdict(&[]), Ok(Verdict::Pass));
+    let breach = |minute, article| Ok(Verdict::Breach { minute, article });
+    assert_eq!(verdict(&[4 * 901 + 2]), breach(901, 5));
+    assert_eq!(verdict(&[4 * 271 + 3]), breach(271, 1));
+    let days = [[4 * 840 + 2, 4 * 600]; 4].concat();
+    assert_eq!(verdict(&[&days[..], &[4 + 2]].concat()), breach(5_761, 6));
+    assert_eq!(verdict(&NO_MINUTES), Err(Refusal::NoMinutes));
+    assert_eq!(verdict(&TOO_LONG), Err(Refusal::TotalPassed));
 }
 
-/// Verdicts on four threads at a time, with the stack that `std` gives them.
+/// A long rest, then a day that is too long.
+const LATE: [u32; 2] = [4 * 540, 4 * 901 + 2];
+
+#[test]
+fn first_readings() {
+    let mut reading = [9; 8];
+    assert_eq!(first_reading(&WORDS, &mut reading), Ok(6));
+    assert_eq!(reading, [0, 0, 0, 0, 0, 0, 9, 9]);
+    let mut reading = [9; 6];
+    assert_eq!(first_reading(&WORDS, &mut reading), Ok(6));
+    assert_eq!(reading, [0; 6]);
+    assert_eq!(first_reading(&[], &mut []), Ok(0));
+    let most = [4 * 540, 4 + 2].repeat(LONG_RESTS_AT_MOST);
+    let mut short = [9; 3 * LONG_RESTS_AT_MOST - 1];
+    let refused = first_reading(&most, &mut short);
+    assert_eq!(refused, Err(Refusal::ReadingBufferTooShort));
+
+    let mut reading = [9; 8];
+    let mut refuses = |words: &[u32], room: usize, refusal| {
+        assert_eq!(first_reading(words, &mut reading[..room]), Err(refusal));
+        assert_eq!(reading, [9; 8]);
+    };
+    refuses(&NO_MINUTES, 0, Refusal::NoMinutes);
+    refuses(&TOO_LONG, 8, Refusal::TotalPassed);
+    refuses(&WORDS, 5, Refusal::ReadingBufferTooShort);
+    refuses(&WORDS, 0, Refusal::ReadingBufferTooShort);
+    refuses(&LATE, 2, Refusal::ReadingBufferTooShort);
+    refuses(&LATE, 3, Refusal::NoLawfulReading);
+    refuses(&LATE, 8, Refusal::NoLawfulReading);
+    refuses(&[4 * 901 + 2], 0, Refusal::NoLawfulReading);
+    assert_eq!(Refusal::NoLawfulReading.number(), 13);
+}
+
+/// A reading is written where the verdict is a pass, and only there.
+#[test]
+fn together() {
+    for words in [&WORDS[..], &LATE, &[], &[4 * 271 + 3], &[4 * 270 + 3]] {
+        let read = first_reading(words, &mut [0; 8]);
+        match verdict(words) {
+            Ok(Verdict::Pass) => assert!(read.is_ok()),
+            _ => assert_eq!(read, Err(Refusal::NoLawfulReading)),
+        }
+    }
+}
+
+/// Verdicts and readings on four threads at a time, with the stack that `std` gives
+/// them.
 #[test]
 fn threads() {
     let judged = || {
         (0..50).all(|_| {
-            let mut reading = [9; 6];
-            verdict(&WORDS, &mut reading) == Ok(Verdict::Pass { written: 6 })
+            let read = first_reading(&WORDS, &mut [9; 6]);
+            read == Ok(6) && verdict(&WORDS) == Ok(Verdict::Pass)
         })
     };
     let threads = [(); 4].map(|()| std::thread::spawn(judged));

@@ -3,11 +3,12 @@
 
 #![allow(dead_code)]
 
+use second::dice::Dice;
 use second::plain;
 use second::reading::Entry;
 use second::recording::{minutes, word, Activity, Recording, Span};
-use second::verdict::{verdict, Outcome, Verdict};
-use second::Limits;
+use second::verdict::{first_reading, verdict, Outcome, Verdict};
+use second::{Limits, Refusal};
 
 /// `"d135 r15 d135"` as words.
 pub fn words(shorthand: &str) -> Vec<u32> {
@@ -61,15 +62,18 @@ pub fn span(start: i64, end: i64) -> Span {
     Span { start, end }
 }
 
-/// The reading written by a pass, or the breach.
+/// The first lawful reading, or the breach.
 pub fn judged(words: &[u32]) -> Result<Vec<u8>, (i64, u8)> {
     let mut reading = vec![0xAA; 3 * 223];
-    match verdict(words, &mut reading).expect("no refusal") {
-        Verdict::Pass { written } => {
+    let first = first_reading(words, &mut reading);
+    match verdict(words).expect("no refusal") {
+        Verdict::Pass => {
+            let written = first.expect("a pass has a reading");
             assert!(reading[written..].iter().all(|&byte| byte == 0xAA));
             Ok(reading[..written].to_vec())
         }
         Verdict::Breach { minute, article } => {
+            assert_eq!(first, Err(Refusal::NoLawfulReading));
             assert!(reading.iter().all(|&byte| byte == 0xAA));
             Err((minute, article))
         }
@@ -116,6 +120,31 @@ pub fn tight_days(count: usize) -> String {
 /// So many days with a daily rest of eleven hours, then these runs.
 pub fn days(count: usize, then: &str) -> String {
     times(count, "w780 r660") + then + " "
+}
+
+/// Days of driving with breaks, some with a weekly rest after them; now and then a
+/// run longer or shorter.
+pub fn driving_days(dice: &mut Dice) -> Vec<u32> {
+    let days = [
+        "d270 r45 d270 r660",
+        "d270 r45 d270 r45 d60 r660",
+        "d240 r45 d240 r660",
+        "w120 d200 r660",
+        "w600 d120 r660",
+        "d270 r45 d270 r3000",
+    ];
+    let taste: Vec<u32> = (0..6).map(|_| dice.between(1, 6)).collect();
+    let seldom = dice.between(10, 400);
+    let mut recording = Vec::new();
+    for _ in 0..dice.between(6, 30) {
+        for mut word in words(days[dice.weighted(&taste)]) {
+            if dice.one_in(seldom) {
+                word = word % 4 + 4 * dice.between(word / 8, word / 4 + 100);
+            }
+            recording.push(word);
+        }
+    }
+    recording
 }
 
 /// The minutes of rest of figure 6 of source document 000, week by week: "The

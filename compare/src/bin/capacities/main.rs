@@ -1,11 +1,11 @@
-//! The verdict with fronts of 0, 1, 3 and 32 entries against the second
-//! program: the same answer and the same buffer, whatever fits into a front.
-//! The first difference ends it, with the smallest input that still shows it.
+//! The verdict and the first reading with fronts of 0, 1, 3 and 32 entries against
+//! the second program: the same answers and the same buffers, whatever fits into a
+//! front. The first difference ends it, with the smallest input that still shows it.
 //!
-//! A verdict that takes too long is left out with fronts of 0 or 1 entries,
-//! where nearly all is asked of the search behind them; the table says how
-//! many were. With the word `answer` the program answers questions from its
-//! input: it starts itself so, to be able to end a verdict.
+//! What takes too long is left out with fronts of 0 or 1 entries, where nearly
+//! all is asked of the search behind them; the table says how many were. With the
+//! word `answer` the program answers questions from its input: it starts itself
+//! so, to be able to end a search.
 
 mod process;
 mod table;
@@ -16,22 +16,22 @@ use std::time::{Duration, Instant};
 
 use compare::cases::{self, Plan};
 use compare::difference::Difference;
-use compare::inputs::verdicts_of_recording;
-use compare::operation::{second, Answer, Input, Operation, BREACH, PASS};
+use compare::inputs::{verdicts_of_recording, Try};
+use compare::operation::{second, Answer, Input, Operation, BREACH, NO_LAWFUL_READING};
 use compare::shrink;
-use process::{Asked, Library};
+use process::{Asked, Call, Library};
 use table::Table;
 
 /// How many entries the fronts have.
 const CAPACITIES: [u32; 4] = [0, 1, 3, 32];
 
-/// What a verdict may take before it is left out, where it may be.
+/// What an answer may take before it is left out, where it may be.
 const LEFT_OUT_AFTER: Duration = Duration::from_secs(1);
 
 /// What it may take elsewhere, on a slow machine too.
 const FAULT_AFTER: Duration = Duration::from_secs(60);
 
-/// Whether a verdict may be too slow: with next to no front, on recordings that
+/// Whether an answer may be too slow: with next to no front, on recordings that
 /// are made to be hard.
 fn may_be_left_out(entries: u32, kind: &str) -> bool {
     entries <= 1 && ["hard", "scarce", "climbed", "stored"].contains(&kind)
@@ -85,21 +85,23 @@ fn main() {
     }
     table.print();
     println!(
-        "{} verdicts, no difference, {:.0} seconds",
-        table.verdicts(),
+        "{} answers, no difference, {:.0} seconds",
+        table.answers(),
         began.elapsed().as_secs_f64()
     );
 }
 
 type Change = fn(&mut Answer);
 
-/// Answers changed on purpose, with fronts of so many entries.
+/// Answers to a call changed on purpose.
 struct Falsified {
-    entries: u32,
+    call: Call,
     change: Change,
 }
 
-/// Compares all verdicts of a plan, up to the first fault, which is told.
+/// Compares all answers of a plan, up to the first fault, which is told. Of the two
+/// operations on a recording the one that takes less is asked first: on a breach the
+/// first reading, on a pass the verdict. Where it is left out, so is the other.
 fn compare_all(
     plan: &Plan,
     library: &mut Library,
@@ -110,25 +112,42 @@ fn compare_all(
     cases::each_recording(plan, &mut |kind, recorded| {
         let row = table.row(kind);
         row.recordings += 1;
-        for attempt in verdicts_of_recording(recorded.dice, recorded.words) {
-            row.verdicts += 1;
-            let theirs = second(Operation::Verdict, &attempt.input);
-            for (column, entries) in row.columns.iter_mut().zip(CAPACITIES) {
+        let mut tries: Vec<(Try, Answer)> = verdicts_of_recording(recorded.dice, recorded.words)
+            .into_iter()
+            .map(|attempt| {
+                let theirs = second(attempt.operation, &attempt.input);
+                (attempt, theirs)
+            })
+            .collect();
+        tries.sort_by_key(|(_, theirs)| theirs.told.is_ok());
+        row.answers += tries.len();
+        for (column, entries) in row.columns.iter_mut().zip(CAPACITIES) {
+            let slow = may_be_left_out(entries, kind);
+            let mut too_slow = false;
+            for (attempt, theirs) in &tries {
+                if too_slow && theirs.is_judged() {
+                    column.left_out += 1;
+                    continue;
+                }
                 let before = Instant::now();
-                let slow = may_be_left_out(entries, kind);
-                let limit = if slow { LEFT_OUT_AFTER } else { FAULT_AFTER };
                 let question = Question {
-                    entries,
-                    limit,
+                    call: Call {
+                        operation: attempt.operation,
+                        entries,
+                    },
+                    limit: if slow { LEFT_OUT_AFTER } else { FAULT_AFTER },
                     falsified,
                 };
                 match question.ask(library, &attempt.input) {
-                    Asked::Answered(ours) if ours == theirs => {
+                    Asked::Answered(ours) if ours == *theirs => {
                         column.most = column.most.max(before.elapsed());
                     }
-                    Asked::TooSlow if slow => column.left_out += 1,
+                    Asked::TooSlow if slow => {
+                        column.left_out += 1;
+                        too_slow = true;
+                    }
                     wrong => {
-                        let shown = question.shown(library, attempt.input, wrong);
+                        let shown = question.shown(library, attempt.input.clone(), wrong);
                         fault = Some(format!("{kind}, {}:\n{shown}", attempt.variant));
                         return false;
                     }
@@ -140,17 +159,17 @@ fn compare_all(
     fault.map_or(Ok(()), Err)
 }
 
-/// How the library is asked for a verdict.
+/// How the library is asked.
 struct Question<'a> {
-    entries: u32,
+    call: Call,
     limit: Duration,
     falsified: Option<&'a Falsified>,
 }
 
 impl Question<'_> {
     fn ask(&self, library: &mut Library, input: &Input) -> Asked {
-        let mut asked = library.ask(self.entries, input, self.limit);
-        let falsified = self.falsified.filter(|wrong| wrong.entries == self.entries);
+        let mut asked = library.ask(self.call, input, self.limit);
+        let falsified = self.falsified.filter(|wrong| wrong.call == self.call);
         if let (Asked::Answered(answer), Some(wrong)) = (&mut asked, falsified) {
             (wrong.change)(answer);
         }
@@ -159,7 +178,7 @@ impl Question<'_> {
 
     /// What went wrong; a difference on the smallest input found.
     fn shown(&self, library: &mut Library, input: Input, wrong: Asked) -> String {
-        let entries = self.entries;
+        let entries = self.call.entries;
         match wrong {
             Asked::Answered(ours) => {
                 let difference = self.smallest(library, input, ours);
@@ -178,25 +197,26 @@ impl Question<'_> {
     }
 
     fn smallest(&self, library: &mut Library, input: Input, ours: Answer) -> Difference {
+        let operation = self.call.operation;
         let library = RefCell::new(library);
         let differing = |input: &Input| {
-            let theirs = second(Operation::Verdict, input);
+            let theirs = second(operation, input);
             match self.ask(&mut library.borrow_mut(), input) {
                 Asked::Answered(ours) if ours != theirs => Some((ours, theirs)),
                 _ => None,
             }
         };
         let differs = |input: &Input| differing(input).is_some();
-        let smaller = shrink::smallest(Operation::Verdict, input.clone(), &differs);
+        let smaller = shrink::smallest(operation, input.clone(), &differs);
         let (input, (ours, theirs)) = match differing(&smaller) {
             Some(answers) => (smaller, answers),
             None => {
-                let theirs = second(Operation::Verdict, &input);
+                let theirs = second(operation, &input);
                 (input, (ours, theirs))
             }
         };
         Difference {
-            operation: Operation::Verdict,
+            operation,
             input,
             ours,
             theirs,
@@ -206,33 +226,47 @@ impl Question<'_> {
 
 /// Each answer that is wrong on purpose must be noticed, at every capacity.
 fn self_test(library: &mut Library) {
-    let wrongs: [(&str, Change); 3] = [
-        ("a breach a minute late", |answer| {
+    let (verdict, first_reading) = (Operation::Verdict, Operation::FirstReading);
+    let wrongs: [(&str, Operation, Change); 4] = [
+        ("a breach a minute late", verdict, |answer| {
             if let Ok([BREACH, minute, _]) = answer.told.as_deref_mut() {
                 *minute += 1;
             }
         }),
-        ("a reading with another last byte", |answer| {
-            if let Ok([PASS, written]) = answer.told.as_deref() {
-                if let Some(last) = answer.lent_bytes[..*written as usize].last_mut() {
-                    *last ^= 1;
+        (
+            "a reading with another last byte",
+            first_reading,
+            |answer| {
+                if let Ok([written]) = answer.told.as_deref() {
+                    if let Some(last) = answer.lent_bytes[..*written as usize].last_mut() {
+                        *last ^= 1;
+                    }
                 }
-            }
-        }),
-        ("a byte beyond the reading", |answer| {
-            if let Ok([PASS, written]) = answer.told.as_deref() {
+            },
+        ),
+        ("a byte beyond the reading", first_reading, |answer| {
+            if let Ok([written]) = answer.told.as_deref() {
                 if let Some(byte) = answer.lent_bytes.get_mut(*written as usize) {
                     *byte = 0;
                 }
             }
         }),
+        ("a byte written on refusal 13", first_reading, |answer| {
+            if answer.told == Err(NO_LAWFUL_READING) {
+                if let Some(byte) = answer.lent_bytes.first_mut() {
+                    *byte = 0;
+                }
+            }
+        }),
     ];
-    for (name, change) in wrongs {
+    for (name, operation, change) in wrongs {
         for entries in CAPACITIES {
-            let falsified = Falsified { entries, change };
+            let call = Call { operation, entries };
+            let falsified = Falsified { call, change };
             let told = compare_all(&SELF_TEST, library, Some(&falsified), &mut Table::default());
             let fault = told.expect_err("a wrong answer is noticed");
-            let difference = format!("fronts of {entries} entries, a difference");
+            let operation = operation.name();
+            let difference = format!("fronts of {entries} entries, a difference in {operation}");
             assert!(fault.contains(&difference), "{name}: {fault}");
         }
         println!("noticed: {name}");

@@ -1,4 +1,4 @@
-//! The library in a process of its own, which is ended with a verdict that takes
+//! The library in a process of its own, which is ended with a search that takes
 //! too long.
 
 use std::io::{self, Read, Write};
@@ -6,7 +6,14 @@ use std::process::{Child, ChildStdin, ChildStdout, Command, Stdio};
 use std::sync::mpsc::{channel, Receiver, RecvTimeoutError, Sender};
 use std::time::Duration;
 
-use compare::operation::{answer, Answer, Input, BREACH, PASS};
+use compare::operation::{answer, Answer, Input, Operation, BREACH, PASS};
+
+/// The verdict or the first reading, with fronts of so many entries.
+#[derive(Clone, Copy, PartialEq, Eq)]
+pub struct Call {
+    pub operation: Operation,
+    pub entries: u32,
+}
 
 /// What came of a question.
 pub enum Asked {
@@ -16,7 +23,8 @@ pub enum Asked {
     Ended,
 }
 
-/// A code of `desk_verdict`, as in interface/desk.h, and the buffer after it.
+/// A code of `desk_verdict` or `desk_first_reading`, as in interface/desk.h, and the
+/// buffer after it.
 type Coded = (u64, Vec<u8>);
 
 /// The process that calls the library.
@@ -46,9 +54,9 @@ impl Library {
         }
     }
 
-    /// The verdict with fronts of so many entries, if it comes in time.
-    pub fn ask(&mut self, entries: u32, input: &Input, limit: Duration) -> Asked {
-        let sent = write_question(&mut self.questions, entries, input);
+    /// The answer to a call, if it comes in time.
+    pub fn ask(&mut self, call: Call, input: &Input, limit: Duration) -> Asked {
+        let sent = write_question(&mut self.questions, call, input);
         let came = match sent {
             Ok(()) => self.answers.recv_timeout(limit),
             Err(_) => Err(RecvTimeoutError::Disconnected),
@@ -67,11 +75,11 @@ impl Library {
             lent_bytes,
             ..input.clone()
         };
-        Asked::Answered(answer(told(code), after))
+        Asked::Answered(answer(told(call.operation, code), after))
     }
 }
 
-/// The process ends with it, also in the middle of a verdict.
+/// The process ends with it, also in the middle of a search.
 impl Drop for Library {
     fn drop(&mut self) {
         let _ = self.process.kill();
@@ -84,20 +92,28 @@ const UNIT: u64 = 1 << 48;
 
 /// The values of a code, or the number of its refusal; a code that the desk does
 /// not have stands for itself.
-fn told(code: u64) -> Result<Vec<u64>, u8> {
+fn told(operation: Operation, code: u64) -> Result<Vec<u64>, u8> {
     let value = code % UNIT;
-    match code / UNIT {
-        0 => u8::try_from(value).map_or(Ok(vec![code]), Err),
-        1 => Ok(vec![PASS, value]),
-        2 => Ok(vec![BREACH, value / 8, value % 8]),
+    match (code / UNIT, operation) {
+        (0, _) => u8::try_from(value).map_or(Ok(vec![code]), Err),
+        (1, Operation::FirstReading) => Ok(vec![value]),
+        (1, _) if value == 0 => Ok(vec![PASS]),
+        (2, Operation::Verdict) => Ok(vec![BREACH, value / 8, value % 8]),
         _ => Ok(vec![code]),
     }
 }
 
-/// Entries, the counts of words and of bytes, and those: four bytes a number.
-fn write_question(to: &mut impl Write, entries: u32, input: &Input) -> io::Result<()> {
+/// The operation, entries, the counts of words and of bytes, and those: four bytes
+/// a number.
+fn write_question(to: &mut impl Write, call: Call, input: &Input) -> io::Result<()> {
     let (words, reading) = (&input.words, &input.lent_bytes);
-    let head = [entries, words.len() as u32, reading.len() as u32];
+    let operation = call.operation as u32;
+    let head = [
+        operation,
+        call.entries,
+        words.len() as u32,
+        reading.len() as u32,
+    ];
     let numbers = head.iter().chain(words);
     let mut bytes: Vec<u8> = numbers.flat_map(|number| number.to_le_bytes()).collect();
     bytes.extend(reading);
@@ -105,10 +121,14 @@ fn write_question(to: &mut impl Write, entries: u32, input: &Input) -> io::Resul
     to.flush()
 }
 
-fn read_question(from: &mut impl Read) -> io::Result<(u32, Vec<u32>, Vec<u8>)> {
-    let (entries, words, bytes) = (read_number(from)?, read_number(from)?, read_number(from)?);
+fn read_question(from: &mut impl Read) -> io::Result<(Call, Vec<u32>, Vec<u8>)> {
+    let call = Call {
+        operation: Operation::ALL[read_number(from)? as usize],
+        entries: read_number(from)?,
+    };
+    let (words, bytes) = (read_number(from)?, read_number(from)?);
     let words: io::Result<_> = (0..words).map(|_| read_number(from)).collect();
-    Ok((entries, words?, read_bytes(from, bytes)?))
+    Ok((call, words?, read_bytes(from, bytes)?))
 }
 
 fn read_number(from: &mut impl Read) -> io::Result<u32> {
@@ -152,8 +172,11 @@ fn pass_on(mut output: ChildStdout, to: Sender<Coded>) {
 /// Answers questions by the library until there are no more.
 pub fn answer_all() {
     let (mut questions, mut answers) = (io::stdin().lock(), io::stdout().lock());
-    while let Ok((entries, words, mut reading)) = read_question(&mut questions) {
-        let code = verdict(&words, &mut reading, entries);
+    while let Ok((call, words, mut reading)) = read_question(&mut questions) {
+        let code = match call.operation {
+            Operation::FirstReading => first_reading(&words, &mut reading, call.entries),
+            _ => verdict(&words, call.entries),
+        };
         if write_answer(&mut answers, code, &reading).is_err() {
             return;
         }
@@ -161,7 +184,9 @@ pub fn answer_all() {
 }
 
 extern "C" {
-    fn capacity_verdict(
+    fn capacity_verdict(words: *const u32, words_count: usize, entries: u32) -> u64;
+
+    fn capacity_first_reading(
         words: *const u32,
         words_count: usize,
         reading: *mut u8,
@@ -172,9 +197,14 @@ extern "C" {
 
 /// The verdict with fronts of so many entries. A slice is what the library asks
 /// for, as in interface/desk.h; it takes any content and any number of entries.
-fn verdict(words: &[u32], reading: &mut [u8], entries: u32) -> u64 {
+fn verdict(words: &[u32], entries: u32) -> u64 {
+    unsafe { capacity_verdict(words.as_ptr(), words.len(), entries) }
+}
+
+/// The first reading, in the same way.
+fn first_reading(words: &[u32], reading: &mut [u8], entries: u32) -> u64 {
     unsafe {
-        capacity_verdict(
+        capacity_first_reading(
             words.as_ptr(),
             words.len(),
             reading.as_mut_ptr(),

@@ -4,7 +4,7 @@ use std::time::Duration;
 
 use crate::CAPACITIES;
 
-/// Verdicts at one capacity.
+/// Answers at one capacity.
 #[derive(Clone, Copy, Default)]
 pub struct Column {
     pub left_out: usize,
@@ -16,7 +16,7 @@ pub struct Column {
 pub struct Row {
     kind: &'static str,
     pub recordings: usize,
-    pub verdicts: usize,
+    pub answers: usize,
     pub columns: [Column; CAPACITIES.len()],
 }
 
@@ -39,11 +39,11 @@ impl Table {
         self.0.last_mut().expect("a row was found or made")
     }
 
-    /// How many verdicts were compared, at all capacities.
-    pub fn verdicts(&self) -> usize {
+    /// How many answers were compared, at all capacities.
+    pub fn answers(&self) -> usize {
         let left_out = |row: &Row| -> usize { row.columns.iter().map(|one| one.left_out).sum() };
         let rows = self.0.iter();
-        rows.map(|row| CAPACITIES.len() * row.verdicts - left_out(row))
+        rows.map(|row| CAPACITIES.len() * row.answers - left_out(row))
             .sum()
     }
 
@@ -52,13 +52,13 @@ impl Table {
         for entries in CAPACITIES {
             print!("{:>20}", format!("{entries} entries"));
         }
-        print!("\n{:22}{:>10}{:>10}", "", "recordings", "verdicts");
+        print!("\n{:22}{:>10}{:>10}", "", "recordings", "answers");
         for _ in CAPACITIES {
             print!("{:>20}", "left out, most ms");
         }
         println!();
         for row in &self.0 {
-            print!("{:22}{:10}{:10}", row.kind, row.recordings, row.verdicts);
+            print!("{:22}{:10}{:10}", row.kind, row.recordings, row.answers);
             for column in &row.columns {
                 let most = column.most.as_secs_f64() * 1e3;
                 print!("{:>20}", format!("{}, {most:8.1}", column.left_out));

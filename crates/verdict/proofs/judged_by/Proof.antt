@@ -1,12 +1,13 @@
--- `verdict::ruling_of` meets its contract. Assumes nothing.
+-- `verdict::judged_by` meets its contract. Assumes nothing.
 use borrow.Author.Needs.{needs}
 use denote.Ref.{now}
-use mathlib.Core.Path.{sym, _∙_}
+use mathlib.Core.Path.{sym, ap, _∙_}
+use Rattle.recording.specs.Answers.{answered}
 use Rattle.recording.specs.Words.{minutesOf}
 use Rattle.verdict.proofs.Lawfulness.{whole-rests, whole-lawful}
 use Rattle.verdict.proofs.Answers.{none-is, lawful-found}
-use Rattle.verdict.proofs.ruling_of.Statement.{statement}
-use Rattle.verdict.proofs.ruling_of.Tie as tie
+use Rattle.verdict.proofs.judged_by.Statement.{statement}
+use Rattle.verdict.proofs.judged_by.Tie as tie
 
 lawful-by-requires : tie.Need-lawful-by-requires
 lawful-by-requires c κs =
@@ -35,10 +36,10 @@ breach-of-requires c κs =
 returns-2 : tie.Need-returns-2
 returns-2 c =
     let at-breach-of = c .before .before .before .before .before .before in
-    at-breach-of .breach-of .ensures
+    ap answered (at-breach-of .breach-of .ensures)
 
-pub ruling-of-spec : {M : Type 1} → statement M
-ruling-of-spec =
+pub judged-by-spec : {M : Type 1} → statement M
+judged-by-spec =
     tie.close
     (tie.spec
     lawful-by-requires
