@@ -18,7 +18,7 @@
  *
  * Each promise stands with its function in crates/interface/src/lib.rt, and is proved. Nothing is kept between calls, so
  * threads may call at the same time, each on buffers that no other is using. Have 1 MiB of stack for desk_verdict and for
- * desk_first_reading; the most that was measured is 671 KiB, on a recording made to take much.
+ * desk_first_reading; the most that was measured is 670 KiB, on a recording made to take much.
  */
 #ifndef DESK_H
 #define DESK_H

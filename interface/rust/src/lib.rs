@@ -40,7 +40,7 @@
 //!
 //! Nothing is kept between calls, so threads may call at the same time.
 //! Have 1 MiB of stack for [`verdict`] and for [`first_reading`]; the most that
-//! was measured is 671 KiB, on a recording made to take much.
+//! was measured is 670 KiB, on a recording made to take much.
 //! The main thread and the threads of `std` have more, unless told otherwise.
 
 mod calls;
