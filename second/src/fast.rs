@@ -132,8 +132,3 @@ impl<'a> Judge<'a> {
         Search::new(self.course.limits, rests, self.course.judged_end(m))
     }
 }
-
-/// The verdict with its reading, on words that weighing does not turn away.
-pub fn outcome(words: &[u32], limits: &Limits) -> Outcome {
-    Judge::new(words, limits).outcome()
-}

@@ -1,9 +1,9 @@
 -- What each answer prints: of the verdict, of the reading of a text, and of a page that is handed over. Assumes nothing.
-use mathlib.Core.Path.{_≡_, refl, sym, ap, _∙_}
+use mathlib.Core.Path.{_≡_, refl, sym, ap, subst, _∙_}
 use mathlib.Core.Bool.{Bool, true, false}
-use mathlib.Core.List.{List, [], _∷_}
+use mathlib.Core.List.{List}
 use mathlib.Core.Option.{Option, none, some}
-use Prim.Native.Nat.{ℕ, zero, suc, _*_, _≤_, _<_}
+use Prim.Native.Nat.{ℕ, zero, _*_, _≤_, _<_}
 use native.Mathlib.Omega.{arith}
 use lib.ListN.{length, take, drop, replicate, length-append, length-take, length-replicate}
 use lib.Seq.{take-at}
@@ -100,9 +100,14 @@ breached-text ws {m} {a} e = at (verdict-given ws) e
         record { within = measured-is ws q .within; text = text-is ws q p ∙ (λ i. pageOf (minutesOf ws) (breach (f i) (g i))) }
 
 -- and where it is none, the refusal: the room is enough for any reading, so it is weighing's
+abbrev Unbreached : Answer Finding → Type 0
+Unbreached (refused n) = Unit {0}
+Unbreached (answered passed) = Unit {0}
+Unbreached (answered (breached m a)) = ⊥
+
 module _ (ws : List ℕ) (room : ℕ) (fits : entryBytes * longRestsAtMost ≤ room) where
-  refused-text : {n : ℕ} → firstReadingGiven ws room ≡ refused n → ((m a : ℕ) → verdictGiven ws ≡ answered (breached m a) → ⊥) → verdictText ws ≡ refusalPage n
-  refused-text {n} e unbroken = at (reading-given ws room) e
+  pub refused-text : {n : ℕ} {f : Answer Finding} → firstReadingGiven ws room ≡ refused n → f ≡ verdictGiven ws → Unbreached f → verdictText ws ≡ refusalPage n
+  refused-text {n} e told u = at (reading-given ws room) e
     where
       at : {g : Answer (List ℕ)} → ReadingGiven ws room g → g ≡ refused n → verdictText ws ≡ refusalPage n
       at (turned-away {n = m} q o) e = let y : m ≡ n = cc in text-refused ws q ∙ ap refusalPage y
@@ -110,14 +115,8 @@ module _ (ws : List ℕ) (room : ℕ) (fits : entryBytes * longRestsAtMost ≤ r
           let is = measured-is ws q in
           let c : k .count ≡ length (longRests (minutesOf ws)) = ap (λ (x : Measure). x .count) (is .is) in
           absurd (omega (arith, few-rests (minutesOf ws) (is .within)))
-      at (breaching q h p) e = absurd (unbroken _ _ (breach-given ws q p))
+      at (breaching q h p) e = absurd (subst Unbreached (told ∙ breach-given ws q p) u)
       at (reading q h p) e = let z : _≡_ {A = ℕ} 0 1 = cc in absurd (omega arith)
-
-  pub refused-both : {n m : ℕ} → firstReadingGiven ws room ≡ refused n → refused m ≡ verdictGiven ws → verdictText ws ≡ refusalPage n
-  refused-both e f = refused-text e (λ m a q. let z : _≡_ {A = ℕ} 0 1 = cc in absurd (omega arith))
-
-  pub never-passed : {n : ℕ} → firstReadingGiven ws room ≡ refused n → answered passed ≡ verdictGiven ws → verdictText ws ≡ refusalPage n
-  never-passed e f = refused-text e (λ m a q. let z : _≡_ {A = ℕ} 0 1 = cc in absurd (omega arith))
 
 pub verdict-size : (ws : List ℕ) → length (verdictText ws) ≤ pageAtMost
 verdict-size ws = at (measured ws) refl

@@ -3,7 +3,7 @@ use native.Mathlib.Omega.{arith}
 use mathlib.Core.Path.{sym, ap, _∙_}
 use Rattle.verdict.specs.Judgements.{findingBy}
 use Rattle.desk_report.specs.Composing.{readingRoom}
-use Rattle.desk_report.proofs.Answered.{breached-text, refused-both, never-passed}
+use Rattle.desk_report.proofs.Answered.{breached-text, refused-text}
 use borrow.Author.Needs.{needs}
 use Rattle.desk_report.proofs.unread_page.Statement.{statement}
 use Rattle.desk_report.proofs.unread_page.Tie as tie
@@ -17,14 +17,14 @@ returns : tie.Need-returns
 returns c =
     let told = sym (ap findingBy (c .before .before .before .before .enum-told .given .1)) ∙ c .before .before .before .before .before .before .verdict .ensures in
     let start = c .before .before .before .before .before .before .before .before .before in
-    rw (refused-both (start .args .words .now) readingRoom (omega arith) (start .pre) told) (c .before .before .refusal-page .ensures)
+    rw (refused-text (start .args .words .now) readingRoom (omega arith) (start .pre) told tt) (c .before .before .refusal-page .ensures)
 
 -- the first reading was refused, so it is no pass
 returns-2 : tie.Need-returns-2
 returns-2 c =
     let told = sym (ap findingBy (c .before .before .before .before .enum-told2 .given .1)) ∙ c .before .before .before .before .before .before .verdict .ensures in
     let start = c .before .before .before .before .before .before .before .before .before in
-    rw (never-passed (start .args .words .now) readingRoom (omega arith) (start .pre) told) (c .before .before .refusal-page2 .ensures)
+    rw (refused-text (start .args .words .now) readingRoom (omega arith) (start .pre) told tt) (c .before .before .refusal-page2 .ensures)
 
 returns-3 : tie.Need-returns-3
 returns-3 c =
