@@ -17,7 +17,7 @@ use Rattle.recording.proofs.TestLaws.{clash}
 use Rattle.recording.proofs.LongRests.{few-rests}
 use Rattle.recording.proofs.Listing.{measured-is}
 use Rattle.rules.specs.Reading.{entryBytes, readingSize}
-use Rattle.rules.specs.Verdict.{prefix, isNone, firstLawful, breachMinute, article, Verdict, pass, breach, verdictBy, verdict}
+use Rattle.rules.specs.Verdict.{prefix, isNone, firstLawful, breachMinute, article, Verdict, breach, verdictBy, verdict}
 use Rattle.rules.specs.Operations.{Finding, passed, findingOf, verdictGiven, readingOf, firstReadingGiven}
 use Rattle.rules.proofs.Breach.{verdict-pass, some-first}
 use Rattle.rules.proofs.EntryLaws.{first-size}

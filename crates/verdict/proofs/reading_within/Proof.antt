@@ -2,8 +2,7 @@
 use borrow.Author.Needs.{needs}
 use denote.Ref.{now}
 use native.Mathlib.Omega.{arith}
-use mathlib.Core.Path.{_≡_, sym, _∙_}
-use mathlib.Core.Bool.{true, false}
+use mathlib.Core.Path.{sym, _∙_}
 use Rattle.verdict.proofs.Answers.{within, count-few, rests-there, asked-there, least-there, told-short, told-none, told-pass, front-size, front-reading}
 use Rattle.verdict.proofs.Lawfulness.{starts-size, ends-size, nets-size, reading-there}
 use Rattle.verdict.proofs.reading_within.Statement.{statement}
