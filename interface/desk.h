@@ -11,14 +11,14 @@
  *    4 the reading buffer is too short           11 the record is not of the form, or the recording not of whole days
  *    5 m is over the total                       12 the record has an unknown activity
  *    6 the reading has the wrong byte count      13 the verdict is a breach, so there is no lawful reading
- *    7 the reading has no entry of that number
+ *    7 the reading has no entry of that number   14 the list of weeks is too short
  * Otherwise the operation answered, and the macros below give its value. Only desk_entry_refusal answers with a bare
  * number. On a refusal every buffer is as it was. An operation that fills a buffer writes from its start and leaves what
  * lies beyond.
  *
  * Each promise stands with its function in crates/interface/src/lib.rt, and is proved. Nothing is kept between calls, so
- * threads may call at the same time, each on buffers that no other is using. Have 1 MiB of stack for desk_verdict and for
- * desk_first_reading; the most that was measured is 670 KiB, on a recording made to take much.
+ * threads may call at the same time, each on buffers that no other is using. Have 1 MiB of stack for desk_verdict,
+ * desk_first_reading and desk_breach_spans; the most that was measured is 670 KiB, on a recording made to take much.
  */
 #ifndef DESK_H
 #define DESK_H
@@ -35,6 +35,10 @@ extern "C" {
 /* A recording has at most so many long rests, so lists of this length and readings of three times as many bytes are never
  * too short. */
 #define DESK_LONG_RESTS_AT_MOST 223
+
+/* A recording has at most so many weeks, and desk_breach_spans writes at most one record for each first week, so lists of this
+ * length are never too short for it. */
+#define DESK_WEEKS_AT_MOST 12
 
 /* Whether an answer is one, and not a refusal; then its value: a count, a rule, or a place: an entry's in its reading, from 0,
  * or an article's in the regulation's order, from 1. */
@@ -105,6 +109,17 @@ uint64_t desk_verdict(const uint32_t *words, size_t words_count);
  * To have both, ask for the reading first, and for the verdict only on refusal 13: what has a lawful reading is a pass, so
  * that a pass then costs one search, and not two. */
 uint64_t desk_first_reading(const uint32_t *words, size_t words_count, uint8_t *reading, size_t reading_count);
+
+/* A record of a list: the weeks from first to last, both included. Weeks are numbered from 0. */
+struct desk_weeks {
+    uint32_t first;
+    uint32_t last;
+};
+
+/* Which weeks make a breach together: the spans of consecutive weeks, each judged as a recording of its own, that are a
+ * breach while no shorter span inside is one, by first week, then last, one record each; refusal 1, 2, or 14 where the list
+ * has fewer records. The value is their count. A span goes from a Monday to a Sunday, or to N in the last week. */
+uint64_t desk_breach_spans(const uint32_t *words, size_t words_count, struct desk_weeks *list, size_t list_count);
 
 #ifdef __cplusplus
 }

@@ -1,15 +1,17 @@
 //! The desk and the second program side by side on the same recordings. Their answers must be equal.
 //!
 //! The desk is asked as by a caller who wants the reading too: for the first reading and, where there is none, for the verdict; and for the
-//! verdict alone, as lane staff do.
+//! verdict alone, as lane staff do. The breach spans are asked for on twelve weeks, ordinary and hard ones.
 //!
 //! Without a word: the time of both on each kind of recording, and of reading and writing a card. `files FOLDER` writes the recordings into a
-//! file for each kind, and `count desk FILE`, `count verdict FILE` or `count second FILE` judges those of a file once each; `card card_read desk`
-//! and its like read or write each card once: bench/run counts their instructions.
+//! file for each kind, and `count desk FILE`, `count verdict FILE` or `count second FILE` judges those of a file once each; `count spans FILE`,
+//! `count spans_second FILE` and `count mondays FILE` are for the breach spans; `card card_read desk` and its like read or write each card once:
+//! bench/run counts their instructions.
 
 mod card;
 mod desk;
 mod files;
+mod spans;
 
 use std::env::args;
 use std::hint::black_box;
@@ -38,37 +40,59 @@ fn main() {
     let words: Vec<String> = args().skip(1).collect();
     let words: Vec<&str> = words.iter().map(String::as_str).collect();
     match words[..] {
-        [] => {
-            println!("microseconds  recordings passes  desk median    most  second median    most  ratio of medians");
-            let alone: Vec<String> = (kinds().iter())
-                .map(|(kind, recordings)| time(kind, recordings))
-                .collect();
-            for name in ["card_read", "card_write"] {
-                let times = |program| card::times(card::call(name, program));
-                line(name, "-", &sorted(times("desk")), &sorted(times("second")));
-            }
-            println!("\nverdict alone recordings passes      median    mean    most  ratio to the desk above, medians, means");
-            alone.iter().for_each(|line| println!("{line}"));
-        }
+        [] => times(),
         ["files", folder] => {
             for (kind, recordings) in kinds().iter().chain(&by_weeks()) {
                 files::write(&Path::new(folder).join(kind), recordings);
             }
         }
-        ["count", "desk", file] => files::read(Path::new(file))
-            .iter()
-            .for_each(|words| counted_desk(words)),
-        ["count", "verdict", file] => files::read(Path::new(file))
-            .iter()
-            .for_each(|words| counted_verdict(words)),
-        ["count", "second", file] => files::read(Path::new(file))
-            .iter()
-            .for_each(|words| counted_second(words)),
+        ["count", name, file] => {
+            let recordings = files::read(Path::new(file));
+            recordings.iter().for_each(|words| counted(name, words));
+        }
         ["card", name, program] => drop(card::times(card::call(name, program))),
         _ => {
-            eprintln!("bench, bench files FOLDER, bench count desk|verdict|second FILE, bench card NAME PROGRAM");
+            eprintln!("bench, bench files FOLDER, bench count NAME FILE, bench card NAME PROGRAM");
             exit(2);
         }
+    }
+}
+
+fn times() {
+    let kinds = kinds();
+    println!("microseconds  recordings passes  desk median    most  second median    most  ratio of medians");
+    let alone: Vec<String> = (kinds.iter())
+        .map(|(kind, recordings)| time(kind, recordings))
+        .collect();
+    for name in ["card_read", "card_write"] {
+        let times = |program| card::times(card::call(name, program));
+        line(name, "-", &sorted(times("desk")), &sorted(times("second")));
+    }
+    println!("\nverdict alone recordings passes      median    mean    most  ratio to the desk above, medians, means");
+    alone.iter().for_each(|line| println!("{line}"));
+    println!("\nbreach spans  recordings  spans  desk median    most  second median    most  ratio of medians  by Mondays, median    most  desk to these, medians, means");
+    let weeks = by_weeks();
+    for name in SPANS {
+        let all = kinds.iter().chain(&weeks);
+        for (kind, recordings) in all.filter(|(kind, _)| kind == name) {
+            spans::time(kind, recordings);
+        }
+    }
+}
+
+/// The kinds whose breach spans are asked for.
+const SPANS: [&str; 3] = ["weeks12", "hard", "deep"];
+
+/// Calls the function that is counted by this name.
+fn counted(name: &str, words: &[u32]) {
+    match name {
+        "desk" => counted_desk(words),
+        "verdict" => counted_verdict(words),
+        "second" => counted_second(words),
+        "spans" => spans::counted_spans(words),
+        "spans_second" => spans::counted_spans_second(words),
+        "mondays" => spans::counted_mondays(&spans::mondays(words)),
+        _ => panic!("nothing is counted by {name}"),
     }
 }
 
@@ -181,7 +205,6 @@ fn time(kind: &str, recordings: &[Vec<u32>]) -> String {
     }
     let (ours, alone) = (sorted(ours), sorted(alone));
     line(kind, &passes.to_string(), &ours, &sorted(theirs));
-    let mean = |times: &[f64]| times.iter().sum::<f64>() / times.len() as f64;
     let n = alone.len();
     format!(
         "{kind:13} {n:10} {passes:>6} {:11.0} {:7.0} {:7.0} {:33.2}, {:5.2}",
@@ -191,6 +214,10 @@ fn time(kind: &str, recordings: &[Vec<u32>]) -> String {
         alone[n / 2] / ours[n / 2],
         mean(&alone) / mean(&ours),
     )
+}
+
+fn mean(times: &[f64]) -> f64 {
+    times.iter().sum::<f64>() / times.len() as f64
 }
 
 fn sorted(mut times: Vec<f64>) -> Vec<f64> {

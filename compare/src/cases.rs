@@ -7,6 +7,7 @@ use crate::cards;
 use crate::edges;
 use crate::inputs::{self, Room, Try};
 use crate::recordings;
+use crate::weeks;
 
 /// How many recordings of each kind, and how many readings for the entry.
 pub struct Plan {
@@ -24,6 +25,9 @@ pub struct Plan {
     pub climbed: u64,
     /// Of the stored recordings, which are hard for a search, the first so many.
     pub stored: usize,
+    /// Of the recordings of several weeks, which are for the breach spans alone, so many
+    /// of the kind that takes the longest, and of others by their share.
+    pub weeks: u64,
     pub entries: u64,
 }
 
@@ -61,6 +65,7 @@ pub fn each(plan: &Plan, visit: Visit) -> bool {
             } = recorded;
             all(kind, inputs::of_recording(dice, words, readings), visit)
         })
+        && each_weeks(plan, visit)
 }
 
 /// Visits the recordings, the shorter kinds first; whether it came to the end.
@@ -155,6 +160,19 @@ fn card_records(visit: Visit) -> bool {
 fn each_entry(plan: &Plan, visit: Visit) -> bool {
     let mut dice = Dice::new(103);
     (0..plan.entries).all(|_| all("readings", inputs::entries(&mut dice), visit))
+}
+
+/// Recordings of several weeks, and the stored ones, for the breach spans alone.
+fn each_weeks(plan: &Plan, visit: Visit) -> bool {
+    let visit = &mut |kind, recorded: Recorded| {
+        let tries = inputs::spans_of_recording(recorded.dice, recorded.words);
+        all(kind, tries, visit)
+    };
+    let mut kinds = (12..).zip(weeks::KINDS);
+    kinds.all(|(seed, kind)| {
+        let count = kind.share * plan.weeks;
+        recordings_of(count, seed, kind.name, kind.make, visit)
+    }) && stored(plan, visit)
 }
 
 fn recordings_of(

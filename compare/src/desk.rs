@@ -31,6 +31,9 @@ pub fn desk(operation: Operation, input: &Input) -> Answer {
             }
         }),
         Operation::FirstReading => hours_desk::first_reading(words, &mut after.lent_bytes).map(one),
+        Operation::BreachSpans => {
+            desk_spans(words, &mut after.lent_words, &mut after.lent_ends).map(one)
+        }
     };
     answer(told.map_err(hours_desk::Refusal::number), after)
 }
@@ -48,6 +51,23 @@ fn desk_list(
     for (index, span) in list.iter().enumerate() {
         starts[index] = span.start;
         ends[index] = span.end;
+    }
+    told
+}
+
+/// In the same way the first and the last weeks.
+fn desk_spans(
+    words: &[u32],
+    firsts: &mut [u32],
+    lasts: &mut [u32],
+) -> Result<usize, hours_desk::Refusal> {
+    let mut list: Vec<hours_desk::Weeks> = (firsts.iter().zip(lasts.iter()))
+        .map(|(&first, &last)| hours_desk::Weeks { first, last })
+        .collect();
+    let told = hours_desk::breach_spans(words, &mut list);
+    for (index, weeks) in list.iter().enumerate() {
+        firsts[index] = weeks.first;
+        lasts[index] = weeks.last;
     }
     told
 }

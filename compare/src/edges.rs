@@ -119,6 +119,7 @@ pub fn constants() -> Vec<Edge> {
         edges.extend(loads(change));
         edges.extend(readings(change));
         edges.extend(weekly_rests(change));
+        edges.extend(weeks(change));
         edges.extend(whole_days(change));
     }
     edges
@@ -418,6 +419,42 @@ fn weekly_rests(change: i64) -> Vec<Edge> {
     ]
     .map(whole)
     .into()
+}
+
+/// Weeks that are judged apart: a breach about a Monday 00:00, a rest cut there, as much
+/// driving as two weeks may have, and a fault in the first week, the last or each.
+fn weeks(change: i64) -> Vec<Edge> {
+    let at = |edge: i64| edge + change;
+    let mut edges: Vec<Edge> = [
+        format!("r{} d271", at(9_810)),
+        format!("r{} d541", at(9_810)),
+        format!("r{} w901", at(9_180)),
+        format!("r{} w901", at(10_080)),
+        format!("w901 r{}", at(9_179)),
+        format!("w901 r{} w901", at(9_179)),
+        format!("r{} d271 r9809 d271 r9809 d271", at(9_809)),
+        times(12, &format!("d271 r{}", 9_809 - change.abs())),
+        format!("w{}", at(10_080)),
+        format!("w{}", at(20_160)),
+    ]
+    .iter()
+    .map(|shorthand| edge(shorthand))
+    .collect();
+    let driven = |weeks: [i64; 3]| weeks.map(|driving| driving_week(driving as u32)).concat();
+    edges.extend(
+        [
+            driven([2_700, at(2_700), 2_700]),
+            driven([at(2_700), 2_700, at(2_700)]),
+            driven([2_040, at(3_360), 2_040]),
+            around(&[span(9_080, 10_080 + at(540))], 20_160),
+            around(&[span(8_640, at(11_520))], 20_160),
+            around(&[span(at(8_640), 11_520)], 20_160),
+            around(&[span(7_380, 10_080), span(at(17_460), 20_160)], 30_240),
+            around(&[span(8_640, 12_780), span(17_460, at(20_160))], at(30_240)),
+        ]
+        .map(whole),
+    );
+    edges
 }
 
 /// Days of 1,440 minutes, and changes about midnight.

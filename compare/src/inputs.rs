@@ -10,6 +10,11 @@ use second::Limits;
 
 use crate::cards;
 use crate::operation::{Input, Operation};
+use crate::spans;
+
+/// A recording that takes so many steps of a search is asked for its breach spans one
+/// time in four: they take a search from each Monday on.
+const MANY_STEPS: u64 = 2_000;
 
 /// An input, and what is tried by it.
 pub struct Try {
@@ -134,6 +139,17 @@ pub fn verdicts_of_recording(dice: &mut Dice, words: &[u32]) -> Vec<Try> {
     tries
 }
 
+/// The breach spans of a recording, with room enough for them and without.
+pub fn spans_of_recording(dice: &mut Dice, words: &[u32]) -> Vec<Try> {
+    let recording = Input {
+        words: words.to_vec(),
+        ..Input::default()
+    };
+    let mut tries = Vec::new();
+    spans(dice, &recording, &mut tries);
+    tries
+}
+
 /// Words that weighing turns away, with any buffers.
 fn turned_away(dice: &mut Dice, recording: &Input, tries: &mut Vec<Try>) {
     for operation in [
@@ -145,6 +161,7 @@ fn turned_away(dice: &mut Dice, recording: &Input, tries: &mut Vec<Try>) {
         Operation::WriteCard,
         Operation::Verdict,
         Operation::FirstReading,
+        Operation::BreachSpans,
     ] {
         let mut length = || dice.below(9) as usize;
         let (words, ends, bytes, lent_bytes) = (length(), length(), length(), length());
@@ -190,6 +207,9 @@ fn weighed(dice: &mut Dice, recording: &Input, readings: &[Vec<u8>], tries: &mut
     }
     texts(dice, recording, tries);
     cards::of_recording(dice, recording, tries);
+    if judge.steps < MANY_STEPS || dice.one_in(4) {
+        spans(dice, recording, tries);
+    }
 }
 
 fn list(dice: &mut Dice, recording: &Input, count: usize, tries: &mut Vec<Try>) {
@@ -390,6 +410,24 @@ fn up_to_the_breach(dice: &mut Dice, recording: &Input, breach: u32, tries: &mut
     };
     for operation in [Operation::Verdict, Operation::FirstReading] {
         tries.push(attempt(operation, "up to the breach", input.clone()));
+    }
+}
+
+/// The breach spans, with room enough and, where there are any, without.
+fn spans(dice: &mut Dice, recording: &Input, tries: &mut Vec<Try>) {
+    let need = spans::count(&recording.words);
+    let enough = one_of(dice, &[Room::JustFits, Room::Longer]);
+    let too_few = one_of(dice, &[Room::ShortByOne, Room::Empty]);
+    let rooms = [enough, too_few];
+    for room in &rooms[..need.min(1) + 1] {
+        let records = room.length(dice, need);
+        let input = Input {
+            lent_words: lent(dice, records),
+            lent_ends: lent(dice, records),
+            ..recording.clone()
+        };
+        let variant = beside(records, need);
+        tries.push(attempt(Operation::BreachSpans, variant, input));
     }
 }
 

@@ -15,5 +15,7 @@ mod recordings;
 #[path = "../../second/tests/shorthand/mod.rs"]
 mod shorthand;
 pub mod shrink;
+pub mod spans;
 pub mod split_rest;
 pub mod tally;
+mod weeks;

@@ -33,6 +33,7 @@ fn main() {
         scarce: 200,
         climbed: 60,
         stored: 3,
+        weeks: 120,
         entries: 20_000,
     };
     let mut tally = Tally::default();

@@ -9,6 +9,7 @@ use crate::article_order;
 use crate::cards::split_at;
 use crate::first_part;
 use crate::operation::{second, Answer, Input, Operation};
+use crate::spans;
 use crate::split_rest;
 
 /// A wrong word on a rule, or on an order of them. An input that it bears on is counted
@@ -30,7 +31,7 @@ pub struct About {
     pub mistakes: &'static [Mistake],
 }
 
-pub const REQUESTS: [About; 3] = [
+pub const REQUESTS: [About; 4] = [
     About {
         title: "first part by mistake",
         mistakes: &[first_part::ANY_REST, first_part::SINCE_MINUTE_0],
@@ -42,6 +43,14 @@ pub const REQUESTS: [About; 3] = [
     About {
         title: "articles by mistake",
         mistakes: &[article_order::BY_NUMBER],
+    },
+    About {
+        title: "spans by mistake",
+        mistakes: &[
+            spans::WITH_ONE_INSIDE,
+            spans::NOT_BY_ITSELF,
+            spans::NO_PART_WEEK,
+        ],
     },
 ];
 

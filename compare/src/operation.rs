@@ -1,8 +1,11 @@
 //! An operation with its input, and what the second program answers to it.
 
 use second::recording::Span;
+use second::spans::Terms;
 use second::verdict::{Outcome, Verdict};
 use second::Refusal;
+
+use crate::spans;
 
 /// The operations of documents 01 and 02.
 #[derive(Clone, Copy, Debug, PartialEq, Eq)]
@@ -20,10 +23,11 @@ pub enum Operation {
     WriteCard,
     Verdict,
     FirstReading,
+    BreachSpans,
 }
 
 impl Operation {
-    pub const ALL: [Operation; 13] = [
+    pub const ALL: [Operation; 14] = [
         Operation::Weigh,
         Operation::List,
         Operation::FixedTest,
@@ -37,6 +41,7 @@ impl Operation {
         Operation::WriteCard,
         Operation::Verdict,
         Operation::FirstReading,
+        Operation::BreachSpans,
     ];
 
     pub fn name(self) -> &'static str {
@@ -54,6 +59,7 @@ impl Operation {
             Operation::WriteCard => "writing a card",
             Operation::Verdict => "verdict",
             Operation::FirstReading => "first reading",
+            Operation::BreachSpans => "breach spans",
         }
     }
 
@@ -73,6 +79,7 @@ impl Operation {
             Operation::WriteCard => "card out",
             Operation::Verdict => "verdict",
             Operation::FirstReading => "first",
+            Operation::BreachSpans => "spans",
         }
     }
 
@@ -89,6 +96,7 @@ impl Operation {
             Operation::ReadCard => &[11, 12, 2, 9],
             Operation::WriteCard => &[1, 2, 11, 10],
             Operation::FirstReading => &[1, 2, 4, NO_LAWFUL_READING],
+            Operation::BreachSpans => &[1, 2, SPAN_LIST_TOO_SHORT],
         }
     }
 }
@@ -104,7 +112,7 @@ pub struct Input {
     /// The lent buffer of bytes: a reading, a text or a card record.
     pub lent_bytes: Vec<u8>,
     /// The lent buffers of numbers: the words of a text or a card record, or the
-    /// starts and ends of the records of a list.
+    /// starts and ends, or the first and last weeks, of the records of a list.
     pub lent_words: Vec<u32>,
     pub lent_ends: Vec<u32>,
 }
@@ -129,10 +137,16 @@ pub const BREACH: u64 = 1;
 /// What the first reading refuses where the verdict is a breach.
 pub const NO_LAWFUL_READING: u8 = 13;
 
+/// What the breach spans refuse where there are more of them than records.
+pub const SPAN_LIST_TOO_SHORT: u8 = 14;
+
 impl Answer {
-    /// Whether the rules were asked. No other refusal than 13 comes of them.
+    /// Whether the rules were asked. No other refusals than 13 and 14 come of them.
     pub fn is_judged(&self) -> bool {
-        self.told.is_ok() || self.told == Err(NO_LAWFUL_READING)
+        matches!(
+            self.told,
+            Ok(_) | Err(NO_LAWFUL_READING | SPAN_LIST_TOO_SHORT)
+        )
     }
 }
 
@@ -164,6 +178,7 @@ pub fn second(operation: Operation, input: &Input) -> Answer {
         Operation::FirstReading => {
             second::verdict::first_reading(words, &mut after.lent_bytes).map(one)
         }
+        Operation::BreachSpans => return spans::by_terms(&Terms::request(), input),
     };
     answer(told.map_err(Refusal::number), after)
 }

@@ -5,6 +5,7 @@ use second::card::{changes, Change};
 use second::fast::Judge;
 use second::recording::word;
 use second::runs::runs;
+use second::spans::{breach_spans, Weeks};
 use second::verdict::{verdict, Verdict};
 use second::Limits;
 
@@ -14,7 +15,9 @@ use compare::difference::{compared, smallest, Difference};
 use compare::first_part;
 use compare::operation::{
     outcome_answer, second, Answer, Input, Operation, Program, NO_LAWFUL_READING,
+    SPAN_LIST_TOO_SHORT,
 };
+use compare::spans;
 use compare::split_rest;
 
 use crate::desk::desk;
@@ -29,7 +32,7 @@ struct Wrong {
     most_bytes: usize,
 }
 
-const WRONG: [Wrong; 17] = [
+const WRONG: [Wrong; 22] = [
     Wrong {
         name: "rule 10 a minute late",
         program: |operation, input| rule_10_a_minute_late(Operation::Verdict, operation, input),
@@ -151,6 +154,41 @@ const WRONG: [Wrong; 17] = [
         most_words: 1,
         most_bytes: 0,
     },
+    Wrong {
+        name: "a span with a shorter one inside",
+        program: |operation, input| spans::WITH_ONE_INSIDE.program(operation, input),
+        noticed_by: spans::WITH_ONE_INSIDE.judging,
+        most_words: 3,
+        most_bytes: 0,
+    },
+    Wrong {
+        name: "spans judged from minute 0 on",
+        program: |operation, input| spans::NOT_BY_ITSELF.program(operation, input),
+        noticed_by: spans::NOT_BY_ITSELF.judging,
+        most_words: 3,
+        most_bytes: 0,
+    },
+    Wrong {
+        name: "a part of a week left out",
+        program: |operation, input| spans::NO_PART_WEEK.program(operation, input),
+        noticed_by: spans::NO_PART_WEEK.judging,
+        most_words: 1,
+        most_bytes: 0,
+    },
+    Wrong {
+        name: "the whole left out",
+        program: the_whole_left_out,
+        noticed_by: &[Operation::BreachSpans],
+        most_words: 60,
+        most_bytes: 0,
+    },
+    Wrong {
+        name: "a record written on refusal 14",
+        program: a_record_written_on_refusal_14,
+        noticed_by: &[Operation::BreachSpans],
+        most_words: 3,
+        most_bytes: 0,
+    },
 ];
 
 /// The edges alone, and few recordings of each other kind.
@@ -167,6 +205,7 @@ const PLAN: Plan = Plan {
     scarce: 0,
     climbed: 0,
     stored: 0,
+    weeks: 2,
     entries: 50,
 };
 
@@ -321,6 +360,34 @@ fn a_byte_written_on_refusal_13(operation: Operation, input: &Input) -> Answer {
     if answer.told == Err(NO_LAWFUL_READING) {
         if let Some(byte) = answer.lent_bytes.first_mut() {
             *byte = 0;
+        }
+    }
+    answer
+}
+
+/// No span where several weeks are a breach, and no fewer of them.
+fn the_whole_left_out(operation: Operation, input: &Input) -> Answer {
+    let mut answer = second(operation, input);
+    let weeks = spans::weeks(&input.words);
+    let together = || {
+        let mut list = [Weeks { first: 0, last: 0 }];
+        let told = breach_spans(&input.words, &mut list);
+        told == Ok(1) && list[0].count() as usize == weeks
+    };
+    if operation == Operation::BreachSpans && weeks > 1 && together() {
+        answer.told = Ok(vec![0]);
+        answer.lent_words = input.lent_words.clone();
+        answer.lent_ends = input.lent_ends.clone();
+    }
+    answer
+}
+
+/// The first record set to 0, though there are more spans than records.
+fn a_record_written_on_refusal_14(operation: Operation, input: &Input) -> Answer {
+    let mut answer = second(operation, input);
+    if answer.told == Err(SPAN_LIST_TOO_SHORT) {
+        if let Some(first) = answer.lent_words.first_mut() {
+            *first = 0;
         }
     }
     answer

@@ -1,6 +1,6 @@
-//! The smallest input found that still shows a difference: words left out,
-//! joined and shortened, texts, card records and buffers shortened, as long as it
-//! shows.
+//! The smallest input found that still shows a difference: weeks and words left
+//! out, words joined and shortened, texts, card records and buffers shortened, as
+//! long as it shows.
 
 use std::time::{Duration, Instant};
 
@@ -8,8 +8,11 @@ use second::recording::{weigh, word, word_activity, word_minutes};
 
 use crate::cards::{record, split_at};
 use crate::operation::{Input, Operation};
+use crate::spans;
 
 const TIME: Duration = Duration::from_secs(30);
+
+const WEEK: u32 = 10_080;
 
 /// What a buffer is filled up with.
 const FILLING: u8 = 0xAA;
@@ -30,6 +33,7 @@ pub fn smallest(operation: Operation, input: Input, differs: &dyn Fn(&Input) -> 
     };
     loop {
         let before = shrinking.best.clone();
+        shrinking.leave_out_weeks();
         shrinking.leave_out_words();
         shrinking.join_words();
         shrinking.shorten_words();
@@ -79,6 +83,25 @@ impl Shrinking<'_> {
         let mut fitted = same.clone();
         resize(&mut fitted.lent_words, fewer);
         self.take(same) || fewer != 0 && self.take(fitted)
+    }
+
+    /// Whole weeks, so that those after them are as they were.
+    fn leave_out_weeks(&mut self) {
+        if self.operation != Operation::BreachSpans || weigh(&self.best.words).is_err() {
+            return;
+        }
+        let mut count = spans::weeks(&self.best.words);
+        while count > 0 {
+            let mut at = 0;
+            while at < spans::weeks(&self.best.words) {
+                let (before, from) = split_at(&self.best.words, WEEK * at as u32);
+                let after = split_at(&from, WEEK * count as u32).1;
+                if !self.take_words([before, after].concat()) {
+                    at += count;
+                }
+            }
+            count /= 2;
+        }
     }
 
     fn leave_out_words(&mut self) {
@@ -229,6 +252,11 @@ fn fitted(operation: Operation, input: &Input, words: Vec<u32>) -> Vec<Input> {
     };
     let mut fitted = same.clone();
     match operation {
+        Operation::BreachSpans => {
+            let [old, new] = [&input.words, &same.words].map(|words| spans::count(words) as i64);
+            resize(&mut fitted.lent_words, new - old);
+            resize(&mut fitted.lent_ends, new - old);
+        }
         Operation::List => {
             resize(&mut fitted.lent_words, rests);
             resize(&mut fitted.lent_ends, rests);

@@ -5,10 +5,14 @@ use std::collections::BTreeSet;
 use crate::inputs::{Room, Try};
 use crate::mistake::REQUESTS;
 use crate::operation::{Answer, Operation, BREACH};
+use crate::spans;
 
-/// The inputs in each row of a mistake that an operation is compared on at least, and
-/// the first readings with each buffer.
+/// The inputs in each row of a mistake that an operation is compared on at least, the
+/// first readings and the breach spans with each buffer, and the latter by number.
 const EACH_ROW: usize = 500;
+
+/// The same of breach spans by length.
+const EACH_LENGTH: usize = 200;
 
 /// A number for each operation.
 type Counts = [usize; Operation::ALL.len()];
@@ -32,12 +36,12 @@ impl Table {
         at.map_or(0, |(_, counts)| counts[operation as usize])
     }
 
-    /// These rows, where they have too few inputs of an operation.
-    fn too_few(&self, operation: Operation, rows: &[&str]) -> Vec<String> {
+    /// These rows, where they have fewer inputs of an operation than asked for.
+    fn too_few(&self, operation: Operation, rows: &[&str], at_least: usize) -> Vec<String> {
         let mut too_few = Vec::new();
         for row in rows {
             let count = self.counted(row, operation);
-            if count < EACH_ROW {
+            if count < at_least {
                 too_few.push(format!("{}: {row} {count} times", operation.name()));
             }
         }
@@ -79,6 +83,8 @@ pub struct Tally {
     variants: Table,
     /// By whether a mistake about a request would show.
     mistakes: [Table; REQUESTS.len()],
+    /// Answers by the number and the lengths of their spans.
+    spans: Table,
     /// The refusals, rules, places and articles that each operation answered with.
     told: BTreeSet<(usize, String)>,
 }
@@ -93,6 +99,11 @@ impl Tally {
                 if let Some(row) = mistake.row(operation, &attempt.input, answer) {
                     table.count(row, operation);
                 }
+            }
+        }
+        if operation == Operation::BreachSpans {
+            for row in spans::rows(answer) {
+                self.spans.count(row, operation);
             }
         }
         self.told
@@ -112,6 +123,8 @@ impl Tally {
             table.print(request.title);
             println!();
         }
+        self.spans.print("spans that are a breach");
+        println!();
         print!("{:26}", "inputs");
         for sum in self.kinds.sums() {
             print!("{sum:10}");
@@ -119,8 +132,9 @@ impl Tally {
         println!();
     }
 
-    /// The operations with fewer inputs than asked for, also in a row of a mistake or
-    /// with a buffer for a reading, and the answers that were never met.
+    /// The operations with fewer inputs than asked for, also in a row of a mistake, with
+    /// a buffer for a reading or for spans, or by spans, and the answers that were never
+    /// met.
     pub fn missing(&self, at_least: usize) -> Vec<String> {
         let mut missing = Vec::new();
         for (operation, sum) in Operation::ALL.into_iter().zip(self.kinds.sums()) {
@@ -136,19 +150,29 @@ impl Tally {
         for (table, request) in self.mistakes.iter().zip(REQUESTS) {
             for mistake in request.mistakes {
                 for &operation in mistake.judging {
-                    missing.extend(table.too_few(operation, &mistake.rows()));
+                    missing.extend(table.too_few(operation, &mistake.rows(), EACH_ROW));
                 }
             }
         }
         for room in Room::ALL {
             let rows = [room.name(), room.name_in_a_breach()];
-            missing.extend(self.variants.too_few(Operation::FirstReading, &rows));
+            for (operation, rows) in [
+                (Operation::FirstReading, &rows[..]),
+                (Operation::BreachSpans, &rows[..1]),
+            ] {
+                missing.extend(self.variants.too_few(operation, rows, EACH_ROW));
+            }
+        }
+        for (rows, at_least) in [(spans::NUMBERS, EACH_ROW), (spans::LENGTHS, EACH_LENGTH)] {
+            let too_few = self.spans.too_few(Operation::BreachSpans, &rows, at_least);
+            missing.extend(too_few);
         }
         missing
     }
 }
 
-/// What kind of answer it is: a refusal, a rule, a place, an article or a pass.
+/// What kind of answer it is: a refusal, a rule, a place, an article or a pass, or so
+/// many spans.
 fn class(operation: Operation, answer: &Answer) -> String {
     match (&answer.told, operation) {
         (Err(number), _) => format!("refusal {number}"),
@@ -160,6 +184,7 @@ fn class(operation: Operation, answer: &Answer) -> String {
             [BREACH, _, article] => format!("article {article}"),
             _ => "pass".into(),
         },
+        (Ok(values), Operation::BreachSpans) => spans::number(values[0]).into(),
         (Ok(_), _) => "answer".into(),
     }
 }
@@ -176,6 +201,7 @@ fn classes(operation: Operation) -> Vec<String> {
             .map(|article| format!("article {article}"))
             .chain(["pass".into()])
             .collect(),
+        Operation::BreachSpans => spans::NUMBERS.map(String::from).into(),
         _ => vec!["answer".into()],
     };
     refusals.chain(answers).collect()

@@ -59,6 +59,31 @@ static void print_first_reading(const uint32_t *words, size_t count, size_t lent
     print_bytes(reading, sizeof reading);
 }
 
+/* A week of five days with 540 minutes of driving, and with so many more on a sixth: its 23 words. */
+static size_t put_week(uint32_t *words, uint32_t more)
+{
+    size_t count = 0;
+    for (size_t day = 0; day < 5; day++) {
+        words[count++] = WORD(270, DRIVING);
+        words[count++] = WORD(45, REST);
+        words[count++] = WORD(270, DRIVING);
+        words[count++] = WORD(855, REST);
+    }
+    words[count++] = WORD(more, DRIVING);
+    words[count++] = WORD(60, WORK);
+    words[count++] = WORD(2820 - more, REST);
+    return count;
+}
+
+/* The spans that are a breach in so many records of a list, and the whole list. */
+static void print_spans(const uint32_t *words, size_t count, size_t lent)
+{
+    struct desk_weeks list[3] = {{7, 8}, {7, 8}, {7, 8}};
+    print_value("breach spans", desk_breach_spans(words, count, list, lent));
+    for (size_t i = 0; i < 3; i++)
+        printf("  %" PRIu32 " to %" PRIu32 "\n", list[i].first, list[i].last);
+}
+
 int main(void)
 {
     const uint32_t words[] = {WORD(240, DRIVING), WORD(660, REST), WORD(60, WORK), WORD(2700, REST), WORD(1, WORK)};
@@ -78,6 +103,8 @@ int main(void)
     uint32_t changes[5] = {7, 7, 7, 7, 7};
     uint8_t text[128];
     uint8_t record[10] = {9, 9, 9, 9, 9, 9, 9, 9, 9, 9};
+    uint32_t weeks[3 * 23];
+    size_t weeks_count = 0;
     uint64_t length;
 
     print_weighing(words, 5);
@@ -148,5 +175,23 @@ int main(void)
     print_first_reading(long_day_after_rest, 2, 2);
     print_first_reading(long_day_after_rest, 2, 3);
     print_first_reading(long_day_after_rest, 2, 8);
+
+    /* The first week is a pass and so is the second, but with 2,701 minutes of driving each they break 6.3 together. The third
+     * breaks 7 by itself. */
+    weeks_count += put_week(weeks, 1);
+    weeks_count += put_week(weeks + weeks_count, 1);
+    weeks_count += put_week(weeks + weeks_count, 271);
+    print_verdict(weeks, 23);
+    print_verdict(weeks + 23, 23);
+    print_verdict(weeks, weeks_count);
+    print_spans(weeks, weeks_count, 3);
+    print_spans(weeks, weeks_count, 2);
+    print_spans(weeks, weeks_count, 1);
+    print_spans(weeks, weeks_count, 0);
+    print_spans(weeks, 23, 0);
+    print_spans(weeks, 0, 0);
+    print_spans(long_day, 1, 1);
+    print_spans(no_minutes, 1, 0);
+    print_spans(too_long, 2, 3);
     return 0;
 }

@@ -5,6 +5,7 @@ use crate::limits::Limits;
 use crate::reading::{entries, Entry};
 use crate::refusal::Refusal;
 use crate::runs::Course;
+use crate::spans::{breach_spans, Weeks};
 use crate::text;
 use crate::verdict::{first_reading, verdict, Verdict};
 
@@ -14,19 +15,32 @@ pub const MOST_BYTES: usize = 65_536;
 /// What the desk program prints for this input text. "It lends words enough
 /// for any text of that size."
 pub fn print(input: &[u8]) -> String {
-    page(input, |text| text::parse(text).ok_or(Refusal::TextForm))
+    page(input, read_text, judged)
 }
 
 /// What it prints for a card's days, with words enough for any record.
 pub fn print_card(input: &[u8]) -> String {
-    page(input, card::parse)
+    page(input, card::parse, judged)
 }
 
-fn page(input: &[u8], read: impl Fn(&[u8]) -> Result<Vec<u32>, Refusal>) -> String {
+/// Request 6: what it prints of the spans of an input text, with records enough.
+pub fn print_spans(input: &[u8]) -> String {
+    page(input, read_text, spans)
+}
+
+fn read_text(text: &[u8]) -> Result<Vec<u32>, Refusal> {
+    text::parse(text).ok_or(Refusal::TextForm)
+}
+
+fn page(
+    input: &[u8],
+    read: impl Fn(&[u8]) -> Result<Vec<u32>, Refusal>,
+    answer: impl Fn(&[u32]) -> Result<String, Refusal>,
+) -> String {
     if input.len() > MOST_BYTES {
         return refused(Refusal::TooFewWords);
     }
-    match read(input).and_then(|words| judged(&words)) {
+    match read(input).and_then(|words| answer(&words)) {
         Ok(page) => page,
         Err(refusal) => refused(refusal),
     }
@@ -57,6 +71,16 @@ fn judged(words: &[u32]) -> Result<String, Refusal> {
         }
     };
     Ok(format!("(verdict\n(minutes {total})\n{found})\n"))
+}
+
+/// A line for each span of weeks, its first and its last. Of twelve Mondays each
+/// begins one span at most.
+fn spans(words: &[u32]) -> Result<String, Refusal> {
+    let mut list = [Weeks { first: 0, last: 0 }; 12];
+    let count = breach_spans(words, &mut list)?;
+    let line = |weeks: &Weeks| format!("(weeks {} {})\n", weeks.first, weeks.last);
+    let lines: String = list[..count].iter().map(line).collect();
+    Ok(format!("(spans\n{lines})\n"))
 }
 
 /// "These are N, S and each rest's start and end; a weekly rest prints

@@ -31,6 +31,8 @@ pub enum Refusal {
     UnknownActivity = 12,
     /// "13 when the verdict is a breach"
     NoLawfulReading = 13,
+    /// "14 follows 1 and 2 where the lent list is too short"
+    SpanListTooShort = 14,
 }
 
 impl Refusal {

@@ -2,9 +2,9 @@
 //! bench/recordings/, held against this program.
 
 use std::fs;
-use std::path::Path;
+use std::path::{Path, PathBuf};
 
-use second::print::{print, print_card};
+use second::print::{print, print_card, print_spans};
 
 #[test]
 fn every_example_has_its_answer() {
@@ -21,17 +21,34 @@ fn every_hard_recording_has_its_answer() {
     every_file_has_its_answer("../bench/recordings", "txt", print);
 }
 
-fn every_file_has_its_answer(folder: &str, kind: &str, print: fn(&[u8]) -> String) {
-    let folder = Path::new(env!("CARGO_MANIFEST_DIR")).join(folder);
-    let mut seen = 0;
-    for entry in fs::read_dir(folder).unwrap() {
-        let file = entry.unwrap().path();
-        if file.extension().is_some_and(|extension| extension == kind) {
-            let answer = fs::read_to_string(file.with_extension("out")).unwrap();
-            let printed = print(&fs::read(&file).unwrap());
-            assert_eq!(printed, answer, "{}", file.display());
-            seen += 1;
-        }
+/// Not every example has a page of spans.
+#[test]
+fn every_page_of_spans_is_printed() {
+    for page in files("../examples", "spans") {
+        compare(&page.with_extension("txt"), &page, print_spans);
     }
-    assert!(seen > 0);
+}
+
+fn every_file_has_its_answer(folder: &str, kind: &str, print: fn(&[u8]) -> String) {
+    for file in files(folder, kind) {
+        compare(&file, &file.with_extension("out"), print);
+    }
+}
+
+fn compare(file: &Path, page: &Path, print: fn(&[u8]) -> String) {
+    let answer = fs::read_to_string(page).unwrap();
+    let printed = print(&fs::read(file).unwrap());
+    assert_eq!(printed, answer, "{}", page.display());
+}
+
+/// The files of this kind, of which there are some.
+fn files(folder: &str, kind: &str) -> Vec<PathBuf> {
+    let folder = Path::new(env!("CARGO_MANIFEST_DIR")).join(folder);
+    let files: Vec<PathBuf> = fs::read_dir(folder)
+        .unwrap()
+        .map(|entry| entry.unwrap().path())
+        .filter(|file| file.extension().is_some_and(|extension| extension == kind))
+        .collect();
+    assert!(!files.is_empty());
+    files
 }

@@ -6,6 +6,7 @@ mod shorthand;
 
 use second::fixed;
 use second::reading::{self, bytes, entries, Entry};
+use second::spans::{breach_spans, Weeks};
 use second::verdict::{first_reading, verdict, Verdict};
 use shorthand::{attempt, days, general_figure, tight_days, tight_weeks, times, words};
 
@@ -67,6 +68,17 @@ impl Lines {
         let name = format!("{shorthand} into {lent}");
         let verdict = told(&words);
         self.push(&name, &format!("{verdict}; {answer},{}", shown(&reading)));
+    }
+
+    /// The spans of weeks that are a breach, in a list of so many records.
+    fn spans(&mut self, name: &str, shorthand: &str, room: usize) {
+        let mut list = vec![Weeks { first: 0, last: 0 }; room];
+        let span = |span: &Weeks| format!(" {}-{}", span.first, span.last);
+        let answer = match breach_spans(&words(shorthand), &mut list) {
+            Ok(count) => "spans".to_string() + &list[..count].iter().map(span).collect::<String>(),
+            Err(refusal) => format!("refused {}", refusal.number()),
+        };
+        self.push(&format!("{name} in a list of {room}"), &answer);
     }
 }
 
@@ -284,6 +296,43 @@ fn refusals(lines: &mut Lines) {
     lines.lent("w900", 0);
 }
 
+fn spans(lines: &mut Lines) {
+    lines.spans("empty", "", 0);
+    let figure_2 = general_figure(6);
+    lines.spans("figure 2", &tight_weeks(&figure_2), 1);
+    lines.spans("figure 2", &tight_weeks(&figure_2), 0);
+    lines.spans("figure 3, five weeks", &tight_weeks(&figure_2[..5]), 0);
+    lines.spans("figure 4, five weeks", &tight_weeks(&figure_2[1..]), 0);
+    let twice = tight_weeks(&[figure_2.as_slice(), &figure_2].concat());
+    lines.spans("figure 2 twice", &twice, 3);
+    lines.spans("figure 2 twice", &twice, 2);
+    let day = "d270 r45 d270 r660 ";
+    let fortnight = times(4, day) + "d270 r45 d270 r4515 " + &times(5, day);
+    lines.spans("5400 minutes of driving in two weeks", &fortnight, 12);
+    lines.spans(
+        "5401 minutes of driving in two weeks",
+        &(fortnight + "d1"),
+        12,
+    );
+    for (shorthand, room) in [
+        ("d271 r9809 d271", 2),
+        ("d271 r9809 d271", 1),
+        ("d271 r9809 d271 r9809 d270", 12),
+        ("w900 r9300 w780", 0),
+        ("w900 r9300 w781", 1),
+        ("w900 r9180 w901", 1),
+        ("w900 r9180 w900", 0),
+        ("r10079 w1", 0),
+        ("r10079 w902", 1),
+        ("w901", 0),
+        ("w901", 1),
+        ("w901 r0", 0),
+        ("r60000 w60961", 0),
+    ] {
+        lines.spans(shorthand, shorthand, room);
+    }
+}
+
 #[test]
 fn stored_answers() {
     let mut lines = Lines::default();
@@ -295,6 +344,7 @@ fn stored_answers() {
     figures(&mut lines);
     weeks_and_debts(&mut lines);
     refusals(&mut lines);
+    spans(&mut lines);
     for (stored, answered) in STORED.lines().zip(lines.0.lines()) {
         assert_eq!(stored, answered);
     }

@@ -1,9 +1,12 @@
 // The cases of document 01, "On the edge", the figures of source document 000, and the edges of weeks, debts and buffers, each
-// with what the verdict answers. A pass shows its first reading: d is a daily rest (0/0/0), any other entry is kind/week/carrier.
+// with what the verdict answers. A pass shows its first reading: d is a daily rest (0/0/0), any other entry is kind/week/carrier. Last, cases of the
+// spans of weeks that are a breach, each span as first-last.
 use libc::STDOUT_FILENO;
 use recording::Filling;
+use rules::Weeks;
 use rules_fixed::Tested;
 use verdict::Judgement;
+use verdict_spans::Found;
 
 // The word of a letter of the shorthand, with no minutes yet; 4 for another byte.
 fn activity(byte: u8) -> u32 {
@@ -665,6 +668,108 @@ fn show_refusals() {
     show_lent(b"w900", 0);
 }
 
+fn show_span(span: Weeks) {
+    io::write_all(STDOUT_FILENO, b" ");
+    show_number(span.first);
+    io::write_all(STDOUT_FILENO, b"-");
+    show_number(span.last);
+}
+
+fn show_found(found: Found) {
+    let count = found.count;
+    let mut i = 0;
+    while i < count {
+        if i < verdict_spans::WEEKS {
+            show_span(verdict_spans::weeks_at(found, i));
+        }
+        i += 1;
+    }
+}
+
+// The spans of weeks that are a breach, for a list of so many records.
+fn show_spans(name: &[u8], words: &[u32], count: usize, room: usize) {
+    io::write_all(STDOUT_FILENO, name);
+    io::write_all(STDOUT_FILENO, b" in a list of ");
+    io::print_decimal(STDOUT_FILENO, room as u64);
+    let found = verdict_spans::spans_of(first_words(words, count), room);
+    let answer = found.answer;
+    match answer {
+        Filling::Refused(n) => {
+            io::write_all(STDOUT_FILENO, b": refused ");
+            show_number(n);
+        }
+        Filling::Written(_) => {
+            io::write_all(STDOUT_FILENO, b": spans");
+            show_found(found);
+        }
+    }
+    io::write_all(STDOUT_FILENO, b"\n");
+}
+
+fn show_runs_spans(shorthand: &[u8], room: usize) {
+    let mut words = [0u32; 16];
+    let count = runs(&mut words, 0, shorthand);
+    show_spans(shorthand, &words, count, room);
+}
+
+fn show_weeks_spans(name: &[u8], rests: &[u32], room: usize) {
+    let mut words = [0u32; 256];
+    let count = weeks(&mut words, 0, rests);
+    show_spans(name, &words, count, room);
+}
+
+// A week of driving of 2,700 minutes and one of 2,700 or more: each lawful by itself.
+fn show_fortnight_spans(name: &[u8], then: &[u8]) {
+    let mut words = [0u32; 64];
+    let first = times(&mut words, 0, 4, b"d270 r45 d270 r660");
+    let monday = runs(&mut words, first, b"d270 r45 d270 r4515");
+    let second = times(&mut words, monday, 5, b"d270 r45 d270 r660");
+    let all = runs(&mut words, second, then);
+    show_spans(name, &words, all, 12);
+}
+
+// Weeks that pass alone and not together, breaches in several weeks, a rest that is cut at a Monday, parts of weeks, and lists that are short or enough.
+fn show_all_spans() {
+    let nothing = [0u32; 1];
+    show_spans(b"empty", &nothing, 0, 0);
+    let figure_2 = [2640u32, 2700, 2700, 2700, 1440, 2700];
+    show_weeks_spans(b"figure 2", &figure_2, 1);
+    show_weeks_spans(b"figure 2", &figure_2, 0);
+    show_weeks_spans(b"figure 3, five weeks", &figure_2[..5], 0);
+    show_weeks_spans(b"figure 4, five weeks", &figure_2[1..], 0);
+    let twice = [
+        2640u32,
+        2700,
+        2700,
+        2700,
+        1440,
+        2700,
+        2640,
+        2700,
+        2700,
+        2700,
+        1440,
+        2700,
+    ];
+    show_weeks_spans(b"figure 2 twice", &twice, 3);
+    show_weeks_spans(b"figure 2 twice", &twice, 2);
+    show_fortnight_spans(b"5400 minutes of driving in two weeks", b"");
+    show_fortnight_spans(b"5401 minutes of driving in two weeks", b"d1");
+    show_runs_spans(b"d271 r9809 d271", 2);
+    show_runs_spans(b"d271 r9809 d271", 1);
+    show_runs_spans(b"d271 r9809 d271 r9809 d270", 12);
+    show_runs_spans(b"w900 r9300 w780", 0);
+    show_runs_spans(b"w900 r9300 w781", 1);
+    show_runs_spans(b"w900 r9180 w901", 1);
+    show_runs_spans(b"w900 r9180 w900", 0);
+    show_runs_spans(b"r10079 w1", 0);
+    show_runs_spans(b"r10079 w902", 1);
+    show_runs_spans(b"w901", 0);
+    show_runs_spans(b"w901", 1);
+    show_runs_spans(b"w901 r0", 0);
+    show_runs_spans(b"r60000 w60961", 0);
+}
+
 fn main() {
     show_edges();
     show_first_parts();
@@ -678,4 +783,5 @@ fn main() {
     show_reductions();
     show_due();
     show_refusals();
+    show_all_spans();
 }

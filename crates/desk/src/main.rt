@@ -1,5 +1,5 @@
-// The desk program: bracket text from standard input, or with `--card` a card's day record, and what is printed for it to standard
-// output. It reads one byte more than an input may have, so that a longer one is seen.
+// The desk program: bracket text from standard input, or with `--card` a card's day record, and to standard output what is printed of its verdict, or with
+// `--spans` of its spans of weeks. It reads one byte more than an input may have, so that a longer one is seen.
 use libc::STDERR_FILENO;
 use libc::STDIN_FILENO;
 use libc::STDOUT_FILENO;
@@ -33,43 +33,99 @@ fn read_input(buffer: &mut [u8]) -> Input {
 
 fn write_page(page: &[u8]) {
     if !io::write_all(STDOUT_FILENO, page) {
-        io::write_all(STDERR_FILENO, b"desk: the verdict cannot be written\n");
+        io::write_all(STDERR_FILENO, b"desk: the answer cannot be written\n");
     }
 }
 
-// What the arguments ask for: nothing but the program's name, `--card`, or something else.
-enum Asked {
-    Text,
+// What an argument says.
+enum Argument {
     Card,
+    Spans,
     Other,
+}
+
+fn said_at(i: usize) -> Argument {
+    let mut bytes = [0u8; 8];
+    let n = os::arg(i, &mut bytes);
+    if check::same(&bytes[..n], b"--card") {
+        return Argument::Card;
+    }
+    if check::same(&bytes[..n], b"--spans") {
+        return Argument::Spans;
+    }
+    Argument::Other
+}
+
+// What the arguments ask for: a card's day record in place of a text, the spans of weeks in place of the verdict; and whether all of them are known.
+struct Asked {
+    card: bool,
+    spans: bool,
+    known: bool,
+}
+
+// The same with one argument more; the same one twice is not known.
+fn with(asked: Asked, i: usize) -> Asked {
+    let said = said_at(i);
+    match said {
+        Argument::Card => Asked {
+            card: true,
+            spans: asked.spans,
+            known: asked.known & !asked.card,
+        },
+        Argument::Spans => Asked {
+            card: asked.card,
+            spans: true,
+            known: asked.known & !asked.spans,
+        },
+        Argument::Other => Asked {
+            card: asked.card,
+            spans: asked.spans,
+            known: false,
+        },
+    }
 }
 
 fn what_is_asked() -> Asked {
     let count = os::arg_count();
+    let none = Asked {
+        card: false,
+        spans: false,
+        known: count < 4,
+    };
     if count < 2 {
-        return Asked::Text;
+        return none;
     }
-    if 2 < count {
-        return Asked::Other;
+    let one = with(none, 1);
+    if count < 3 {
+        return one;
     }
-    let mut argument = [0u8; 8];
-    let n = os::arg(1, &mut argument);
-    if check::same(&argument[..n], b"--card") {
-        return Asked::Card;
-    }
-    Asked::Other
+    with(one, 2)
 }
 
-fn print(card: bool, input: &[u8], page: &mut [u8]) -> Filling {
+fn print_verdict(card: bool, input: &[u8], page: &mut [u8]) -> Filling {
     if card {
         return desk_report::print_card(input, page);
     }
     desk_report::print_desk(input, page)
 }
 
-fn answer(card: bool, input: &[u8]) {
+fn print_spans(card: bool, input: &[u8], page: &mut [u8]) -> Filling {
+    if card {
+        return desk_report::print_card_spans(input, page);
+    }
+    desk_report::print_spans(input, page)
+}
+
+fn print(asked: Asked, input: &[u8], page: &mut [u8]) -> Filling {
+    if asked.spans {
+        return print_spans(asked.card, input, page);
+    }
+    print_verdict(asked.card, input, page)
+}
+
+fn answer(asked: Asked, input: &[u8]) {
     let mut page = [0u8; desk_report::PAGE_BYTES];
-    let printed = print(card, input, &mut page);
+    let printed = print(asked, input, &mut page);
     match printed {
         Filling::Refused(_) => (),
         Filling::Written(n) => {
@@ -81,13 +137,13 @@ fn answer(card: bool, input: &[u8]) {
     }
 }
 
-fn run(card: bool) {
+fn run(asked: Asked) {
     let mut buffer = [0u8; ENOUGH];
     let input = read_input(&mut buffer);
     match input {
         Input::Bytes(n) => {
             if n <= ENOUGH {
-                answer(card, &buffer[..n]);
+                answer(asked, &buffer[..n]);
             }
         }
         Input::Failed => {
@@ -97,15 +153,13 @@ fn run(card: bool) {
 }
 
 fn main() {
-    let wanted = what_is_asked();
-    match wanted {
-        Asked::Text => run(false),
-        Asked::Card => run(true),
-        Asked::Other => {
-            io::write_all(
-                STDERR_FILENO,
-                b"desk: the only argument is --card, for a card's day record\n",
-            );
-        }
+    let asked = what_is_asked();
+    if asked.known {
+        run(asked);
+    } else {
+        io::write_all(
+            STDERR_FILENO,
+            b"desk: the arguments are --card, for a card's day record, and --spans, for the spans of weeks\n",
+        );
     }
 }

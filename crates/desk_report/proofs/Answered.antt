@@ -28,8 +28,10 @@ use Rattle.text_lines.specs.Reading.{textRead}
 use Rattle.recording.proofs.Slices.{put-in-front}
 use Rattle.card.specs.Reading.{cardRead}
 use Rattle.desk_report.specs.Printed.{answerText, printed, wordsAnswered, verdictText, inputAtMost, unlessOver, inputRead, deskText, cardInputRead, cardText, intoRoom}
-use Rattle.desk_report.specs.Composing.{pageAtMost, runLineBytes, changeBytes, refusalPage, pageOf, Read, Within, refusal, front, readText, inputText}
+use Rattle.desk_report.specs.Printed.{printedSpans, spansAnswered, spansText, deskSpansText, cardSpansText}
+use Rattle.desk_report.specs.Composing.{pageAtMost, runLineBytes, changeBytes, refusalPage, pageOf, Read, Within, refusal, front, wordsText, readText, inputText}
 use Rattle.desk_report.proofs.Pages.{refusal-size, page-size}
+use Rattle.desk_report.proofs.SpanLines.{spans-size}
 use Rattle.desk_report.proofs.Room.{room-same, card-room-same}
 
 -- a buffer before anything is written into it
@@ -125,18 +127,26 @@ verdict-size ws = at (measured ws) refl
     at (refused n) q = omega (arith, ap length (text-refused ws q), refusal-size n)
     at (answered k) q = omega (arith, ap length (text-is ws {v = verdict (minutesOf ws)} q refl), page-size (minutesOf ws) (verdict (minutesOf ws)) (measured-is ws q .within))
 
--- ---- the reading of an input, of a text or of a day record
-printed-refused : {read : Answer (List ℕ)} {n : ℕ} → read ≡ refused n → printed (andThen read wordsAnswered) ≡ refusalPage n
-printed-refused q = rw q refl
+-- ---- the reading of an input, of a text or of a day record, and what is printed for what it gave: the verdict, or the spans
+abbrev printedOf : Bool → Answer (List ℕ) → List ℕ
+printedOf true read = printedSpans (andThen read spansAnswered)
+printedOf false read = printed (andThen read wordsAnswered)
 
-printed-words : {read : Answer (List ℕ)} {ws : List ℕ} → read ≡ answered ws → printed (andThen read wordsAnswered) ≡ verdictText ws
-unfolding verdictText
-printed-words q = rw q refl
+printed-refused : (spans : Bool) {read : Answer (List ℕ)} {n : ℕ} → read ≡ refused n → printedOf spans read ≡ refusalPage n
+printed-refused true q = rw q refl
+printed-refused false q = rw q refl
 
-printed-size : (read : Answer (List ℕ)) → length (printed (andThen read wordsAnswered)) ≤ pageAtMost
-unfolding verdictText
-printed-size (refused n) = refusal-size n
-printed-size (answered ws) = verdict-size ws
+printed-words : (spans : Bool) {read : Answer (List ℕ)} {ws : List ℕ} → read ≡ answered ws → printedOf spans read ≡ wordsText spans ws
+unfolding verdictText spansText
+printed-words true q = rw q refl
+printed-words false q = rw q refl
+
+printed-size : (spans : Bool) (read : Answer (List ℕ)) → length (printedOf spans read) ≤ pageAtMost
+unfolding verdictText spansText
+printed-size true (refused n) = refusal-size n
+printed-size true (answered ws) = spans-size ws
+printed-size false (refused n) = refusal-size n
+printed-size false (answered ws) = verdict-size ws
 
 -- what is printed after more than the most bytes
 over : (input : List ℕ) (read : Answer (List ℕ)) → inputAtMost < length input → unlessOver input read ≡ refused 9
@@ -155,29 +165,29 @@ module _ (read : Answer (List ℕ)) (lent : ℕ) (f : Filling) {new : List ℕ} 
       at (filling.Written n) (refused m) e b = let z : _≡_ {A = ℕ} 0 1 = cc in absurd (omega arith)
       at (filling.Written n) (answered ws) e b = let z : n ≡ length ws = cc in front {n = n} {words = new} (omega (arith, ap length b, length-append ws (drop (length ws) (blank lent))))
 
-  pub read-printed : printed (andThen read wordsAnswered) ≡ readText (written f) new
+  pub read-printed : (spans : Bool) → printedOf spans read ≡ readText spans (written f) new
   unfolding readText
-  read-printed = at f read told left
+  read-printed spans = at f read told left
     where
-      at : (f : Filling) (a : Answer (List ℕ)) → written f ≡ counted a → new ≡ filled a (blank lent) → printed (andThen a wordsAnswered) ≡ readText (written f) new
-      at (filling.Refused n) (refused m) e b = let z : m ≡ n = cc in ap refusalPage z
+      at : (f : Filling) (a : Answer (List ℕ)) → written f ≡ counted a → new ≡ filled a (blank lent) → printedOf spans a ≡ readText spans (written f) new
+      at (filling.Refused n) (refused m) e b = let z : m ≡ n = cc in printed-refused spans refl ∙ ap refusalPage z
       at (filling.Refused n) (answered ws) e b = let z : _≡_ {A = ℕ} 0 1 = cc in absurd (omega arith)
       at (filling.Written n) (refused m) e b = let z : _≡_ {A = ℕ} 0 1 = cc in absurd (omega arith)
       at (filling.Written n) (answered ws) e b =
           let z : n ≡ length ws = cc in
           let t : take n new ≡ ws = ap (take n) b ∙ take-at ws (drop (length ws) (blank lent)) n (sym z) in
-          printed-words refl ∙ ap verdictText (sym t)
+          printed-words spans refl ∙ ap (wordsText spans) (sym t)
 
 pub front-within : {n : ℕ} {words : List ℕ} → Within (filling.Written n) words → n ≤ length words
 front-within (front h) = h
 
 pub desk-refused : (text : List ℕ) {n : ℕ} → inputRead text ≡ refused n → deskText text ≡ refusalPage n
 unfolding deskText
-desk-refused text q = printed-refused q
+desk-refused text q = printed-refused false q
 
 pub desk-words : (text : List ℕ) {ws : List ℕ} → inputRead text ≡ answered ws → deskText text ≡ verdictText ws
 unfolding deskText
-desk-words text q = printed-words q
+desk-words text q = printed-words false q
 
 pub desk-over : (text : List ℕ) → inputAtMost < length text → deskText text ≡ refusalPage 9
 unfolding inputRead
@@ -185,47 +195,63 @@ desk-over text h = desk-refused text (over text (textRead text (length text)) h)
 
 pub card-refused : (bytes : List ℕ) {n : ℕ} → cardInputRead bytes ≡ refused n → cardText bytes ≡ refusalPage n
 unfolding cardText
-card-refused bytes q = printed-refused q
+card-refused bytes q = printed-refused false q
 
 pub card-words : (bytes : List ℕ) {ws : List ℕ} → cardInputRead bytes ≡ answered ws → cardText bytes ≡ verdictText ws
 unfolding cardText
-card-words bytes q = printed-words q
+card-words bytes q = printed-words false q
 
 pub card-over : (bytes : List ℕ) → inputAtMost < length bytes → cardText bytes ≡ refusalPage 9
 unfolding cardInputRead
 card-over bytes h = card-refused bytes (over bytes (cardRead bytes (length bytes)) h)
 
-pub input-over : (card : Bool) (input : List ℕ) → inputAtMost < length input → inputText card input ≡ refusalPage 9
-input-over true input h = card-over input h
-input-over false input h = desk-over input h
+-- either way
+abbrev readOf : Bool → List ℕ → Answer (List ℕ)
+readOf true input = cardInputRead input
+readOf false input = inputRead input
 
-pub input-size : (card : Bool) (input : List ℕ) → length (inputText card input) ≤ pageAtMost
-unfolding deskText cardText
-input-size true input = printed-size (cardInputRead input)
-input-size false input = printed-size (inputRead input)
+pub input-is : (card spans : Bool) (input : List ℕ) → inputText card spans input ≡ printedOf spans (readOf card input)
+unfolding deskText cardText deskSpansText cardSpansText
+input-is true true input = refl
+input-is true false input = refl
+input-is false true input = refl
+input-is false false input = refl
+
+read-over : (card : Bool) (input : List ℕ) → inputAtMost < length input → readOf card input ≡ refused 9
+unfolding inputRead cardInputRead
+read-over true input h = over input (cardRead input (length input)) h
+read-over false input h = over input (textRead input (length input)) h
+
+pub input-over : (card spans : Bool) (input : List ℕ) → inputAtMost < length input → inputText card spans input ≡ refusalPage 9
+input-over card spans input h = input-is card spans input ∙ printed-refused spans (read-over card input h)
+
+pub input-size : (card spans : Bool) (input : List ℕ) → length (inputText card spans input) ≤ pageAtMost
+input-size card spans input = omega (arith, ap length (input-is card spans input), printed-size spans (readOf card input))
 
 -- the words that are lent are enough, for a text and for a day record
 module _ (input : List ℕ) (lent : ℕ) (within : length input ≤ inputAtMost) where
   pub desk-read : inputAtMost ≤ runLineBytes * lent → (f : Filling) {new : List ℕ} → written f ≡ counted (textRead input (length (blank lent)))
-      → new ≡ filled (textRead input (length (blank lent))) (blank lent) → deskText input ≡ readText (written f) new
-  unfolding deskText inputRead
-  desk-read room f told left =
-      ap (λ (a : Answer (List ℕ)). printed (andThen a wordsAnswered)) (not-over input (textRead input (length input)) within
+      → new ≡ filled (textRead input (length (blank lent))) (blank lent) → (spans : Bool) → inputText false spans input ≡ readText spans (written f) new
+  unfolding inputRead
+  desk-read room f told left spans =
+      input-is false spans input
+      ∙ ap (printedOf spans) (not-over input (textRead input (length input)) within
       ∙ room-same input (length input) (length (blank lent)) (omega arith) (omega (arith, length-replicate lent zero)))
-      ∙ read-printed (textRead input (length (blank lent))) lent f told left
+      ∙ read-printed (textRead input (length (blank lent))) lent f told left spans
 
   pub card-read : inputAtMost ≤ changeBytes * lent → (f : Filling) {new : List ℕ} → written f ≡ counted (cardRead input (length (blank lent)))
-      → new ≡ filled (cardRead input (length (blank lent))) (blank lent) → cardText input ≡ readText (written f) new
-  unfolding cardText cardInputRead
-  card-read room f told left =
-      ap (λ (a : Answer (List ℕ)). printed (andThen a wordsAnswered)) (not-over input (cardRead input (length input)) within
+      → new ≡ filled (cardRead input (length (blank lent))) (blank lent) → (spans : Bool) → inputText true spans input ≡ readText spans (written f) new
+  unfolding cardInputRead
+  card-read room f told left spans =
+      input-is true spans input
+      ∙ ap (printedOf spans) (not-over input (cardRead input (length input)) within
       ∙ card-room-same input (length input) (length (blank lent)) (omega arith) (omega (arith, length-replicate lent zero)))
-      ∙ read-printed (cardRead input (length (blank lent))) lent f told left
+      ∙ read-printed (cardRead input (length (blank lent))) lent f told left spans
 
 -- ---- a page that is handed over; the bytes that are enough for whatever is printed
-pub input-fits : (card : Bool) (input : List ℕ) (room : ℕ) → pageAtMost ≤ room → intoRoom (inputText card input) room ≡ answered (inputText card input)
+pub input-fits : (card spans : Bool) (input : List ℕ) (room : ℕ) → pageAtMost ≤ room → intoRoom (inputText card spans input) room ≡ answered (inputText card spans input)
 unfolding intoRoom
-input-fits card input room h = rw (le-ltb room (length (inputText card input)) (omega (arith, input-size card input))) refl
+input-fits card spans input room h = rw (le-ltb room (length (inputText card spans input)) (omega (arith, input-size card spans input))) refl
 
 module _ (page out : List ℕ) where
   pub record Handed (told : Answer ℕ) (new : List ℕ) : Type 0 where

@@ -1,6 +1,7 @@
 pub mod Sizes
 pub mod RestLines
 pub mod Pages
+pub mod SpanLines
 pub mod Room
 pub mod Answered
 pub mod Worked

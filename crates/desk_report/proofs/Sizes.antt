@@ -13,7 +13,7 @@ pub numbered-short : (name : List ℕ) (n : ℕ) → length (numbered name n) �
 unfolding numbered
 numbered-short name n = rw (length-append, length-append) (omega (arith, number-short n))
 
-span-short : (name : List ℕ) (s e : ℕ) → length (spanText name s e) ≤ length name + 14
+pub span-short : (name : List ℕ) (s e : ℕ) → length (spanText name s e) ≤ length name + 14
 unfolding spanText
 span-short name s e = rw (length-append, length-append) (omega (arith, number-short s, number-short e))
 

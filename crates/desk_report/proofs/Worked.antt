@@ -1,5 +1,6 @@
 -- The document's own case, a case of each other form that is printed, and numbers at their edges. Assumes nothing.
 use mathlib.Core.Path.{_≡_, refl, ap, _∙_}
+use mathlib.Core.Bool.{true, false}
 use mathlib.Core.List.{List, [], _∷_, _++_}
 use Prim.Native.Nat.{ℕ, zero, suc}
 use native.Mathlib.Omega.{arith}
@@ -12,15 +13,19 @@ use Rattle.recording.specs.Opened as recording
 use Rattle.recording.proofs.ByWord.{endBy, closedBy, judgedEndBy, longRestsBy, judged-by, rests-by, totalBy, total-by}
 use Rattle.rules.specs.Opened as rules
 use Rattle.rules.specs.Verdict.{pass, breach, verdict}
+use Rattle.rules.specs.Spans.{spansFrom, breachSpans}
+use Rattle.rules.proofs.Spans.{span}
 use Rattle.rules.proofs.Breach.{verdict-pass}
 use Rattle.rules.proofs.OnlyDaily.{allDaily, daily-first}
-use Rattle.rules.proofs.Cases.{Case, passes, Says, AllSay, starred, worked, ordered, asked, on-the-edge, d, w, r, times, daily, weekly}
+use Rattle.rules.proofs.Cases.{Case, passes, Says, AllSay, starred, worked, ordered, asked, alone, on-the-edge, d, w, r, times, daily, weekly}
 use Rattle.text_lines.specs.Form.{runName, digitAt, decimal, lineText, textOfLines, runsThen, weeksThenEnd, textOf}
 use Rattle.text_lines.specs.Reading.{same, numberFrom, numberAfter, runOr, lineOf, linesFrom, stageAfter, stageFrom, isText, wordsOf, textRead}
 use Rattle.card.specs.Reading as card
 use Rattle.desk_report.specs.Printed.{asLine, closed, verdictName, minutesName, judgedName, readingName, dailyName, weeklyName, breachName, refusedName, numbered, spanText, dailyText}
 use Rattle.desk_report.specs.Printed.{weeklyText, restText, restsText, articleText, breachText, findingText, bracketed, verdictText, inputRead, deskText, cardInputRead, cardText}
-use Rattle.desk_report.proofs.Answered.{text-is, text-refused, desk-words, desk-over, card-words, card-over}
+use Rattle.desk_report.specs.Printed.{spansName, weeksName, weeksText, weeksLines, spansPage, spansText, deskSpansText, cardSpansText}
+use Rattle.desk_report.proofs.SpanLines.{spans-refused}
+use Rattle.desk_report.proofs.Answered.{text-is, text-refused, desk-words, desk-over, card-words, card-over, input-over}
 
 -- ---- the document's own case
 abbrev paperWords : List ℕ
@@ -83,8 +88,8 @@ say-at [] t i = on-the-edge .0
 say-at (c ∷ cs) t zero = t .0
 say-at (c ∷ cs) t (suc i) = say-at cs (t .1) i
 
-edge : (i : ℕ) → Says (caseAt (starred ++ worked ++ ordered ++ asked) i)
-edge = say-at (starred ++ worked ++ ordered ++ asked) on-the-edge
+edge : (i : ℕ) → Says (caseAt (starred ++ worked ++ ordered ++ asked ++ alone) i)
+edge = say-at (starred ++ worked ++ ordered ++ asked ++ alone) on-the-edge
 
 breach-printed : (ws : List ℕ) {n m a : ℕ} → totalFrom 0 ws ≡ answered n → verdict (minutesOf ws) ≡ breach m a
     → verdictText ws ≡ bracketed (numbered minutesName (totalBy ws) ++ breachText m a)
@@ -169,6 +174,30 @@ card-forms = record {
   odd-record = refl;
   unknown-record = refl;
   long-record = λ byte. card-over (replicate 65537 byte) (omega (arith, length-replicate 65537 byte));
+}
+
+pub record SpanForms : Type 0 where
+  -- `(spans`, `(weeks 0 5)`, `(weeks 10 11)`, `)`
+  two-spans : spansPage (span 0 5 ∷ span 10 11 ∷ [])
+      ≡ asLine spansName ++ ((weeksName ++ 32 ∷ 48 ∷ 32 ∷ 53 ∷ closed) ++ (weeksName ++ 32 ∷ 49 ∷ 48 ∷ 32 ∷ 49 ∷ 49 ∷ closed)) ++ closed
+  -- no minutes have no weeks
+  no-span : spansText [] ≡ asLine spansName ++ closed
+  -- refusals as on the verdict's page: a word of no minutes, a text of no bytes and one of 65,537, a day record with an odd count
+  no-minutes-alone : spansText (w 60 ∷ r 0 ∷ []) ≡ refusedPage 49
+  no-text-alone : deskSpansText [] ≡ refusedPage 56
+  long-text-alone : (byte : ℕ) → deskSpansText (replicate 65537 byte) ≡ refusedPage 57
+  odd-record-alone : cardSpansText (0 ∷ []) ≡ asLine verdictName ++ (refusedName ++ 32 ∷ 49 ∷ 49 ∷ closed) ++ closed
+
+pub span-forms : SpanForms
+unfolding recording.opened digitAt decimal numbered spanText weeksText weeksLines spansText deskSpansText cardSpansText inputRead cardInputRead linesFrom stageFrom isText wordsOf textRead
+    spansFrom breachSpans card.changesIn card.isUnknown card.follows card.allFollow card.inOrder card.isEven card.isDayRecord card.endBefore card.wordsOf card.cardRead
+span-forms = record {
+  two-spans = refl;
+  no-span = refl;
+  no-minutes-alone = spans-refused (w 60 ∷ r 0 ∷ []) {n = 1} refl;
+  no-text-alone = refl;
+  long-text-alone = λ byte. input-over false true (replicate 65537 byte) (omega (arith, length-replicate 65537 byte));
+  odd-record-alone = refl;
 }
 
 -- ---- numbers at their edges

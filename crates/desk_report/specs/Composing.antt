@@ -14,7 +14,8 @@ use Rattle.text.specs.Passes.{roomy}
 use Rattle.recording.specs.Answers.{Answer, refused, answered}
 use Rattle.recording.specs.declared.Filling.{Filling}
 use Rattle.recording.specs.declared.Filling.the-variants as filling
-use Rattle.desk_report.specs.Printed.{verdictText, deskText, cardText, asLine, verdictName, minutesName, judgedName, readingName, refusedName, numbered, restText, findingText, bracketed}
+use Rattle.desk_report.specs.Printed.{verdictText, spansText, deskText, cardText, deskSpansText, cardSpansText, asLine, verdictName, minutesName, judgedName, readingName, refusedName}
+use Rattle.desk_report.specs.Printed.{numbered, restText, findingText, bracketed}
 
 -- the bytes that are enough for whatever is printed, and for a line
 abbrev pub pageAtMost : ℕ
@@ -72,11 +73,18 @@ pub data Within : Filling → List ℕ → Type 0 where
   refusal : {n : ℕ} {words : List ℕ} → Within (filling.Refused n) words
   front : {n : ℕ} {words : List ℕ} → n ≤ length words → Within (filling.Written n) words
 
-unfoldable pub readText : Answer ℕ → List ℕ → List ℕ
-readText (refused n) words = refusalPage n
-readText (answered n) words = verdictText (take n words)
+-- what is printed for words, their spans or their verdict; and for what reading an input answered
+abbrev pub wordsText : Bool → List ℕ → List ℕ
+wordsText true words = spansText words
+wordsText false words = verdictText words
 
--- what is printed for an input that is a card's day record, or a text
-abbrev pub inputText : Bool → List ℕ → List ℕ
-inputText true input = cardText input
-inputText false input = deskText input
+unfoldable pub readText : Bool → Answer ℕ → List ℕ → List ℕ
+readText spans (refused n) words = refusalPage n
+readText spans (answered n) words = wordsText spans (take n words)
+
+-- what is printed for an input that is a card's day record, or a text: its spans, or its verdict
+abbrev pub inputText : Bool → Bool → List ℕ → List ℕ
+inputText true true input = cardSpansText input
+inputText true false input = cardText input
+inputText false true input = deskSpansText input
+inputText false false input = deskText input

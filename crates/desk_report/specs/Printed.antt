@@ -1,4 +1,5 @@
--- Public: document 01, "Bracket text", what the desk program prints; and document 02, request 1, what it prints for a card's day record.
+-- Public: document 01, "Bracket text", what the desk program prints; and document 02, what it prints for a card's day record, request 1, and of the
+-- spans of weeks, request 6.
 -- Assumes nothing.
 use mathlib.Core.List.{List, [], _∷_, _++_}
 use Prim.Native.Nat.{ℕ}
@@ -12,6 +13,8 @@ use Rattle.recording.specs.Operations.{measured}
 use Rattle.recording.specs.declared.Span.{Span}
 use Rattle.rules.specs.Reading.{weeklyKind, entryBytes}
 use Rattle.rules.specs.Verdict.{Verdict, pass, breach, verdict}
+use Rattle.rules.specs.Spans.{breachSpans}
+use Rattle.rules.specs.declared.Weeks.{Weeks}
 use Rattle.text_lines.specs.Form.{lineEnd, closingLine, decimal}
 use Rattle.text_lines.specs.Reading.{textRead}
 use Rattle.card.specs.Reading.{cardRead}
@@ -120,6 +123,38 @@ wordsAnswered words = andThen (measured words) (λ _. answered (answerText (minu
 unfoldable pub verdictText : List ℕ → List ℕ
 verdictText words = printed (wordsAnswered words)
 
+-- ---- the spans of weeks
+-- `(spans` and `(weeks`
+abbrev pub spansName : List ℕ
+spansName = 40 ∷ 115 ∷ 112 ∷ 97 ∷ 110 ∷ 115 ∷ []
+
+abbrev pub weeksName : List ℕ
+weeksName = 40 ∷ 119 ∷ 101 ∷ 101 ∷ 107 ∷ 115 ∷ []
+
+-- Document 02, request 6: "a record of its first and last week", here a line `(weeks first last)`
+unfoldable pub weeksText : ℕ → ℕ → List ℕ
+weeksText first last = spanText weeksName first last ++ closed
+
+unfoldable pub weeksLines : List Weeks → List ℕ
+weeksLines [] = []
+weeksLines (s ∷ ss) = weeksText (s .first) (s .last) ++ weeksLines ss
+
+-- `(spans`, these lines, `)`
+abbrev pub spansPage : List Weeks → List ℕ
+spansPage ss = asLine spansName ++ weeksLines ss ++ closed
+
+-- a refusal prints as the verdict's does
+abbrev pub printedSpans : Answer (List Weeks) → List ℕ
+printedSpans (refused n) = printed (refused n)
+printedSpans (answered ss) = spansPage ss
+
+-- what is printed of words: their spans, or refusal 1 or 2; the list that is lent is long enough for all
+abbrev pub spansAnswered : List ℕ → Answer (List Weeks)
+spansAnswered words = andThen (measured words) (λ _. answered (breachSpans (minutesOf words)))
+
+unfoldable pub spansText : List ℕ → List ℕ
+spansText words = printedSpans (spansAnswered words)
+
 -- ---- the desk program
 -- "The desk program reads such text from standard input, at most 65,536 bytes; more prints as refusal 9."
 abbrev pub inputAtMost : ℕ
@@ -142,6 +177,13 @@ cardInputRead bytes = unlessOver bytes (cardRead bytes (length bytes))
 
 unfoldable pub cardText : List ℕ → List ℕ
 cardText bytes = printed (andThen (cardInputRead bytes) wordsAnswered)
+
+-- With `--spans` the spans of weeks are printed (request 6), and the input is read in the same way.
+unfoldable pub deskSpansText : List ℕ → List ℕ
+deskSpansText text = printedSpans (andThen (inputRead text) spansAnswered)
+
+unfoldable pub cardSpansText : List ℕ → List ℕ
+cardSpansText bytes = printedSpans (andThen (cardInputRead bytes) spansAnswered)
 
 -- What is printed, composed in a buffer of `room` bytes: refusal 10, too few bytes. `counted` and `filled` of it are the result and the bytes.
 unfoldable pub intoRoom : List ℕ → ℕ → Answer (List ℕ)

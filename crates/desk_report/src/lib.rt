@@ -1,8 +1,10 @@
 // What the desk program prints, composed in a buffer. What is said of it stands in specs/.
 use recording::Filling;
 use verdict::Judgement;
+use verdict_spans::Found;
 ghost use mathlib.Core.Path.{_≡_};
-ghost use Prim.Native.Nat.{_+_, _≤_};
+ghost use mathlib.Core.Bool.{true, false};
+ghost use Prim.Native.Nat.{_+_, _*_, _≤_};
 ghost use lib.ListN.{length};
 ghost use Rattle.recording.specs.Answers.{refused, counted, filled};
 ghost use Rattle.recording.specs.Words.{minutesOf};
@@ -10,8 +12,12 @@ ghost use Rattle.recording.specs.Operations.{totalAtMost, written};
 ghost use Rattle.rules.specs.Verdict.{pass, breach};
 ghost use Rattle.rules.specs.Operations.{firstReadingGiven};
 ghost use Rattle.text.specs.Passes.{Put, places, roomy};
+ghost use Rattle.recording_list.specs.Records.{firstOf};
+ghost use Rattle.verdict_spans.specs.Mondays.{weeksAtMost};
+ghost use Rattle.verdict_spans.specs.Found.{weeksIn};
 ghost use Rattle.desk_report.specs.Printed.{spaced, numbered, spanText, dailyText, weeklyText, restText, articleText, breachText, verdictText, inputAtMost, deskText, cardText, intoRoom};
-ghost use Rattle.desk_report.specs.Composing.{pageAtMost, readingRoom, restsOf, Readable, refusalPage, pageOf, passHead, Read, Within, readText, inputText};
+ghost use Rattle.desk_report.specs.Printed.{weeksText, weeksLines, spansPage, spansText, deskSpansText, cardSpansText};
+ghost use Rattle.desk_report.specs.Composing.{pageAtMost, lineAtMost, readingRoom, restsOf, Readable, refusalPage, pageOf, passHead, Read, Within, wordsText, readText, inputText};
 
 // Bytes enough for whatever is printed.
 pub const PAGE_BYTES: usize = 8320;
@@ -142,6 +148,31 @@ fn put_breach(out: &mut [u8], at: usize, minute: u32, article: u32) -> usize
     text::put_all(out, told, b")\n")
 }
 
+// The line of a span of weeks.
+fn put_weeks(out: &mut [u8], at: usize, first: u32, last: u32) -> usize
+    requires { ⌜ at ≤ roomy ⌝ }
+    ensures { λ r. ⌜ Put (now (out .entry)) at (weeksText first last) r (now (out .exit)) ⌝ }
+{
+    let ended = put_span(out, at, b"(weeks", first, last);
+    text::put_all(out, ended, b")\n")
+}
+
+// The lines of all spans that were found.
+fn put_spans(out: &mut [u8], at: usize, found: Found) -> usize
+    requires { ⌜ (found .count ≤ weeksAtMost) × (at + lineAtMost * weeksAtMost ≤ roomy) ⌝ }
+    ensures { λ r. ⌜ Put (now (out .entry)) at (weeksLines (firstOf (found .count) (weeksIn found))) r (now (out .exit)) ⌝ }
+{
+    let count = found.count;
+    let mut next = at;
+    let mut i = 0;
+    while i < count {
+        let weeks = verdict_spans::weeks_at(found, i);
+        next = put_weeks(out, next, weeks.first, weeks.last);
+        i += 1;
+    }
+    next
+}
+
 // ---- pages
 
 // What is printed for a refusal.
@@ -217,51 +248,83 @@ fn verdict_page(out: &mut [u8], words: &[u32]) -> usize
     }
 }
 
-// What is printed for what reading an input answered: the verdict on the words that it wrote, or its refusal.
-fn read_page(out: &mut [u8], answer: Filling, words: &[u32]) -> usize
+// What is printed for spans that were found.
+fn list_page(out: &mut [u8], found: Found) -> usize
+    requires { ⌜ found .count ≤ weeksAtMost ⌝ }
+    ensures { λ r. ⌜ Put (now (out .entry)) 0 (spansPage (firstOf (found .count) (weeksIn found))) r (now (out .exit)) ⌝ }
+{
+    let begun = text::put_all(out, 0, b"(spans\n");
+    let told = put_spans(out, begun, found);
+    text::put_all(out, told, b")\n")
+}
+
+// What is printed of a recording's spans of weeks: a line for each, or a refusal.
+fn spans_page(out: &mut [u8], words: &[u32]) -> usize
+    ensures { λ r. ⌜ Put (now (out .entry)) 0 (spansText (now (words .entry))) r (now (out .exit)) ⌝ }
+{
+    let found = verdict_spans::spans_of(words, verdict_spans::WEEKS);
+    let answer = found.answer;
+    match answer {
+        Filling::Refused(n) => refusal_page(out, n),
+        Filling::Written(_) => list_page(out, found),
+    }
+}
+
+// What is printed for a recording: its spans, or its verdict.
+fn words_page(out: &mut [u8], spans: bool, words: &[u32]) -> usize
+    ensures { λ r. ⌜ Put (now (out .entry)) 0 (wordsText spans (now (words .entry))) r (now (out .exit)) ⌝ }
+{
+    if spans {
+        return spans_page(out, words);
+    }
+    verdict_page(out, words)
+}
+
+// What is printed for what reading an input answered: that of the words that it wrote, or its refusal.
+fn read_page(out: &mut [u8], spans: bool, answer: Filling, words: &[u32]) -> usize
     requires { ⌜ Within answer (now words) ⌝ }
-    ensures { λ r. ⌜ Put (now (out .entry)) 0 (readText (written answer) (now (words .entry))) r (now (out .exit)) ⌝ }
+    ensures { λ r. ⌜ Put (now (out .entry)) 0 (readText spans (written answer) (now (words .entry))) r (now (out .exit)) ⌝ }
 {
     match answer {
         Filling::Refused(n) => refusal_page(out, n),
         Filling::Written(n) => {
             let count = n as usize;
-            verdict_page(out, &words[..count])
+            words_page(out, spans, &words[..count])
         }
     }
 }
 
 // What is printed for a text that is not too long.
-fn desk_page(out: &mut [u8], text: &[u8]) -> usize
+fn desk_page(out: &mut [u8], spans: bool, text: &[u8]) -> usize
     requires { ⌜ length (now text) ≤ inputAtMost ⌝ }
-    ensures { λ r. ⌜ Put (now (out .entry)) 0 (deskText (now (text .entry))) r (now (out .exit)) ⌝ }
+    ensures { λ r. ⌜ Put (now (out .entry)) 0 (inputText false spans (now (text .entry))) r (now (out .exit)) ⌝ }
 {
     let mut words = [0u32; TEXT_WORDS];
     let answer = text::read_text(text, &mut words);
-    read_page(out, answer, &words)
+    read_page(out, spans, answer, &words)
 }
 
 // What is printed for a card's day record that is not too long.
-fn card_page(out: &mut [u8], bytes: &[u8]) -> usize
+fn card_page(out: &mut [u8], spans: bool, bytes: &[u8]) -> usize
     requires { ⌜ length (now bytes) ≤ inputAtMost ⌝ }
-    ensures { λ r. ⌜ Put (now (out .entry)) 0 (cardText (now (bytes .entry))) r (now (out .exit)) ⌝ }
+    ensures { λ r. ⌜ Put (now (out .entry)) 0 (inputText true spans (now (bytes .entry))) r (now (out .exit)) ⌝ }
 {
     let mut words = [0u32; CARD_WORDS];
     let answer = card::read_card(bytes, &mut words);
-    read_page(out, answer, &words)
+    read_page(out, spans, answer, &words)
 }
 
-// What is printed for an input: a card's day record, or a text.
-fn input_page(out: &mut [u8], card: bool, input: &[u8]) -> usize
-    ensures { λ r. ⌜ Put (now (out .entry)) 0 (inputText card (now (input .entry))) r (now (out .exit)) ⌝ }
+// What is printed for an input, a card's day record or a text: its spans, or its verdict.
+fn input_page(out: &mut [u8], card: bool, spans: bool, input: &[u8]) -> usize
+    ensures { λ r. ⌜ Put (now (out .entry)) 0 (inputText card spans (now (input .entry))) r (now (out .exit)) ⌝ }
 {
     if INPUT_BYTES < input.len() {
         return refusal_page(out, 9);
     }
     if card {
-        return card_page(out, input);
+        return card_page(out, spans, input);
     }
-    desk_page(out, input)
+    desk_page(out, spans, input)
 }
 
 // A page into a lent buffer: 10, too few bytes; or its length.
@@ -279,12 +342,12 @@ fn hand_over(page: &[u8], out: &mut [u8]) -> Filling
 }
 
 // Printing what is printed for an input: 10, too few bytes; or the count of bytes written.
-fn print_input(card: bool, input: &[u8], out: &mut [u8]) -> Filling
-    ensures { λ r. ⌜ written r ≡ counted (intoRoom (inputText card (now (input .entry))) (length (now (out .entry)))) ⌝ }
-    ensures { λ r. ⌜ now (out .exit) ≡ filled (intoRoom (inputText card (now (input .entry))) (length (now (out .entry)))) (now (out .entry)) ⌝ }
+fn print_input(card: bool, spans: bool, input: &[u8], out: &mut [u8]) -> Filling
+    ensures { λ r. ⌜ written r ≡ counted (intoRoom (inputText card spans (now (input .entry))) (length (now (out .entry)))) ⌝ }
+    ensures { λ r. ⌜ now (out .exit) ≡ filled (intoRoom (inputText card spans (now (input .entry))) (length (now (out .entry)))) (now (out .entry)) ⌝ }
 {
     let mut page = [0u8; PAGE_BYTES];
-    let n = input_page(&mut page, card, input);
+    let n = input_page(&mut page, card, spans, input);
     hand_over(&page[..n], out)
 }
 
@@ -294,7 +357,7 @@ pub fn print_desk(text: &[u8], out: &mut [u8]) -> Filling
     ensures { λ r. ⌜ written r ≡ counted (intoRoom (deskText (now (text .entry))) (length (now (out .entry)))) ⌝ }
     ensures { λ r. ⌜ now (out .exit) ≡ filled (intoRoom (deskText (now (text .entry))) (length (now (out .entry)))) (now (out .entry)) ⌝ }
 {
-    print_input(false, text, out)
+    print_input(false, false, text, out)
 }
 
 // Printing what it prints for a card's day record, likewise.
@@ -302,5 +365,21 @@ pub fn print_card(bytes: &[u8], out: &mut [u8]) -> Filling
     ensures { λ r. ⌜ written r ≡ counted (intoRoom (cardText (now (bytes .entry))) (length (now (out .entry)))) ⌝ }
     ensures { λ r. ⌜ now (out .exit) ≡ filled (intoRoom (cardText (now (bytes .entry))) (length (now (out .entry)))) (now (out .entry)) ⌝ }
 {
-    print_input(true, bytes, out)
+    print_input(true, false, bytes, out)
+}
+
+// Printing what it prints of the spans of weeks of a text, likewise.
+pub fn print_spans(text: &[u8], out: &mut [u8]) -> Filling
+    ensures { λ r. ⌜ written r ≡ counted (intoRoom (deskSpansText (now (text .entry))) (length (now (out .entry)))) ⌝ }
+    ensures { λ r. ⌜ now (out .exit) ≡ filled (intoRoom (deskSpansText (now (text .entry))) (length (now (out .entry)))) (now (out .entry)) ⌝ }
+{
+    print_input(false, true, text, out)
+}
+
+// Printing what it prints of those of a card's day record, likewise.
+pub fn print_card_spans(bytes: &[u8], out: &mut [u8]) -> Filling
+    ensures { λ r. ⌜ written r ≡ counted (intoRoom (cardSpansText (now (bytes .entry))) (length (now (out .entry)))) ⌝ }
+    ensures { λ r. ⌜ now (out .exit) ≡ filled (intoRoom (cardSpansText (now (bytes .entry))) (length (now (out .entry)))) (now (out .entry)) ⌝ }
+{
+    print_input(true, true, bytes, out)
 }

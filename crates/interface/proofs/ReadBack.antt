@@ -21,6 +21,7 @@ use Rattle.rules.specs.declared.Breaches.{Breaches}
 use Rattle.rules.specs.Fixed.{breaches, smallestRule, fixedTest, firstArticle}
 use Rattle.rules.specs.Reading.{entryBytes}
 use Rattle.rules.specs.Verdict.{prefix, firstLawful, breachMinute, articleBy, article, Verdict, pass, breach, verdictBy, verdict}
+use Rattle.rules.specs.Spans.{breachSpans, spansGiven}
 use Rattle.rules.specs.Operations.{Finding, passed, breached, findingOf, verdictGiven, readingOf, firstReadingGiven, breachesTested, fixedTested, articleTested, readingTested, entryAt}
 use Rattle.rules.proofs.ArticleOrder.{rule-most}
 use Rattle.text_lines.specs.Reading.{linesIn, wordsOf, isText, textRead}
@@ -170,6 +171,11 @@ told-reading (breach m a) = by-number {n = 13} (omega arith)
 pub first-reading-back : (ws : List ℕ) (room : ℕ) → answerIn itself (codeOf itself (counted (firstReadingGiven ws room))) ≡ counted (firstReadingGiven ws room)
 unfolding firstReadingGiven
 first-reading-back ws room = count-back (told-counted (told-then (told-measured ws) (λ k. told-if (ltb room (entryBytes * k .count)) (omega arith) (told-reading (verdict (minutesOf ws))))))
+
+-- ---- the spans of weeks
+pub spans-back : (ws : List ℕ) (room : ℕ) → answerIn itself (codeOf itself (counted (spansGiven ws room))) ≡ counted (spansGiven ws room)
+unfolding spansGiven
+spans-back ws room = count-back (told-counted (told-then (told-measured ws) (λ _. told-if (ltb room (length (breachSpans (minutesOf ws)))) (omega arith) (by-value _))))
 
 -- ---- the verdict: an article is below its unit
 data Within : Finding → Type 0 where

@@ -2,6 +2,7 @@
 use recording::Filling;
 use recording::Span;
 use recording::Weighing;
+use rules::Weeks;
 use rules_fixed::Tested;
 use verdict::Judgement;
 ghost use mathlib.Core.Path.{_≡_};
@@ -10,6 +11,7 @@ ghost use Rattle.recording.specs.Answers.{counted, filled};
 ghost use Rattle.recording.specs.Operations.{measured, listed, written};
 ghost use Rattle.rules_fixed.specs.Tested.{tested};
 ghost use Rattle.rules.specs.Operations.{fixedTested, articleTested, readingTested, entryAt, entryRefusal, verdictGiven, firstReadingGiven};
+ghost use Rattle.rules.specs.Spans.{spansGiven};
 ghost use Rattle.text_lines.specs.Reading.{textRead};
 ghost use Rattle.text.specs.Writing.{textWritten};
 ghost use Rattle.card.specs.Reading.{cardRead};
@@ -177,4 +179,13 @@ pub extern "C" fn desk_first_reading(words: &[u32], reading: &mut [u8]) -> u64
     ensures { λ r. ⌜ now (reading .exit) ≡ filled (firstReadingGiven (now (words .entry)) (length (now (reading .entry)))) (now (reading .entry)) ⌝ }
 {
     count_code(verdict::first_reading(words, reading))
+}
+
+// The spans of weeks that are a breach while no shorter span inside them is one: a refusal's number; or ANSWER and their count.
+#[no_mangle]
+pub extern "C" fn desk_breach_spans(words: &[u32], list: &mut [Weeks]) -> u64
+    ensures { λ r. ⌜ r ≡ codeOf itself (counted (spansGiven (now (words .entry)) (length (now (list .entry))))) ⌝ }
+    ensures { λ r. ⌜ now (list .exit) ≡ filled (spansGiven (now (words .entry)) (length (now (list .entry)))) (now (list .entry)) ⌝ }
+{
+    count_code(verdict_spans::breach_spans(words, list))
 }

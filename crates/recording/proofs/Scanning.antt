@@ -1,6 +1,6 @@
 -- The walk over the words: what it keeps, and that it comes to S, k and the long rests.
 -- Assumes nothing.
-use mathlib.Core.Path.{_≡_, refl, sym, ap, _∙_}
+use mathlib.Core.Path.{_≡_, refl, sym, ap, subst, _∙_}
 use mathlib.Core.Bool.{Bool, true, false}
 use mathlib.Core.List.{List, [], _∷_, map}
 use Prim.Native.Nat.{ℕ, zero, suc, _+_, _-_, _≤_, _<_}
@@ -13,7 +13,7 @@ use Rattle.recording.specs.Tests.{pick, one, keep}
 use Rattle.recording.specs.Words.{minutesIn, activityIn, minutesOf}
 use Rattle.recording.specs.Rests.{longRestMinutes, isLong, judgedEnd, longRests}
 use Rattle.recording.specs.Operations.{totalAtMost}
-use Rattle.recording.specs.Scan.{endsRest, afterRun, origin, placeOf, restAt, writtenFrom}
+use Rattle.recording.specs.Scan.{endsRest, afterRun, origin, placeOf, restAt, writtenFrom, Scanned}
 use Rattle.recording.specs.declared.Place.{Place}
 use Rattle.recording.specs.declared.Span.{Span}
 use Rattle.recording.proofs.LongRests.{long-with-rest}
@@ -173,6 +173,45 @@ module _ {ws : List ℕ} {p : Place} {i : ℕ} (k : Walking ws p i) (h : i < len
       → writtenFrom f p (drop i ws) out ≡ writtenFrom f q (drop (i + 1) ws) out′
   unfolding writtenFrom
   write-on f out e t g = rw (drop-cons ws i 0, add-one, e, g, t) refl
+
+-- a first word ends no long rest
+none-ended : (a n : ℕ) → endsRest origin a n ≡ false
+unfolding endsRest
+none-ended a zero = refl
+none-ended zero (suc n) = rw (eqb·suc-zero n) refl
+none-ended (suc a) (suc n) = rw (eqb·suc-zero n, eqb·suc-zero a) refl
+
+module _ (w : ℕ) (ws : List ℕ) (h : length (minutesOf (w ∷ ws)) ≤ totalAtMost) where
+  pub first-room : 0 + minutesIn w ≤ totalAtMost
+  first-room = run-room (start-walking (w ∷ ws) h) (omega arith)
+
+  pub first-walking : Walking (w ∷ ws) (afterRun origin (activityIn w) (minutesIn w)) 1
+  first-walking = walk-on (start-walking (w ∷ ws) h) (omega arith)
+
+pub first-written : (f : Span → ℕ) (w : ℕ) (ws out : List ℕ) → writtenFrom f origin (w ∷ ws) out ≡ writtenFrom f (afterRun origin (activityIn w) (minutesIn w)) ws out
+unfolding writtenFrom
+first-written f w ws out = rw (none-ended (activityIn w) (minutesIn w)) refl
+
+-- a word of no minutes stands for none
+pub scanned-alone : {ws starts ends starts′ ends′ : List ℕ} {p : Place} → Scanned (0 ∷ ws) starts ends p starts′ ends′ → Scanned ws starts ends p starts′ ends′
+unfolding placeOf writtenFrom afterRun endsRest
+scanned-alone k = record { place = k .place; begun = k .begun; ended = k .ended }
+
+-- the next word, where the first stands apart
+pub next-word : (i : ℕ) → suc i + 1 ≡ suc (i + 1)
+next-word i = omega arith
+
+module _ {w : ℕ} {ws : List ℕ} {p : Place} {i : ℕ} (k : Walking (w ∷ ws) p (suc i)) (h : i < length ws) where
+  pub next-room : p .now + minutesIn (getD ws i 0) ≤ totalAtMost
+  next-room = run-room k (omega arith)
+
+  pub next-walking : Walking (w ∷ ws) (afterRun p (activityIn (getD ws i 0)) (minutesIn (getD ws i 0))) (suc (i + 1))
+  next-walking = subst (λ (n : ℕ). Walking (w ∷ ws) (afterRun p (activityIn (getD ws i 0)) (minutesIn (getD ws i 0))) n) (next-word i) (walk-on k (omega arith))
+
+  pub next-written : (f : Span → ℕ) (out : List ℕ) {q : Place} {b : Bool} {out′ : List ℕ} → q ≡ afterRun p (activityIn (getD ws i 0)) (minutesIn (getD ws i 0))
+      → b ≡ endsRest p (activityIn (getD ws i 0)) (minutesIn (getD ws i 0)) → out′ ≡ pick b (set out (p .count) (f (restAt p))) out
+      → writtenFrom f p (drop i ws) out ≡ writtenFrom f q (drop (i + 1) ws) out′
+  next-written f out {q} {b} {out′} e t g = write-on k (omega arith) f out e t g ∙ ap (λ (n : ℕ). writtenFrom f q (drop n (w ∷ ws)) out′) (next-word i)
 
 module _ {ws : List ℕ} {p : Place} {i : ℕ} (k : Walking ws p i) (h : i ≡ length ws) where
   pub walk-done : p ≡ placeOf origin ws

@@ -1,5 +1,6 @@
 // A recording of a driver's activity, minute by minute. What is said of it stands in specs/.
 ghost use mathlib.Core.Path.{_≡_};
+ghost use mathlib.Core.List.{_∷_};
 ghost use Prim.Native.Nat.{_+_, _≤_, min};
 ghost use lib.ListN.{length, set};
 ghost use Rattle.recording.specs.Tests.{pick};
@@ -239,16 +240,18 @@ fn put_if(s: &mut [u32], wanted: bool, k: u32, v: u32)
     }
 }
 
-// Where each long rest starts and ends, written from the front of the lent slices as far as they reach.
-pub fn scan(words: &[u32], starts: &mut [u32], ends: &mut [u32]) -> Place
-    requires { ⌜ length (minutesOf (now words)) ≤ totalAtMost ⌝ }
-    ensures { λ r. ⌜ Scanned (now (words .entry)) (now (starts .entry)) (now (ends .entry)) r (now (starts .exit)) (now (ends .exit)) ⌝ }
+// Where each long rest starts and ends, written from the front of the lent slices as far as they reach. The recording is a first word, also one of no
+// minutes, and then the words.
+pub fn scan_from(head: u32, words: &[u32], starts: &mut [u32], ends: &mut [u32]) -> Place
+    requires { ⌜ length (minutesOf (head ∷ now words)) ≤ totalAtMost ⌝ }
+    ensures { λ r. ⌜ Scanned (head ∷ now (words .entry)) (now (starts .entry)) (now (ends .entry)) r (now (starts .exit)) (now (ends .exit)) ⌝ }
 {
-    let mut p = Place {
+    let origin = Place {
         now: 0,
         from: 0,
         count: 0,
     };
+    let mut p = after_run(origin, head % 4, head / 4);
     let mut i = 0;
     while i < words.len() {
         let word = words[i];
@@ -261,4 +264,12 @@ pub fn scan(words: &[u32], starts: &mut [u32], ends: &mut [u32]) -> Place
         i += 1;
     }
     p
+}
+
+// The same for words alone.
+pub fn scan(words: &[u32], starts: &mut [u32], ends: &mut [u32]) -> Place
+    requires { ⌜ length (minutesOf (now words)) ≤ totalAtMost ⌝ }
+    ensures { λ r. ⌜ Scanned (now (words .entry)) (now (starts .entry)) (now (ends .entry)) r (now (starts .exit)) (now (ends .exit)) ⌝ }
+{
+    scan_from(0, words, starts, ends)
 }

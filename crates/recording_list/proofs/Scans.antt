@@ -1,12 +1,12 @@
--- What stands at each return of the scan, and what the list holds once its records are written.
+-- What stands at each return of the scan.
 -- Assumes nothing.
-use mathlib.Core.Path.{_≡_, refl, sym, ap, _∙_}
+use mathlib.Core.Path.{_≡_, refl, ap, _∙_}
 use mathlib.Core.List.{List, [], _∷_, _++_, map}
-use Prim.Native.Nat.{ℕ, zero, suc, _≤_, _<_}
+use Prim.Native.Nat.{ℕ, _≤_, _<_}
 use native.Mathlib.Omega.{arith}
-use lib.ListN.{length, drop, getD}
+use lib.ListN.{length, getD}
 use borrow.Author.Tests.{lt-ltb, le-ltb}
-use Rattle.recording.specs.Answers.{Answer, refused, answered, filled}
+use Rattle.recording.specs.Answers.{refused, answered}
 use Rattle.recording.specs.Words.{minutesOf}
 use Rattle.recording.specs.Rests.{longRests, longRestsAtMost}
 use Rattle.recording.specs.Operations.{measured, listed}
@@ -18,9 +18,7 @@ use Rattle.recording.specs.declared.Span.{Span}
 use Rattle.recording.proofs.LongRests.{few-rests}
 use Rattle.recording.proofs.Listing.{measured-is, in-front}
 use Rattle.recording.proofs.Scanning.{scan-written}
-use Rattle.recording_list.specs.Records.{spanIn, firstOf, newOf, Finds}
-use Rattle.recording_list.specs.declared.Found.{Found}
-use Rattle.recording_list.proofs.Stored.{stored, stored-is}
+use Rattle.recording_list.specs.Records.{firstOf, Finds}
 
 -- ---- the arrays, with the long rests in front, give them back as records
 abbrev spanFrom : List ℕ → List ℕ → ℕ → Span
@@ -62,19 +60,3 @@ module _ (ws : List ℕ) (room : ℕ) (s e : List ℕ) where
         fits = h;
         few = omega (arith, g, c, few);
       }
-
--- ---- the list once the records are written
-first-length : {A : Type 0} (k : ℕ) (f : ℕ → A) → length (firstOf k f) ≡ k
-first-length zero f = refl
-first-length (suc k) f = ap suc (first-length k (λ i. f (suc i)))
-
-new-filled : {A : Type 0} (a : Answer (List A)) (old : List A) → newOf a ++ drop (length (newOf a)) old ≡ filled a old
-new-filled (refused n) old = refl
-new-filled (answered new) old = refl
-
-pub list-filled : {ws : List ℕ} {f : Found} (old : List Span) → Finds ws (length old) f → stored (f .count) (spanIn f) old ≡ filled (listed ws (length old)) old
-list-filled {ws} {f} old k =
-    stored-is (f .count) (spanIn f) old (k .fits)
-    ∙ ap (λ (n : ℕ). firstOf (f .count) (spanIn f) ++ drop n old) (sym (first-length (f .count) (spanIn f)))
-    ∙ ap (λ (l : List Span). l ++ drop (length l) old) (k .records)
-    ∙ new-filled (listed ws (length old)) old

@@ -1,11 +1,13 @@
--- A list whose first k elements are stored one by one: f 0 at 0, f 1 at 1, ..
+-- A list whose first k elements are stored one by one: f 0 at 0, f 1 at 1, .. And what a list holds once what was found is stored in it.
 -- Assumes nothing.
-use mathlib.Core.Path.{_≡_, refl, ap, _∙_}
+use mathlib.Core.Path.{_≡_, refl, sym, ap, _∙_}
 use mathlib.Core.List.{List, [], _∷_, _++_}
 use Prim.Native.Nat.{ℕ, zero, suc, _≤_}
 use native.Mathlib.Nat.{not-suc-le-zero, le-of-suc-le-suc}
 use lib.ListN.{length, drop, set, length-set}
-use Rattle.recording_list.specs.Records.{firstOf}
+use Rattle.recording.specs.Answers.{Answer, refused, answered, filled}
+use Rattle.recording.specs.declared.Filling.{Filling}
+use Rattle.recording_list.specs.Records.{firstOf, newOf, FindsOf}
 
 abbrev pub stored : {A : Type 0} → ℕ → (ℕ → A) → List A → List A
 stored zero f l = l
@@ -24,3 +26,19 @@ stored-is zero f l h = refl
 stored-is (suc k) f [] h = absurd (not-suc-le-zero h)
 stored-is {A} (suc k) f (x ∷ l) h =
     in-front k f x l ∙ ap (λ (m : List A). f zero ∷ m) (stored-is k (λ i. f (suc i)) l (le-of-suc-le-suc h))
+
+pub first-length : {A : Type 0} (k : ℕ) (f : ℕ → A) → length (firstOf k f) ≡ k
+first-length zero f = refl
+first-length (suc k) f = ap suc (first-length k (λ i. f (suc i)))
+
+new-filled : {A : Type 0} (a : Answer (List A)) (old : List A) → newOf a ++ drop (length (newOf a)) old ≡ filled a old
+new-filled (refused n) old = refl
+new-filled (answered new) old = refl
+
+pub list-filled : {A F : Type 0} {told : F → Filling} {count : F → ℕ} {at : F → ℕ → A} {most : ℕ} {due : List ℕ → ℕ → Answer (List A)} {ws : List ℕ} {f : F} (old : List A)
+    → FindsOf told count at most due ws (length old) f → stored (count f) (at f) old ≡ filled (due ws (length old)) old
+list-filled {A} {count = count} {at} {due = due} {ws} {f} old k =
+    stored-is (count f) (at f) old (k .fits)
+    ∙ ap (λ (n : ℕ). firstOf (count f) (at f) ++ drop n old) (sym (first-length (count f) (at f)))
+    ∙ ap (λ (l : List A). l ++ drop (length l) old) (k .records)
+    ∙ new-filled (due ws (length old)) old

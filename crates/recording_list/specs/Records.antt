@@ -8,6 +8,7 @@ use lib.ListN.{getD}
 use Rattle.recording.specs.Answers.{Answer, refused, answered, counted}
 use Rattle.recording.specs.Rests.{longRestsAtMost}
 use Rattle.recording.specs.Operations.{listed, written}
+use Rattle.recording.specs.declared.Filling.{Filling}
 use Rattle.recording.specs.declared.Span.{Span}
 use Rattle.recording_list.specs.declared.Found.{Found}
 
@@ -25,9 +26,13 @@ abbrev pub newOf : {A : Type 0} → Answer (List A) → List A
 newOf (refused n) = []
 newOf (answered new) = new
 
--- the answer and the records of a list of `room` records; none lies past the list, or past the arrays
-pub record Finds (words : List ℕ) (room : ℕ) (f : Found) : Type 0 where
-  pub answer : written (f .answer) ≡ counted (listed words room)
-  pub records : firstOf (f .count) (spanIn f) ≡ newOf (listed words room)
-  pub fits : f .count ≤ room
-  pub few : f .count ≤ longRestsAtMost
+-- of a scan that is to fill a list of `room` records: what it found gives the answer and the records that are due; none lies past the list, or past the most
+-- that it can hold
+pub record FindsOf {A F : Type 0} (told : F → Filling) (count : F → ℕ) (at : F → ℕ → A) (most : ℕ) (due : List ℕ → ℕ → Answer (List A)) (words : List ℕ) (room : ℕ) (f : F) : Type 0 where
+  pub answer : written (told f) ≡ counted (due words room)
+  pub records : firstOf (count f) (at f) ≡ newOf (due words room)
+  pub fits : count f ≤ room
+  pub few : count f ≤ most
+
+abbrev pub Finds : List ℕ → ℕ → Found → Type 0
+Finds = FindsOf (λ f. f .answer) (λ f. f .count) spanIn longRestsAtMost listed

@@ -1,19 +1,22 @@
--- The starred cases of document 01, "On the edge", a worked case at each edge of a number, cases of several fixed rules that break at one minute, and cases
--- of the verdict beside the first reading, under one law and one test that is computed.
+-- The starred cases of document 01, "On the edge", a worked case at each edge of a number, cases of several fixed rules that break at one minute, cases
+-- of the verdict beside the first reading, and cases of the spans of weeks, under one law and one test that is computed.
 -- Assumes nothing.
 use mathlib.Core.Path.{_≡_, refl, sym, ap, ap₂, _∙_}
 use mathlib.Core.Logic.{_⊎_, inl, inr}
 use mathlib.Core.Bool.{Bool, true, false, not, false≢true}
-use mathlib.Core.List.{List, [], _∷_, _++_}
+use mathlib.Core.List.{List, [], _∷_, _++_, List·Memᴰ as In, List·Memᴰ·head as here, List·Memᴰ·tail as there, List·Memᴰ·cases-cons, List·Memᴰ·not-nil}
 use mathlib.Core.Option.{none}
-use Prim.Native.Nat.{ℕ, zero, suc, _*_, _-_}
+use Prim.Native.Nat.{ℕ, zero, suc, _+_, _*_, _-_, _≤_}
+use native.Mathlib.Omega.{arith}
 use lib.Dec.{eqb, leb, ltb}
-use lib.ListN.{length, replicate}
+use lib.ListN.{length, drop, replicate}
 use borrow.Author.Tests.{eqb-true, eqb-false, leb-true, ltb-true, le-ltb, not-true}
-use Rattle.recording.specs.Tests.{_and_, _or_, pick, allOf}
+use Rattle.recording.specs.Tests.{_and_, _or_, pick, allOf, anyOf, keep}
 use Rattle.recording.specs.Answers.{Answer, refused, answered, andThen}
+use Rattle.recording.specs.Weeks.{weekMinutes, weekStart}
+use Rattle.recording.proofs.WordLaws.{minutes-in, activity-in}
 use Rattle.recording.specs.Operations.{totalFrom, measureOf, measured}
-use Rattle.recording.specs.Words.{wordOf, rest, availability, otherWork, driving, minutesOf}
+use Rattle.recording.specs.Words.{wordOf, minutesIn, activityIn, rest, availability, otherWork, driving, minutesOf}
 use Rattle.recording.specs.Rests.{longRests}
 use Rattle.recording.proofs.TestLaws.{and-left, and-right, or-cases}
 use Rattle.recording.specs.declared.Span.{Span}
@@ -26,9 +29,12 @@ use Rattle.rules.specs.ReadingRules.{shortened, readingTest}
 use Rattle.rules.specs.Order.{byteValues, Bytes}
 use Rattle.rules.specs.Verdict.{lawful, firstLawful, prefix, article, articleBy, Verdict, pass, breach, verdict}
 use Rattle.rules.specs.Operations.{breachesTested, fixedTested, articleTested, passed, breached, findingOf, verdictGiven, readingInto, firstReadingGiven}
+use Rattle.rules.specs.Spans.{weeksBegun, spansBeginning, spansFrom, spanMinutes, isBreach, breaching, shorterInside, leastBreach, breachSpans, listInto, spansGiven}
+use Rattle.rules.specs.declared.Weeks.{Weeks}
 use Rattle.rules.specs.Opened.{opened}
 use Rattle.rules.proofs.RuleLaws.{lawful-rules}
-use Rattle.rules.proofs.Breach.{Lawful, is-none, verdict-breach, verdict-pass}
+use Rattle.rules.proofs.Breach.{Lawful, first-none, is-none, verdict-breach, verdict-pass}
+use Rattle.rules.proofs.Spans.{span, lawful-passes, none-breaches, span-is}
 use Rattle.rules.proofs.ByWord.{breachesByWord, breaches-by, fixedBy, fixed-by, readingBy, reading-by, keepsAccumulatedBy}
 use Rattle.rules.proofs.OnlyDaily.{neverWeekly, allDaily, daily-first, daily-none}
 
@@ -42,6 +48,8 @@ pub data Case : Type 0 where
   reads : List ℕ → ℕ → Answer (List ℕ) → Case
   -- the verdict is a breach as in `breaks`, and the first reading with a buffer of so many bytes answers so
   readsNone : List ℕ → List ℕ → ℕ → ℕ → ℕ → Answer (List ℕ) → Case
+  -- the spans of weeks in a list of so many records; with every span of the recording, in order, goes a reading, which is lawful unless the span is a breach
+  spanning : List ℕ → List (List ℕ) → ℕ → Answer (List Weeks) → Case
   -- fixed rules break at a minute, and none did before: their places in the regulation's order, the fixed test's number and the article test's place there
   together : List ℕ → ℕ → List ℕ → ℕ → ℕ → Case
   -- a reading's test has an answer
@@ -74,6 +82,7 @@ Says (passes ws) = verdict (minutesOf ws) ≡ pass (allDaily (minutesOf ws))
 Says (breaks ws reading m n) = verdict (minutesOf ws) ≡ breach m n
 Says (reads ws room reading) = (verdictGiven ws ≡ answered passed) × (firstReadingGiven ws room ≡ reading)
 Says (readsNone ws shorter m n room reading) = (verdictGiven ws ≡ answered (breached m n)) × (firstReadingGiven ws room ≡ reading)
+Says (spanning ws readings room list) = spansGiven ws room ≡ list
 Says (together ws m broken rule place) =
     (places (breaches (prefix (m - 1) (minutesOf ws))) ≡ []) ×
     (places (breaches (prefix m (minutesOf ws))) ≡ broken) ×
@@ -196,9 +205,148 @@ module _ (ws : List ℕ) where
   unfolding firstReadingGiven
   reading-at room t e = rw (accepted-words ws t, rests-by ws) (ap (readingInto room (length (longRestsBy ws))) e)
 
+  spans-at : (room : ℕ) → accepted (totalFrom 0 ws) ≡ true → spansGiven ws room ≡ listInto room (breachSpans (minutesOf ws))
+  unfolding spansGiven
+  spans-at room t = rw (accepted-words ws t) refl
+
   article-by : article (minutesOf ws) ≡ articleBy (fixedBy ws)
   unfolding article
   article-by = ap articleBy (fixed-by ws)
+
+-- ---- the words from a minute on, and those of a span
+fromAt : ℕ → List ℕ → List ℕ
+fromAt m [] = []
+fromAt m (w ∷ ws) = wordOf (minutesIn w - m) (activityIn w) ∷ fromAt (m - minutesIn w) ws
+
+drop-run : (m n a : ℕ) (ms : List ℕ) → drop m (replicate n a ++ ms) ≡ replicate (n - m) a ++ drop (m - n) ms
+drop-run zero n a ms =
+    let e : n ≡ n - 0 = omega arith in
+    let z : 0 ≡ 0 - n = omega arith in
+    ap₂ (λ (x y : ℕ). replicate x a ++ drop y ms) e z
+drop-run (suc m) zero a ms =
+    let e : 0 ≡ 0 - suc m = omega arith in
+    let z : suc m ≡ suc m - 0 = omega arith in
+    ap₂ (λ (x y : ℕ). replicate x a ++ drop y ms) e z
+drop-run (suc m) (suc n) a ms =
+    let e : n - m ≡ suc n - suc m = omega arith in
+    let z : m - n ≡ suc m - suc n = omega arith in
+    drop-run m n a ms ∙ ap₂ (λ (x y : ℕ). replicate x a ++ drop y ms) e z
+
+from-at : (m : ℕ) (ws : List ℕ) → minutesOf (fromAt m ws) ≡ drop m (minutesOf ws)
+unfolding minutesOf fromAt
+from-at zero [] = refl
+from-at (suc m) [] = refl
+from-at m (w ∷ ws) =
+    ap₂ (λ (n x : ℕ). replicate n x ++ minutesOf (fromAt (m - minutesIn w) ws))
+    (minutes-in (minutesIn w - m) (activityIn w) (omega arith)) (activity-in (minutesIn w - m) (activityIn w) (omega arith))
+    ∙ ap (λ (l : List ℕ). replicate (minutesIn w - m) (activityIn w) ++ l) (from-at (m - minutesIn w) ws)
+    ∙ sym (drop-run m (minutesIn w) (activityIn w) (minutesOf ws))
+
+abbrev spanWords : List ℕ → Weeks → List ℕ
+spanWords ws s = cutAt (weekMinutes * (s .last + 1 - s .first)) (fromAt (weekStart (s .first)) ws)
+
+span-words : (ws : List ℕ) (s : Weeks) → s .first ≤ s .last → minutesOf (spanWords ws s) ≡ spanMinutes (minutesOf ws) s
+span-words ws s h =
+    cut-at (weekMinutes * (s .last + 1 - s .first)) (fromAt (weekStart (s .first)) ws)
+    ∙ ap (prefix (weekMinutes * (s .last + 1 - s .first))) (from-at (weekStart (s .first)) ws) ∙ sym (span-is (minutesOf ws) s h)
+
+-- each span is a breach by the test above, or has the reading that goes with it
+readable : List ℕ → List ℕ → Bool
+readable own reading = noneBy own or (bytesTest (entryBytes * length (longRestsBy own)) reading and lawfulBy own reading)
+
+eachReadable : List ℕ → List Weeks → List (List ℕ) → Bool
+eachReadable ws [] readings = true
+eachReadable ws (s ∷ ss) [] = false
+eachReadable ws (s ∷ ss) (r ∷ rs) = leb (s .first) (s .last) and readable (spanWords ws s) r and eachReadable ws ss rs
+
+abbrev spanBy : List ℕ → Weeks → Bool
+spanBy ws s = noneBy (spanWords ws s)
+
+breaks-by : (own reading : List ℕ) → readable own reading ≡ true → isBreach (verdict (minutesOf own)) ≡ noneBy own
+unfolding readable
+breaks-by own reading t = at (noneBy own) refl (or-cases _ _ t)
+  where
+    at : (b : Bool) → noneBy own ≡ b → (noneBy own ≡ true) ⊎ (bytesTest (entryBytes * length (longRestsBy own)) reading and lawfulBy own reading ≡ true)
+        → isBreach (verdict (minutesOf own)) ≡ b
+    at true e k = none-breaches (minutesOf own) (first-none (minutesOf own) (none-lawful (minutesOf own) (none-by own ∙ e)))
+    at false e (inl k) = absurd (false≢true (sym e ∙ k))
+    at false e (inr k) =
+        lawful-passes (minutesOf own) (
+          reading,
+          record {
+            bytes = bytes-test (readingSize (minutesOf own)) reading (ap (λ (n : ℕ). bytesTest n reading) (size-by own) ∙ and-left _ _ k);
+            keeps = lawful-by own reading ∙ and-right _ _ k;
+          },
+        )
+
+each-by : (ws : List ℕ) (ss : List Weeks) (rs : List (List ℕ)) → eachReadable ws ss rs ≡ true → (s : Weeks) → In s ss → breaching (minutesOf ws) s ≡ spanBy ws s
+unfolding eachReadable breaching
+each-by ws [] rs t s i = absurd (List·Memᴰ·not-nil i)
+each-by ws (x ∷ ss) [] t s i = absurd (false≢true t)
+each-by ws (x ∷ ss) (r ∷ rs) t s i = at (List·Memᴰ·cases-cons i) (each-by ws ss rs (and-right _ _ t) s)
+  where
+    this : isBreach (verdict (spanMinutes (minutesOf ws) x)) ≡ spanBy ws x
+    this =
+        let u = and-left _ _ t in
+        ap (λ (l : List ℕ). isBreach (verdict l)) (sym (span-words ws x (leb-true _ _ (and-left _ _ u)))) ∙ breaks-by (spanWords ws x) r (and-right _ _ u)
+
+    at : (s ≡ x) ⊎ In s ss → (In s ss → isBreach (verdict (spanMinutes (minutesOf ws) s)) ≡ spanBy ws s) → isBreach (verdict (spanMinutes (minutesOf ws) s)) ≡ spanBy ws s
+    at (inl e) f = rw e this
+    at (inr j) f = f j
+
+-- what is kept where two tests agree
+any-same : (f g : Weeks → Bool) (ss : List Weeks) → ((s : Weeks) → In s ss → f s ≡ g s) → anyOf f ss ≡ anyOf g ss
+unfolding anyOf
+any-same f g [] e = refl
+any-same f g (s ∷ ss) e = ap₂ _or_ (e s (here refl)) (any-same f g ss (λ t i. e t (there i)))
+
+keep-same : (f g : Weeks → Bool) (ss : List Weeks) → ((s : Weeks) → In s ss → f s ≡ g s) → keep f ss ≡ keep g ss
+unfolding keep
+keep-same f g [] e = refl
+keep-same f g (s ∷ ss) e = ap₂ (λ (b : Bool) (l : List Weeks). pick b (s ∷ l) l) (e s (here refl)) (keep-same f g ss (λ t i. e t (there i)))
+
+least-same : (f g : Weeks → Bool) (all : List Weeks) → ((s : Weeks) → In s all → f s ≡ g s) → keep (leastBreach f all) all ≡ keep (leastBreach g all) all
+unfolding leastBreach
+least-same f g all e =
+    keep-same (leastBreach f all) (leastBreach g all) all
+    (λ s i. ap₂ (λ (a b : Bool). a and not b) (e s i) (any-same _ _ all (λ t j. ap (λ (b : Bool). shorterInside s t and b) (e t j))))
+
+abbrev spansBy : List ℕ → List Weeks
+spansBy ws = keep (leastBreach (spanBy ws) (spansFrom 0 (weeksBegun (totalBy ws)))) (spansFrom 0 (weeksBegun (totalBy ws)))
+
+spans-by : (ws : List ℕ) (rs : List (List ℕ)) → eachReadable ws (spansFrom 0 (weeksBegun (totalBy ws))) rs ≡ true → breachSpans (minutesOf ws) ≡ spansBy ws
+unfolding breachSpans
+spans-by ws rs t =
+    ap (λ (n : ℕ). keep (leastBreach (breaching (minutesOf ws)) (spansFrom 0 (weeksBegun n))) (spansFrom 0 (weeksBegun n))) (total-by ws)
+    ∙ least-same (breaching (minutesOf ws)) (spanBy ws) (spansFrom 0 (weeksBegun (totalBy ws))) (each-by ws (spansFrom 0 (weeksBegun (totalBy ws))) rs t)
+
+sameSpans : List Weeks → List Weeks → Bool
+sameSpans [] [] = true
+sameSpans [] (y ∷ ys) = false
+sameSpans (x ∷ xs) [] = false
+sameSpans (x ∷ xs) (y ∷ ys) = eqb (x .first) (y .first) and eqb (x .last) (y .last) and sameSpans xs ys
+
+same-spans : (xs ys : List Weeks) → sameSpans xs ys ≡ true → xs ≡ ys
+unfolding sameSpans
+same-spans [] [] t = refl
+same-spans [] (y ∷ ys) t = absurd (false≢true t)
+same-spans (x ∷ xs) [] t = absurd (false≢true t)
+same-spans (x ∷ xs) (y ∷ ys) t =
+    let u = and-left _ _ t in
+    (λ i. span (eqb-true (x .first) (y .first) (and-left _ _ u) i) (eqb-true (x .last) (y .last) (and-right _ _ u) i) ∷ same-spans xs ys (and-right _ _ t) i)
+
+sameList : Answer (List Weeks) → Answer (List Weeks) → Bool
+sameList (refused m) (refused n) = eqb m n
+sameList (refused m) (answered ys) = false
+sameList (answered xs) (refused n) = false
+sameList (answered xs) (answered ys) = sameSpans xs ys
+
+same-list : (a b : Answer (List Weeks)) → sameList a b ≡ true → a ≡ b
+unfolding sameList
+same-list (refused m) (refused n) t = ap refused (eqb-true m n t)
+same-list (refused m) (answered ys) t = absurd (false≢true t)
+same-list (answered xs) (refused n) t = absurd (false≢true t)
+same-list (answered xs) (answered ys) t = ap answered (same-spans xs ys t)
 
 -- a breach at a minute, with its article
 breaksBy : List ℕ → List ℕ → ℕ → ℕ → Bool
@@ -216,6 +364,8 @@ holds (breaks ws reading m n) = breaksBy ws reading m n
 holds (reads ws room reading) = accepted (totalFrom 0 ws) and lawfulBy ws (dailyBy ws) and sameAnswer (readingInto room (length (longRestsBy ws)) (pass (dailyBy ws))) reading
 holds (readsNone ws shorter m n room reading) =
     accepted (totalFrom 0 ws) and breaksBy ws shorter m n and sameAnswer (readingInto room (length (longRestsBy ws)) (breach m n)) reading
+holds (spanning ws readings room list) =
+    accepted (totalFrom 0 ws) and eachReadable ws (spansFrom 0 (weeksBegun (totalBy ws))) readings and sameList (listInto room (spansBy ws)) list
 holds (together ws m broken rule place) =
     accepted (totalFrom 0 ws) and
     leb m (totalBy ws) and
@@ -268,6 +418,9 @@ says (readsNone ws shorter m n room reading) t =
     let t1 = and-left _ _ t in
     let v = breach-there ws shorter m n (and-right _ _ t1) in
     (finding-at ws (and-left _ _ t1) v, reading-at ws room (and-left _ _ t1) v ∙ same-answer _ reading (and-right _ _ t))
+says (spanning ws readings room list) t =
+    let t1 = and-left _ _ t in
+    spans-at ws room (and-left _ _ t1) ∙ ap (listInto room) (spans-by ws readings (and-right _ _ t1)) ∙ same-list _ list (and-right _ _ t)
 says (together ws m broken rule place) t =
     let t1 = and-left _ _ t in
     let t2 = and-left _ _ t1 in
@@ -501,7 +654,29 @@ asked =
     readsNone (times 4 (w 840 ∷ r 600 ∷ []) (w 1 ∷ [])) (daily 3 []) 5761 6 12 (refused 13) ∷
     []
 
+-- Request 6: the spans of weeks that are a breach alone, in a list that is short, just enough or longer
+abbrev pub alone : List Case
+alone =
+    -- no week; one, lawful to its last minute; a part of one, and of a second after a lawful first
+    spanning [] [] 0 (answered []) ∷
+    spanning (r 10079 ∷ w 1 ∷ []) (weekly 0 0 [] ∷ []) 0 (answered []) ∷
+    spanning (w 901 ∷ []) ([] ∷ []) 0 (refused 14) ∷
+    spanning (w 901 ∷ []) ([] ∷ []) 1 (answered (span 0 0 ∷ [])) ∷
+    spanning (w 901 ∷ []) ([] ∷ []) 2 (answered (span 0 0 ∷ [])) ∷
+    spanning (w 900 ∷ r 9180 ∷ w 901 ∷ []) ([] ∷ [] ∷ [] ∷ []) 1 (answered (span 1 1 ∷ [])) ∷
+    -- a breach in each of two weeks, each by itself: the whole is one too, and holds them
+    spanning (d 271 ∷ r 9809 ∷ d 271 ∷ []) ([] ∷ [] ∷ [] ∷ []) 1 (refused 14) ∷
+    spanning (d 271 ∷ r 9809 ∷ d 271 ∷ []) ([] ∷ [] ∷ [] ∷ []) 2 (answered (span 0 0 ∷ span 1 1 ∷ [])) ∷
+    -- two good halves and a bad whole: 5,401 minutes of driving in two weeks
+    spanning (week2700 (times 5 shift (d 1 ∷ []))) (daily 4 [] ∷ [] ∷ daily 5 [] ∷ []) 1 (answered (span 0 1 ∷ [])) ∷
+    spanning (week2700 (times 5 shift [])) (daily 4 [] ∷ daily 4 (weekly 0 0 (daily 4 [])) ∷ daily 4 [] ∷ []) 0 (answered []) ∷
+    -- a lawful whole whose second week is a breach: of the rest over its Monday 120 minutes are left
+    spanning (w 900 ∷ r 9300 ∷ w 900 ∷ []) ([] ∷ weekly 0 0 [] ∷ [] ∷ []) 1 (answered (span 1 1 ∷ [])) ∷
+    spanning (w 900 ∷ r 9300 ∷ w 780 ∷ []) ([] ∷ weekly 0 0 [] ∷ [] ∷ []) 0 (answered []) ∷
+    []
+
 -- THE JOINT THEOREM
-pub on-the-edge : AllSay (starred ++ worked ++ ordered ++ asked)
-unfolding opened endBy closedBy totalBy drivingUpTo cutAt keepsAccumulatedBy breaksBy holds bytesTest sameNumbers sameAnswer
-on-the-edge = all-say (starred ++ worked ++ ordered ++ asked) refl
+pub on-the-edge : AllSay (starred ++ worked ++ ordered ++ asked ++ alone)
+unfolding opened endBy closedBy totalBy drivingUpTo cutAt keepsAccumulatedBy breaksBy holds bytesTest sameNumbers sameAnswer fromAt readable eachReadable spansBeginning spansFrom
+    shorterInside leastBreach sameSpans sameList
+on-the-edge = all-say (starred ++ worked ++ ordered ++ asked ++ alone) refl

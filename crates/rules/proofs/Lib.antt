@@ -10,6 +10,7 @@ pub mod Breach
 pub mod OnlyDaily
 pub mod EntryLaws
 pub mod VerdictAndReading
+pub mod Spans
 pub mod RestWeekLaws
 pub mod ByWord
 pub mod Cases

@@ -5,4 +5,5 @@ pub mod ReadingRules
 pub mod Order
 pub mod Verdict
 pub mod Operations
+pub mod Spans
 pub mod Opened

@@ -27,3 +27,10 @@ pub enum Kind {
     Daily,
     Weekly(Standing),
 }
+
+// A span of consecutive weeks: its first and its last, from 0. Callers in C lend a list of them.
+#[repr(C)]
+pub struct Weeks {
+    pub first: u32,
+    pub last: u32,
+}

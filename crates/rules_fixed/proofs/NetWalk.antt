@@ -1,5 +1,5 @@
 -- The walk over the words finds the number of each long rest: the day that runs is split where the document says so. Assumes nothing.
-use mathlib.Core.Path.{_≡_, refl, sym, ap, ap₂, _∙_}
+use mathlib.Core.Path.{_≡_, refl, sym, ap, ap₂, subst, _∙_}
 use mathlib.Core.Bool.{Bool, true, false}
 use mathlib.Core.List.{List, [], _∷_, _++_, append-assoc}
 use Prim.Native.Nat.{ℕ, zero, suc, _+_, _-_, _≤_, _<_}
@@ -7,7 +7,7 @@ use native.Mathlib.Nat.{le-refl}
 use native.Mathlib.Numerals.{add-one}
 use native.Mathlib.Omega.{arith}
 use lib.Dec.{ltb, eqb·suc-zero}
-use lib.ListN.{length, drop, getD}
+use lib.ListN.{length, drop, getD, set}
 use lib.Seq.{sets, length-sets, drop-cons, drop-length}
 use borrow.Author.Tests.{le-leb, lt-leb, ltb-false}
 use Rattle.recording.specs.Tests.{_and_, _or_, pick, one, anyOf, keep}
@@ -21,7 +21,7 @@ use Rattle.recording.specs.declared.Span.{Span}
 use Rattle.recording.proofs.TestLaws.{or-false}
 use Rattle.recording.proofs.ClosedRests.{Apart, none, next, rests-apart}
 use Rattle.recording.proofs.ByWord.{restsByRun, closedBy, closed-rests-by}
-use Rattle.recording.proofs.Scanning.{none-run, rest-run, busy-run, pick-sets, Walking, start-walking, walk-on}
+use Rattle.recording.proofs.Scanning.{none-run, rest-run, busy-run, pick-sets, Walking, start-walking, walk-on, next-word}
 use Rattle.rules.specs.ReadingRules.{firstPeriodAtLeast, isFirstPeriod, splitDay}
 use Rattle.rules.proofs.SplitDays.{before-day, split-append, none-after}
 use Rattle.rules_fixed.specs.Nets.{regularNet, spanOf, netsFrom, netsOf, freshDay, closes, dayThen, dayOn, netsOn, withNet}
@@ -146,7 +146,7 @@ pub record Noting (ws nets₀ nets : List ℕ) (p : Place) (d : OpenDay) (i : �
   pub begun : d .start ≤ p .from
   pub same : sets nets₀ 0 (netsOf (minutesOf ws)) ≡ sets nets (p .count) (netsOn d (closedBy (p .from) (p .now) (drop i ws)))
 
-pub start-noting : (ws nets : List ℕ) → length (minutesOf ws) ≤ totalAtMost → Noting ws nets nets origin (freshDay 0) 0
+start-noting : (ws nets : List ℕ) → length (minutesOf ws) ≤ totalAtMost → Noting ws nets nets origin (freshDay 0) 0
 start-noting ws nets h = record {
   walking = start-walking ws h;
   begun = omega arith;
@@ -154,7 +154,7 @@ start-noting ws nets h = record {
 }
 
 module _ {ws nets₀ nets : List ℕ} {p : Place} {d : OpenDay} {i : ℕ} (g : Noting ws nets₀ nets p d i) where
-  pub note-on : {q : Place} {e : OpenDay} {nets′ : List ℕ} → i < length ws → q ≡ afterRun p (activityIn (getD ws i 0)) (minutesIn (getD ws i 0))
+  note-on : {q : Place} {e : OpenDay} {nets′ : List ℕ} → i < length ws → q ≡ afterRun p (activityIn (getD ws i 0)) (minutesIn (getD ws i 0))
       → e ≡ dayRun d p (activityIn (getD ws i 0)) (minutesIn (getD ws i 0)) → nets′ ≡ netRun d p (activityIn (getD ws i 0)) (minutesIn (getD ws i 0)) nets
       → Noting ws nets₀ nets′ q e (i + 1)
   unfolding closedBy
@@ -175,3 +175,31 @@ module _ {ws nets₀ nets : List ℕ} {p : Place} {d : OpenDay} {i : ℕ} (g : N
 
   pub as-long : length nets ≡ length nets₀
   as-long = sym (length-sets nets (p .count) (netsOn d (closedBy (p .from) (p .now) (drop i ws)))) ∙ sym (ap length (g .same)) ∙ length-sets nets₀ 0 (netsOf (minutesOf ws))
+
+-- the first word: no rest ends before it
+none-noted : (a n : ℕ) → freshDay 0 ≡ dayRun (freshDay 0) origin a n
+none-noted a n = at (closes a n)
+  where
+    at : (b : Bool) → freshDay 0 ≡ pick b (dayOn (freshDay 0) (restAt origin)) (freshDay 0)
+    at true = sym (none-rested (freshDay 0) 0 0 (le-refl _))
+    at false = refl
+
+none-put : (a n : ℕ) (nets : List ℕ) → nets ≡ netRun (freshDay 0) origin a n nets
+unfolding withNet
+none-put a n nets = at (closes a n)
+  where
+    at : (b : Bool) → nets ≡ pick b (pick (isLong (restAt origin)) (set nets 0 (regularNet false 0 0 0)) nets) nets
+    at true = refl
+    at false = refl
+
+pub first-noting : (w : ℕ) (ws nets : List ℕ) {q : Place} → length (minutesOf (w ∷ ws)) ≤ totalAtMost → q ≡ afterRun origin (activityIn w) (minutesIn w)
+    → Noting (w ∷ ws) nets nets q (freshDay 0) 1
+first-noting w ws nets h e =
+    note-on (start-noting (w ∷ ws) nets h) (omega arith) e (none-noted (activityIn w) (minutesIn w)) (none-put (activityIn w) (minutesIn w) nets)
+
+-- and the next, where the first stands apart
+pub next-noting : {w : ℕ} {ws nets₀ nets : List ℕ} {p : Place} {d : OpenDay} {i : ℕ} {q : Place} {e : OpenDay} {nets′ : List ℕ} → Noting (w ∷ ws) nets₀ nets p d (suc i)
+    → i < length ws → q ≡ afterRun p (activityIn (getD ws i 0)) (minutesIn (getD ws i 0)) → e ≡ dayRun d p (activityIn (getD ws i 0)) (minutesIn (getD ws i 0))
+    → nets′ ≡ netRun d p (activityIn (getD ws i 0)) (minutesIn (getD ws i 0)) nets → Noting (w ∷ ws) nets₀ nets′ q e (suc (i + 1))
+next-noting {w} {ws} {nets₀} {i = i} {q = q} {e = e} {nets′ = nets′} g h a b c =
+    subst (λ (j : ℕ). Noting (w ∷ ws) nets₀ nets′ q e j) (next-word i) (note-on g (omega arith) a b c)

@@ -1,5 +1,5 @@
 -- The walk over the words: what it keeps, and what the tests answer at each return. Assumes nothing.
-use mathlib.Core.Path.{_≡_, refl, sym, ap, ap₂, _∙_}
+use mathlib.Core.Path.{_≡_, refl, sym, ap, ap₂, subst, _∙_}
 use mathlib.Core.List.{List, [], _∷_, _++_, append-nil, append-assoc}
 use Prim.Native.Nat.{ℕ, zero, suc, _+_, _-_, _≤_, _<_, min}
 use native.Mathlib.Nat.{zero-add, suc-add}
@@ -15,12 +15,13 @@ use Rattle.recording.specs.Scan.{Scanned}
 use Rattle.recording.specs.declared.Measure.{Measure}
 use Rattle.recording.specs.declared.Place.{Place}
 use Rattle.recording.proofs.ByWord.{take-run}
-use Rattle.recording.proofs.Scanning.{scan-total}
+use Rattle.recording.proofs.Scanning.{scan-total, scanned-alone}
 use Rattle.rules.specs.declared.Breaches.{Breaches}
 use Rattle.rules.specs.Operations.{breachesTested}
 use Rattle.rules_fixed.specs.Account.{minuteAfter, accountFrom, opening}
-use Rattle.rules_fixed.specs.Walk.{Bounded, Ran}
+use Rattle.rules_fixed.specs.Walk.{Bounded, Ran, Surveyed}
 use Rattle.rules_fixed.specs.declared.Account.{Account}
+use Rattle.rules_fixed.specs.declared.Survey.{Survey}
 use Rattle.rules_fixed.proofs.AccountRight.{account-right}
 
 -- ---- runs of minutes
@@ -97,10 +98,10 @@ module _ {ws : List ℕ} {m : ℕ} {s : Account} {togo i : ℕ} (k : Walking ws 
       ∙ ap (λ (x : ℕ). replicate (min togo (minutesIn (getD ws i 0))) (activityIn (getD ws i 0)) ++ take (togo - minutesIn (getD ws i 0)) (minutesOf (drop x ws))) (sym (add-one i))
 
   module _ {n : ℕ} (is-n : n ≡ min togo (minutesIn (getD ws i 0))) where
-    pub run-room : s .now + n ≤ totalAtMost
+    run-room : s .now + n ≤ totalAtMost
     run-room = omega (arith, k .room, left-there)
 
-    pub walk-on : {t : Account} → Ran s (activityIn (getD ws i 0)) n t → Walking ws m t (togo - n) (i + 1)
+    walk-on : {t : Account} → Ran s (activityIn (getD ws i 0)) n t → Walking ws m t (togo - n) (i + 1)
     walk-on {t} r =
         let a = activityIn (getD ws i 0) in
         let z : togo - minutesIn (getD ws i 0) ≡ togo - n = omega arith in
@@ -115,6 +116,21 @@ module _ {ws : List ℕ} {m : ℕ} {s : Account} {togo i : ℕ} (k : Walking ws 
           account = r .is ∙ ap (λ (x : Account). accountFrom x (replicate n a)) (k .account) ∙ sym (account-append opening (k .done) (replicate n a));
         }
 
+-- the same for a word that is known by its value
+module _ {ws : List ℕ} {m : ℕ} {s : Account} {togo i word n : ℕ} (k : Walking ws m s togo i) (h : i < length ws) (is : word ≡ getD ws i 0) (e : n ≡ min togo (minutesIn word)) where
+  there : n ≡ min togo (minutesIn (getD ws i 0))
+  there = e ∙ ap (λ (w : ℕ). min togo (minutesIn w)) is
+
+  pub word-room : s .now + n ≤ totalAtMost
+  word-room = run-room k h there
+
+  pub word-on : {t : Account} → Ran s (activityIn word) n t → Walking ws m t (togo - n) (i + 1)
+  word-on {t} r = walk-on k h there (subst (λ (w : ℕ). Ran s (activityIn w) n t) is r)
+
+-- the next word, after one that stands apart
+pub word-after : (head : ℕ) (ws : List ℕ) (i : ℕ) → getD ws i 0 ≡ getD (head ∷ ws) (i + 1) 0
+word-after head ws i = ap (λ (n : ℕ). getD (head ∷ ws) n 0) (sym (add-one i))
+
 pub walk-done : {ws : List ℕ} {m : ℕ} {s : Account} {togo i : ℕ} → Walking ws m s togo i → i ≡ length ws → s ≡ accountFrom opening (take m (minutesOf ws))
 unfolding accountFrom minutesOf
 walk-done {ws} {m} {togo = togo} k h =
@@ -124,6 +140,14 @@ walk-done {ws} {m} {togo = togo} k h =
 -- the place at the end of a scan is past all minutes
 pub all-there : {ws starts ends starts′ ends′ : List ℕ} {p : Place} → Scanned ws starts ends p starts′ ends′ → take (p .now) (minutesOf ws) ≡ minutesOf ws
 all-there {ws} {p = p} q = take-all (p .now) (minutesOf ws) (omega (arith, ap (λ (x : Place). x .now) (q .place) ∙ scan-total ws))
+
+-- a word of no minutes stands for none
+pub surveyed-alone : {ws starts ends nets starts′ ends′ nets′ : List ℕ} {r : Survey}
+    → Surveyed (0 ∷ ws) starts ends nets r starts′ ends′ nets′ → Surveyed ws starts ends nets r starts′ ends′ nets′
+unfolding minutesOf
+surveyed-alone {starts = starts} {ends = ends} {starts′ = starts′} {ends′ = ends′} {r = r} k =
+    let q = scanned-alone (record { place = k .place; begun = k .begun; ended = k .ended }) in
+    record { place = q .place; begun = q .begun; ended = q .ended; numbered = k .numbered; account = k .account }
 
 -- ---- the tests, each by what it picks from the rules that are broken
 module _ (ws : List ℕ) (m : ℕ) (pick : Breaches → ℕ) where

@@ -521,12 +521,13 @@ fn day_on(d: OpenDay, p: Place, activity: u32, n: u32, nets: &mut [u32]) -> Open
     }
 }
 
-// The account of the first m minutes, in one walk over the words.
-fn account_of(words: &[u32], m: u32) -> Account
-    requires { ⌜ length (minutesOf (now words)) ≤ totalAtMost ⌝ }
-    ensures { λ r. ⌜ r ≡ accountFrom opening (take m (minutesOf (now (words .entry)))) ⌝ }
+// In the walks below a recording is a first word, also one of no minutes, and then words.
+
+// The account of no minutes.
+fn opening_account() -> Account
+    ensures { λ r. ⌜ r ≡ opening ⌝ }
 {
-    let mut s = Account {
+    Account {
         now: 0,
         from: 0,
         day: Day {
@@ -548,29 +549,41 @@ fn account_of(words: &[u32], m: u32) -> Account
             rests: false,
         },
         first: Break { at: 0, rule: 0 },
-    };
+    }
+}
+
+// The account of the first m minutes, in one walk over the words.
+fn account_of(head: u32, words: &[u32], m: u32) -> Account
+    requires { ⌜ length (minutesOf (head ∷ now words)) ≤ totalAtMost ⌝ }
+    ensures { λ r. ⌜ r ≡ accountFrom opening (take m (minutesOf (head ∷ now (words .entry)))) ⌝ }
+{
+    let mut s = opening_account();
     let mut togo = m;
+    let mut word = head;
     let mut i = 0;
-    while i < words.len() {
-        let word = words[i];
-        i += 1;
+    'walk: loop {
         let minutes = recording::lesser(togo, word / 4);
         s = run(s, word % 4, minutes);
         togo -= minutes;
+        if i == words.len() {
+            break 'walk s;
+        }
+        word = words[i];
+        i += 1;
     }
-    s
 }
 
-// The number by rule 9 of each long rest, in one walk over the words.
-fn put_nets(words: &[u32], nets: &mut [u32])
-    requires { ⌜ length (minutesOf (now words)) ≤ totalAtMost ⌝ }
-    ensures { λ _. ⌜ now (nets .exit) ≡ sets (now (nets .entry)) 0 (netsOf (minutesOf (now (words .entry)))) ⌝ }
+// The number by rule 9 of each long rest, in one walk over the words. The first word ends no rest.
+fn put_nets(head: u32, words: &[u32], nets: &mut [u32])
+    requires { ⌜ length (minutesOf (head ∷ now words)) ≤ totalAtMost ⌝ }
+    ensures { λ _. ⌜ now (nets .exit) ≡ sets (now (nets .entry)) 0 (netsOf (minutesOf (head ∷ now (words .entry)))) ⌝ }
 {
-    let mut p = Place {
+    let origin = Place {
         now: 0,
         from: 0,
         count: 0,
     };
+    let mut p = recording::after_run(origin, head % 4, head / 4);
     let mut d = fresh_day(0);
     let mut i = 0;
     while i < words.len() {
@@ -584,15 +597,31 @@ fn put_nets(words: &[u32], nets: &mut [u32])
 }
 
 // What the rules ask of a recording: its place at the end, the long rests' starts, ends and numbers by rule 9 in the lent slices, and the account.
+pub fn survey_from(
+    head: u32,
+    words: &[u32],
+    starts: &mut [u32],
+    ends: &mut [u32],
+    nets: &mut [u32],
+) -> Survey
+    requires { ⌜ (length (minutesOf (head ∷ now words)) ≤ totalAtMost) × (longRestsAtMost ≤ length (now starts)) × (longRestsAtMost ≤ length (now ends))
+        × (longRestsAtMost ≤ length (now nets)) ⌝ }
+    ensures { λ r. ⌜ Surveyed (head ∷ now (words .entry)) (now (starts .entry)) (now (ends .entry)) (now (nets .entry)) r (now (starts .exit)) (now (ends .exit))
+        (now (nets .exit)) ⌝ }
+{
+    let place = recording::scan_from(head, words, starts, ends);
+    put_nets(head, words, nets);
+    let account = account_of(head, words, place.now);
+    Survey { place, account }
+}
+
+// The same for words alone.
 pub fn survey_of(words: &[u32], starts: &mut [u32], ends: &mut [u32], nets: &mut [u32]) -> Survey
     requires { ⌜ (length (minutesOf (now words)) ≤ totalAtMost) × (longRestsAtMost ≤ length (now starts)) × (longRestsAtMost ≤ length (now ends))
         × (longRestsAtMost ≤ length (now nets)) ⌝ }
     ensures { λ r. ⌜ Surveyed (now (words .entry)) (now (starts .entry)) (now (ends .entry)) (now (nets .entry)) r (now (starts .exit)) (now (ends .exit)) (now (nets .exit)) ⌝ }
 {
-    let place = recording::scan(words, starts, ends);
-    put_nets(words, nets);
-    let account = account_of(words, place.now);
-    Survey { place, account }
+    survey_from(0, words, starts, ends, nets)
 }
 
 // The fixed test for a stretch of m minutes: refusals 1 and 2, then 5; else 0 or the smallest broken rule of 1 to 5.
@@ -606,7 +635,7 @@ pub fn fixed_test(words: &[u32], m: u32) -> Tested
     if measure.total < m {
         return Tested::Refused(STRETCH_OVER);
     }
-    let account = account_of(words, m);
+    let account = account_of(0, words, m);
     Tested::Answer(smallest_rule(account.broken))
 }
 
@@ -622,6 +651,6 @@ pub fn article_test(words: &[u32], m: u32) -> Tested
     if m > measure.total {
         return Tested::Refused(STRETCH_OVER);
     }
-    let account = account_of(words, m);
+    let account = account_of(0, words, m);
     Tested::Answer(first_article(account.broken))
 }

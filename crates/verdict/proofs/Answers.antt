@@ -1,7 +1,7 @@
 -- What the verdict and the first reading answer at each return. Assumes nothing.
 use mathlib.Core.Path.{_≡_, refl, sym, ap, _∙_}
 use mathlib.Core.Bool.{Bool, true, false, not}
-use mathlib.Core.List.{List, _++_}
+use mathlib.Core.List.{List, _∷_, _++_}
 use mathlib.Core.Option.{Option, none, some}
 use Prim.Native.Nat.{ℕ, _*_, _≤_, _<_}
 use native.Mathlib.Omega.{arith}
@@ -23,7 +23,7 @@ use Rattle.rules.proofs.Breach.{verdict-pass, some-first}
 use Rattle.rules.proofs.EntryLaws.{first-size}
 use Rattle.verdict_completion.specs.Completable.{Course, Lies}
 use Rattle.verdict_first_reading.specs.First.{Least, restsOnly}
-use Rattle.verdict.specs.Verdicts.{ByRule, InFront, HasReading, Whole, WrittenIf}
+use Rattle.verdict.specs.Verdicts.{ByRule, InFront, HasReading, WrittenIf}
 use Rattle.verdict.specs.declared.Rests.{Rests}
 use Rattle.verdict.proofs.Lawfulness.{to-has, whole-rests, whole-lawful, whole-least}
 
@@ -64,7 +64,7 @@ module _ (ws : List ℕ) where
     pub within : length (minutesOf ws) ≤ totalAtMost
     within = measured-is ws q .within
 
-    total-is : k .total ≡ length (minutesOf ws)
+    pub total-is : k .total ≡ length (minutesOf ws)
     total-is = ap (λ (x : Measure). x .total) is
 
     count-is : k .count ≡ length (longRests (minutesOf ws))
@@ -77,11 +77,13 @@ module _ (ws : List ℕ) where
     unfolding verdictGiven
     verdict-found e = e ∙ rw q refl
 
+-- a word of no minutes stands for none
+pub alone : {ws : List ℕ} {r : Rests} {starts ends nets : List ℕ} → InFront (0 ∷ ws) r starts ends nets → InFront ws r starts ends nets
+unfolding minutesOf
+alone rests = record { count = rests .count; few = rests .few; whole = rests .whole }
+
 -- the long rests of the whole in front of three slices
 module _ {ws : List ℕ} {k : Measure} {r : Rests} {starts ends nets : List ℕ} (rests : InFront ws r starts ends nets) (q : measured ws ≡ answered k) where
-  pub judged-there : (length (minutesOf ws) ≤ totalAtMost) × (k .total ≡ length (minutesOf ws)) × Whole (minutesOf ws) (take (r .count) starts) (take (r .count) ends) (take (r .count) nets) r
-  judged-there = (within ws q, total-is ws q, rests .whole)
-
   pub rests-there : Lies (restsOnly (take (r .count) starts) (take (r .count) ends) (take (r .count) nets) (r .judged)) × (length (take (r .count) starts) ≤ longRestsAtMost)
       × (r .judged ≤ totalAtMost)
   rests-there = whole-rests (rests .whole) (within ws q)

@@ -5,7 +5,9 @@ use mathlib.Core.Logic.{_⊎_}
 use mathlib.Core.Bool.{Bool, true, false}
 use mathlib.Core.List.{List, map}
 use Prim.Native.Nat.{ℕ, zero, suc, _+_, _-_, _*_, _≤_, _<_}
+use lib.Dec.{ltb}
 use lib.ListN.{length, getD, take}
+use Rattle.recording.specs.Tests.{pick}
 use Rattle.recording.specs.Words.{rest, minutesOf}
 use Rattle.recording.specs.Rests.{judgedEnd, longRests, longRestsAtMost}
 use Rattle.recording.specs.Weeks.{weekStart, weekOf}
@@ -128,6 +130,11 @@ pub record FirstWithout (starts ends nets : List ℕ) (from top r : ℕ) : Type 
 -- the later of two minutes
 abbrev pub laterOf : ℕ → ℕ → ℕ
 laterOf a b = a + (b - a)
+
+-- of the stretches from x on, the first that ends in a run of an activity, which has the minutes from one to another; or 0
+abbrev pub activeIn : ℕ → ℕ → ℕ → ℕ → ℕ
+activeIn zero from to x = 0
+activeIn (suc a) from to x = pick (ltb to (laterOf (from + 1) x)) 0 (laterOf (from + 1) x)
 
 -- of the stretches from x on, the first whose last minute is not rest, or the bound
 pub record NextActive (ms : List ℕ) (x bound r : ℕ) : Type 0 where

@@ -5,6 +5,7 @@ use recording::Weighing;
 use rules_fixed::Break;
 use verdict_sweep::Swept;
 ghost use mathlib.Core.Path.{_≡_};
+ghost use mathlib.Core.List.{_∷_};
 ghost use Prim.Native.Nat.{ℕ, _+_, _*_, _≤_, _<_};
 ghost use lib.ListN.{length};
 ghost use Rattle.recording.specs.Words.{minutesOf};
@@ -19,7 +20,7 @@ ghost use Rattle.verdict_completion.specs.Completable.{at, count, Lies};
 ghost use Rattle.verdict_first_reading.specs.First.{restsOnly};
 ghost use Rattle.verdict.specs.Judgements.{findingBy};
 ghost use Rattle.verdict.specs.Verdicts.{InFront, Some, ByRule, HasReading, Bound, AllRests, Whole, dayStart, DayReadable};
-ghost use Rattle.verdict.specs.Verdicts.{LastDay, DayTop, Sooner, NextDemand, FirstWithout, laterOf, NextActive, WrittenIf};
+ghost use Rattle.verdict.specs.Verdicts.{LastDay, DayTop, Sooner, NextDemand, FirstWithout, laterOf, activeIn, NextActive, WrittenIf};
 
 // A breach: the length of the shortest stretch without a lawful reading, and its article, 1 to 6.
 pub struct Breach {
@@ -46,34 +47,41 @@ pub struct Rests {
 const NO_FIXED_RULE: u32 = 6;
 
 // How many long rests are few, some or many; for so many there is a level of nogoods each, and room for some states in a front.
-const FEW: u32 = 8;
+pub const FEW: u32 = 8;
 
-const FEW_NOGOODS: usize = FEW as usize * verdict_nogoods::LEVEL_WORDS;
+pub const FEW_NOGOODS: usize = FEW as usize * verdict_nogoods::LEVEL_WORDS;
 
-const FEW_STATES: usize = 32 * verdict_nogoods::ENTRY_WORDS;
+pub const FEW_STATES: usize = 32 * verdict_nogoods::ENTRY_WORDS;
 
-const SOME: u32 = 32;
+pub const SOME: u32 = 32;
 
-const SOME_NOGOODS: usize = SOME as usize * verdict_nogoods::LEVEL_WORDS;
+pub const SOME_NOGOODS: usize = SOME as usize * verdict_nogoods::LEVEL_WORDS;
 
-const SOME_STATES: usize = 64 * verdict_nogoods::ENTRY_WORDS;
+pub const SOME_STATES: usize = 64 * verdict_nogoods::ENTRY_WORDS;
 
-const MANY: u32 = 96;
+pub const MANY: u32 = 96;
 
-const MANY_NOGOODS: usize = MANY as usize * verdict_nogoods::LEVEL_WORDS;
+pub const MANY_NOGOODS: usize = MANY as usize * verdict_nogoods::LEVEL_WORDS;
 
-const MANY_STATES: usize = 256 * verdict_nogoods::ENTRY_WORDS;
+pub const MANY_STATES: usize = 256 * verdict_nogoods::ENTRY_WORDS;
 
 // Any number of long rests.
-const MOST_STATES: usize = 1024 * verdict_nogoods::ENTRY_WORDS;
+pub const MOST_STATES: usize = 1024 * verdict_nogoods::ENTRY_WORDS;
 
-// The long rests of a recording into three slices: where each starts and ends, and its number.
-fn rests_of(words: &[u32], starts: &mut [u32], ends: &mut [u32], nets: &mut [u32]) -> Rests
-    requires { ⌜ (length (minutesOf (now words)) ≤ totalAtMost) × (longRestsAtMost ≤ length (now starts)) × (longRestsAtMost ≤ length (now ends))
+// The long rests of a recording into three slices: where each starts and ends, and its number. The recording is a first word, also one of no minutes,
+// and then words, here and in what follows.
+fn rests_of(
+    head: u32,
+    words: &[u32],
+    starts: &mut [u32],
+    ends: &mut [u32],
+    nets: &mut [u32],
+) -> Rests
+    requires { ⌜ (length (minutesOf (head ∷ now words)) ≤ totalAtMost) × (longRestsAtMost ≤ length (now starts)) × (longRestsAtMost ≤ length (now ends))
         × (longRestsAtMost ≤ length (now nets)) ⌝ }
-    ensures { λ r. ⌜ InFront (now (words .entry)) r (now (starts .exit)) (now (ends .exit)) (now (nets .exit)) ⌝ }
+    ensures { λ r. ⌜ InFront (head ∷ now (words .entry)) r (now (starts .exit)) (now (ends .exit)) (now (nets .exit)) ⌝ }
 {
-    let found = rules_fixed::survey_of(words, starts, ends, nets);
+    let found = rules_fixed::survey_from(head, words, starts, ends, nets);
     let place = found.place;
     let account = found.account;
     let first = account.first;
@@ -332,29 +340,43 @@ fn later_of(a: u32, b: u32) -> u32
     a
 }
 
-// Of the stretches from x on, the first whose last minute is not rest, or the bound.
-fn next_active(words: &[u32], x: u32, bound: u32) -> u32
-    requires { ⌜ (length (minutesOf (now words)) ≤ totalAtMost) × (x ≤ bound) × (bound ≤ length (minutesOf (now words))) ⌝ }
-    ensures { λ r. ⌜ NextActive (minutesOf (now (words .entry))) x bound r ⌝ }
+// Of the stretches from x on, the first that ends in a run of this activity, which has the minutes from one to another; or 0 where the run is rest or
+// ends before x.
+fn active_in(activity: u32, from: u32, to: u32, x: u32) -> u32
+    requires { ⌜ from ≤ totalAtMost ⌝ }
+    ensures { λ r. ⌜ r ≡ activeIn activity from to x ⌝ }
 {
-    let mut at = 0;
+    match activity {
+        0 => 0,
+        1 | 2 | 3 | _ => {
+            let first = later_of(from + 1, x);
+            if to < first {
+                return 0;
+            }
+            first
+        }
+    }
+}
+
+// Of the stretches from x on, the first whose last minute is not rest, or the bound.
+fn next_active(head: u32, words: &[u32], x: u32, bound: u32) -> u32
+    requires { ⌜ (length (minutesOf (head ∷ now words)) ≤ totalAtMost) × (x ≤ bound) × (bound ≤ length (minutesOf (head ∷ now words))) ⌝ }
+    ensures { λ r. ⌜ NextActive (minutesOf (head ∷ now (words .entry))) x bound r ⌝ }
+{
+    let mut at = head / 4;
+    let first = active_in(head % 4, 0, at, x);
+    if first != 0 {
+        return recording::lesser(first, bound);
+    }
     let mut i = 0;
     while i < words.len() {
         let word = words[i];
-        let activity = word % 4;
-        let first = later_of(at + 1, x);
+        let from = at;
         at += word / 4;
         i += 1;
-        match activity {
-            0 => {}
-            1 | 2 | 3 | _ => {
-                if first <= at {
-                    if bound <= first {
-                        return bound;
-                    }
-                    return first;
-                }
-            }
+        let found = active_in(word % 4, from, at, x);
+        if found != 0 {
+            return recording::lesser(found, bound);
         }
     }
     bound
@@ -362,6 +384,7 @@ fn next_active(words: &[u32], x: u32, bound: u32) -> u32
 
 // The least stretch without a lawful reading, up to one that has none.
 fn least_without(
+    head: u32,
     words: &[u32],
     starts: &[u32],
     ends: &[u32],
@@ -372,9 +395,9 @@ fn least_without(
     front: &mut [u32],
     other: &mut [u32],
 ) -> u32
-    requires { ⌜ (length (minutesOf (now words)) ≤ totalAtMost) × (AllRests (minutesOf (now words)) (now starts) (now ends) (now nets))
-        × (Bound (minutesOf (now words)) bound) ⌝ }
-    ensures { λ r. ⌜ r ≡ breachMinute (minutesOf (now (words .entry))) ⌝ }
+    requires { ⌜ (length (minutesOf (head ∷ now words)) ≤ totalAtMost) × (AllRests (minutesOf (head ∷ now words)) (now starts) (now ends) (now nets))
+        × (Bound (minutesOf (head ∷ now words)) bound) ⌝ }
+    ensures { λ r. ⌜ r ≡ breachMinute (minutesOf (head ∷ now (words .entry))) ⌝ }
 {
     let n = last_day(starts, ends, nets, bound, guess, nogoods, front, other);
     let from = day_start(ends, n);
@@ -389,11 +412,12 @@ fn least_without(
         front,
         other,
     );
-    next_active(words, after, bound)
+    next_active(head, words, after, bound)
 }
 
 // The breach of a recording without a lawful reading, from its long rests and the first breach of a fixed rule.
 fn breach_of(
+    head: u32,
     words: &[u32],
     starts: &[u32],
     ends: &[u32],
@@ -405,12 +429,13 @@ fn breach_of(
     front: &mut [u32],
     other: &mut [u32],
 ) -> Breach
-    requires { ⌜ (length (minutesOf (now words)) ≤ totalAtMost) × (AllRests (minutesOf (now words)) (now starts) (now ends) (now nets))
-        × (total ≡ length (minutesOf (now words))) × (first ≡ accountFrom opening (minutesOf (now words)) .first) × ((HasReading (minutesOf (now words)) → ⊥)) ⌝ }
-    ensures { λ r. ⌜ breached (r .minute) (r .article) ≡ findingOf (verdict (minutesOf (now (words .entry)))) ⌝ }
+    requires { ⌜ (length (minutesOf (head ∷ now words)) ≤ totalAtMost) × (AllRests (minutesOf (head ∷ now words)) (now starts) (now ends) (now nets))
+        × (total ≡ length (minutesOf (head ∷ now words))) × (first ≡ accountFrom opening (minutesOf (head ∷ now words)) .first) × ((HasReading (minutesOf (head ∷ now words)) → ⊥)) ⌝ }
+    ensures { λ r. ⌜ breached (r .minute) (r .article) ≡ findingOf (verdict (minutesOf (head ∷ now (words .entry)))) ⌝ }
 {
     if first.rule == 0 {
         let minute = least_without(
+            head,
             words,
             starts,
             ends,
@@ -427,6 +452,7 @@ fn breach_of(
         };
     }
     let minute = least_without(
+        head,
         words,
         starts,
         ends,
@@ -451,6 +477,7 @@ fn breach_of(
 
 // The verdict on a recording, from its long rests: a pass where they have a lawful reading, else its breach.
 fn judged_by(
+    head: u32,
     words: &[u32],
     starts: &[u32],
     ends: &[u32],
@@ -461,9 +488,9 @@ fn judged_by(
     front: &mut [u32],
     other: &mut [u32],
 ) -> Judgement
-    requires { ⌜ (length (minutesOf (now words)) ≤ totalAtMost) × (total ≡ length (minutesOf (now words)))
-        × (Whole (minutesOf (now words)) (now starts) (now ends) (now nets) rests) ⌝ }
-    ensures { λ r. ⌜ findingBy r ≡ answered (findingOf (verdict (minutesOf (now (words .entry))))) ⌝ }
+    requires { ⌜ (length (minutesOf (head ∷ now words)) ≤ totalAtMost) × (total ≡ length (minutesOf (head ∷ now words)))
+        × (Whole (minutesOf (head ∷ now words)) (now starts) (now ends) (now nets) rests) ⌝ }
+    ensures { λ r. ⌜ findingBy r ≡ answered (findingOf (verdict (minutesOf (head ∷ now (words .entry))))) ⌝ }
 {
     let asked = lawful_by(
         starts,
@@ -480,6 +507,7 @@ fn judged_by(
     }
     let first = rests.first;
     let breach = breach_of(
+        head,
         words,
         starts,
         ends,
@@ -496,7 +524,38 @@ fn judged_by(
 
 // ---- the verdict
 
-// The verdict on a recording with this measure. The nogoods and the fronts are room for the search, of any length.
+// The verdict on a recording of so many minutes, no more than there may be. The nogoods and the fronts are room for the search, of any length.
+pub fn verdict_from(
+    head: u32,
+    words: &[u32],
+    total: u32,
+    nogoods: &mut [u32],
+    front: &mut [u32],
+    other: &mut [u32],
+) -> Judgement
+    requires { ⌜ (length (minutesOf (head ∷ now words)) ≤ totalAtMost) × (total ≡ length (minutesOf (head ∷ now words))) ⌝ }
+    ensures { λ r. ⌜ findingBy r ≡ answered (findingOf (verdict (minutesOf (head ∷ now (words .entry))))) ⌝ }
+{
+    let mut starts = [0u32; recording::LONG_RESTS];
+    let mut ends = [0u32; recording::LONG_RESTS];
+    let mut nets = [0u32; recording::LONG_RESTS];
+    let whole = rests_of(head, words, &mut starts, &mut ends, &mut nets);
+    let k = whole.count;
+    judged_by(
+        head,
+        words,
+        &starts[..k],
+        &ends[..k],
+        &nets[..k],
+        total,
+        whole,
+        nogoods,
+        front,
+        other,
+    )
+}
+
+// The same for words with this measure.
 fn verdict_within(
     words: &[u32],
     measure: Measure,
@@ -507,22 +566,7 @@ fn verdict_within(
     requires { ⌜ measured (now words) ≡ answered measure ⌝ }
     ensures { λ r. ⌜ findingBy r ≡ verdictGiven (now (words .entry)) ⌝ }
 {
-    let mut starts = [0u32; recording::LONG_RESTS];
-    let mut ends = [0u32; recording::LONG_RESTS];
-    let mut nets = [0u32; recording::LONG_RESTS];
-    let whole = rests_of(words, &mut starts, &mut ends, &mut nets);
-    let k = whole.count;
-    judged_by(
-        words,
-        &starts[..k],
-        &ends[..k],
-        &nets[..k],
-        measure.total,
-        whole,
-        nogoods,
-        front,
-        other,
-    )
+    verdict_from(0, words, measure.total, nogoods, front, other)
 }
 
 // The same with room for few long rests.
@@ -673,7 +717,7 @@ fn reading_within(
     let mut starts = [0u32; recording::LONG_RESTS];
     let mut ends = [0u32; recording::LONG_RESTS];
     let mut nets = [0u32; recording::LONG_RESTS];
-    let whole = rests_of(words, &mut starts, &mut ends, &mut nets);
+    let whole = rests_of(0, words, &mut starts, &mut ends, &mut nets);
     let k = whole.count;
     let asked = lawful_by(
         &starts[..k],

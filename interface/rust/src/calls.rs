@@ -5,10 +5,10 @@
 //! it is empty, and nothing else refers to a `&mut` one. No contract there has
 //! a `requires`, so every call is fine.
 
-use crate::Span;
+use crate::{Span, Weeks};
 
 mod library {
-    use crate::Span;
+    use crate::{Span, Weeks};
 
     extern "C" {
         pub fn desk_weigh(words: *const u32, words_count: usize) -> u64;
@@ -70,6 +70,13 @@ mod library {
             words_count: usize,
             reading: *mut u8,
             reading_count: usize,
+        ) -> u64;
+
+        pub fn desk_breach_spans(
+            words: *const u32,
+            words_count: usize,
+            list: *mut Weeks,
+            list_count: usize,
         ) -> u64;
     }
 }
@@ -134,5 +141,11 @@ pub fn first_reading(words: &[u32], reading: &mut [u8]) -> u64 {
             reading.as_mut_ptr(),
             reading.len(),
         )
+    }
+}
+
+pub fn breach_spans(words: &[u32], list: &mut [Weeks]) -> u64 {
+    unsafe {
+        library::desk_breach_spans(words.as_ptr(), words.len(), list.as_mut_ptr(), list.len())
     }
 }

@@ -39,8 +39,8 @@
 //! and leaves what lies beyond.
 //!
 //! Nothing is kept between calls, so threads may call at the same time.
-//! Have 1 MiB of stack for [`verdict`] and for [`first_reading`]; the most that
-//! was measured is 670 KiB, on a recording made to take much.
+//! Have 1 MiB of stack for [`verdict`], [`first_reading`] and [`breach_spans`]; the
+//! most that was measured is 670 KiB, on a recording made to take much.
 //! The main thread and the threads of `std` have more, unless told otherwise.
 
 mod calls;
@@ -48,6 +48,10 @@ mod calls;
 /// A recording has at most so many long rests, so lists of this length and
 /// readings of three times as many bytes are never too short.
 pub const LONG_RESTS_AT_MOST: usize = 223;
+
+/// A recording has at most so many weeks, and [`breach_spans`] writes at most one
+/// record for each first week, so lists of this length are never too short for it.
+pub const WEEKS_AT_MOST: usize = 12;
 
 /// Why an operation was turned away; its discriminant is the documents' number.
 #[derive(Clone, Copy, Debug, PartialEq, Eq)]
@@ -79,6 +83,8 @@ pub enum Refusal {
     UnknownActivity = 12,
     /// The verdict is a breach, so there is no lawful reading.
     NoLawfulReading = 13,
+    /// The list has fewer elements than there are such spans of weeks.
+    SpanListTooShort = 14,
 }
 
 impl Refusal {
@@ -102,6 +108,7 @@ impl Refusal {
             11 => Refusal::DayForm,
             12 => Refusal::UnknownActivity,
             13 => Refusal::NoLawfulReading,
+            14 => Refusal::SpanListTooShort,
             other => unreachable!("the desk has no refusal {other}"),
         }
     }
@@ -125,6 +132,15 @@ pub struct Measure {
 pub struct Span {
     pub start: u32,
     pub end: u32,
+}
+
+/// A record of a list: the weeks from `first` to `last`, both included. Weeks are
+/// numbered from 0.
+#[derive(Clone, Copy, Debug, Default, PartialEq, Eq)]
+#[repr(C)]
+pub struct Weeks {
+    pub first: u32,
+    pub last: u32,
 }
 
 /// What the verdict answers.
@@ -280,4 +296,26 @@ pub fn verdict(words: &[u32]) -> Result<Verdict, Refusal> {
 /// not two.
 pub fn first_reading(words: &[u32], reading: &mut [u8]) -> Result<usize, Refusal> {
     count(calls::first_reading(words, reading))
+}
+
+/// The spans of consecutive weeks, each judged as a recording of its own, that are a
+/// breach while no shorter span inside is one: one record each, by first week, then
+/// last, and their count. The refusals are 1, 2 and 14.
+///
+/// ```
+/// use hours_desk::{breach_spans, verdict, Verdict, Weeks, WEEKS_AT_MOST};
+///
+/// // Six days with 456 minutes of driving, and rest up to the week's end: 2,736 in a
+/// // week. Either week is a pass, but two have more than article 6.3's 5,400.
+/// let day = [4 * 228 + 3, 4 * 45, 4 * 228 + 3, 4 * 939];
+/// let week = [&day.repeat(6)[..], &[4 * 1_440]].concat();
+/// assert_eq!(verdict(&week), Ok(Verdict::Pass));
+///
+/// let mut list = [Weeks::default(); WEEKS_AT_MOST];
+/// assert_eq!(breach_spans(&week.repeat(3), &mut list), Ok(2));
+/// assert_eq!(list[0], Weeks { first: 0, last: 1 });
+/// assert_eq!(list[1], Weeks { first: 1, last: 2 });
+/// ```
+pub fn breach_spans(words: &[u32], list: &mut [Weeks]) -> Result<usize, Refusal> {
+    count(calls::breach_spans(words, list))
 }

@@ -7,19 +7,20 @@ use declared::{exported, imported, laid_out, prototypes, Declared};
 use std::fs::{read_dir, read_to_string};
 
 const SOURCE: &str = "crates/interface/src";
-const RECORDS: &str = "crates/recording/src/lib.rt";
+const RECORDS: [&str; 2] = ["crates/recording/src/lib.rt", "crates/rules/src/lib.rt"];
 const HEADER: &str = "interface/desk.h";
 const CALLS: &str = "interface/rust/src/calls.rs";
 const WRAPPER: &str = "interface/rust/src/lib.rs";
 
 /// A number or a record in Rattle, in Rust and in C. A type without a row is
 /// taken to be the same in each.
-const TYPES: [[&str; 3]; 5] = [
+const TYPES: [[&str; 3]; 6] = [
     ["u8", "u8", "uint8_t"],
     ["u32", "u32", "uint32_t"],
     ["u64", "u64", "uint64_t"],
     ["usize", "usize", "size_t"],
     ["Span", "Span", "struct desk_span"],
+    ["Weeks", "Weeks", "struct desk_weeks"],
 ];
 
 /// A slice of T in Rattle, and its pointer in Rust and in C. After the pointer
@@ -48,7 +49,7 @@ fn text(path: &str) -> String {
 /// Every difference from the source, a line each.
 fn differences(text: impl Fn(&str) -> String) -> String {
     let functions = exported(&text(SOURCE));
-    let records = laid_out(&text(RECORDS));
+    let records = laid_out(&RECORDS.map(&text).concat());
     let both = [&functions[..], &records].concat();
     let said = [
         compared(HEADER, C, &both, &prototypes(&text(HEADER))),
@@ -190,6 +191,12 @@ fn types() {
         .says("desk_weigh has `words: *const u8`, by the source `words: *const u32`");
     edit(CALLS, "list: *mut Span", "list: *const Span")
         .says("desk_list has `list: *const Span`, by the source `list: *mut Span`");
+    edit(HEADER, "struct desk_weeks *list", "struct desk_span *list").says(
+        "desk_breach_spans has `list: struct desk_span *`, \
+         by the source `list: struct desk_weeks *`",
+    );
+    edit(CALLS, "list: *mut Weeks", "list: *mut Span")
+        .says("desk_breach_spans has `list: *mut Span`, by the source `list: *mut Weeks`");
     edit(CALLS, "reading: *mut u8", "reading: *const u8")
         .says("desk_first_reading has `reading: *const u8`, by the source `reading: *mut u8`");
 }
@@ -216,7 +223,16 @@ fn records() {
         "Span has `end: u32`, by the source `start: u32`\n\
          Span has `start: u32`, by the source `end: u32`",
     );
-    edit(WRAPPER, "#[repr(C)]", "").says("Span is missing");
+    let (old, new) = ("first;\n    uint32_t last", "last;\n    uint32_t first");
+    edit(HEADER, old, new).says(
+        "struct desk_weeks has `last: uint32_t`, by the source `first: uint32_t`\n\
+         struct desk_weeks has `first: uint32_t`, by the source `last: uint32_t`",
+    );
+    for record in ["Span", "Weeks"] {
+        let named = format!("pub struct {record}");
+        edit(WRAPPER, &format!("#[repr(C)]\n{named}"), &named)
+            .says(&format!("{record} is missing"));
+    }
 }
 
 #[test]
@@ -238,9 +254,13 @@ fn source() {
          interface/rust/src/calls.rs: pub fn desk_list is missing\n\
          interface/rust/src/calls.rs: desk_list is not in the source",
     );
-    edit(RECORDS, "pub end: u32", "pub end: u64").says(
+    edit(RECORDS[0], "pub end: u32", "pub end: u64").says(
         "interface/desk.h: struct desk_span has `end: uint32_t`, by the source `end: uint64_t`\n\
          interface/rust/src/lib.rs: Span has `end: u32`, by the source `end: u64`",
+    );
+    edit(RECORDS[1], "pub last: u32", "pub last: u64").says(
+        "interface/desk.h: struct desk_weeks has `last: uint32_t`, by the source `last: uint64_t`\n\
+         interface/rust/src/lib.rs: Weeks has `last: u32`, by the source `last: u64`",
     );
 }
 

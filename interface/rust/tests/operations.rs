@@ -1,9 +1,9 @@
 //! Every operation on small inputs: answers, refusals, and what a buffer holds.
 
 use hours_desk::{
-    article_test, entry, entry_refusal, first_reading, fixed_test, list_long_rests, read_card,
-    read_text, reading_test, verdict, weigh, write_card, write_text, Measure, Refusal, Span,
-    Verdict, LONG_RESTS_AT_MOST,
+    article_test, breach_spans, entry, entry_refusal, first_reading, fixed_test, list_long_rests,
+    read_card, read_text, reading_test, verdict, weigh, write_card, write_text, Measure, Refusal,
+    Span, Verdict, Weeks, LONG_RESTS_AT_MOST, WEEKS_AT_MOST,
 };
 
 /// 240 of driving, 660 of rest, 60 of work, 2,700 of rest, a minute of work.
@@ -221,6 +221,65 @@ fn together() {
             Ok(Verdict::Pass) => assert!(read.is_ok()),
             _ => assert_eq!(read, Err(Refusal::NoLawfulReading)),
         }
+    }
+}
+
+/// A week of five days with 540 minutes of driving, and with so many more on a sixth.
+fn week(more: u32) -> Vec<u32> {
+    let day = [4 * 270 + 3, 4 * 45, 4 * 270 + 3, 4 * 855];
+    let sixth = [4 * more + 3, 4 * 60 + 2, 4 * (2_820 - more)];
+    [&day.repeat(5)[..], &sixth].concat()
+}
+
+#[test]
+fn spans() {
+    let weeks = |first, last| Weeks { first, last };
+    let untouched = weeks(7, 8);
+
+    // The first two weeks break 6.3 together, the third breaks 7 by itself.
+    let recording = [week(1), week(1), week(271)].concat();
+    assert_eq!(verdict(&week(1)), Ok(Verdict::Pass));
+    let mut list = [untouched; 3];
+    assert_eq!(breach_spans(&recording, &mut list), Ok(2));
+    assert_eq!(list, [weeks(0, 1), weeks(2, 2), untouched]);
+    let mut list = [untouched; 2];
+    assert_eq!(breach_spans(&recording, &mut list), Ok(2));
+    assert_eq!(list, [weeks(0, 1), weeks(2, 2)]);
+
+    let mut list = [untouched; 3];
+    let mut refuses = |words: &[u32], room: usize, refusal| {
+        assert_eq!(breach_spans(words, &mut list[..room]), Err(refusal));
+        assert_eq!(list, [untouched; 3]);
+    };
+    refuses(&recording, 1, Refusal::SpanListTooShort);
+    refuses(&recording, 0, Refusal::SpanListTooShort);
+    refuses(&[4 * 901 + 2], 0, Refusal::SpanListTooShort);
+    refuses(&NO_MINUTES, 0, Refusal::NoMinutes);
+    refuses(&TOO_LONG, 3, Refusal::TotalPassed);
+    assert_eq!(Refusal::SpanListTooShort.number(), 14);
+
+    assert_eq!(breach_spans(&[], &mut []), Ok(0));
+    assert_eq!(breach_spans(&WORDS, &mut []), Ok(0));
+    let mut list = [untouched; 1];
+    assert_eq!(breach_spans(&week(1), &mut list), Ok(0));
+    assert_eq!(list, [untouched]);
+}
+
+/// The last week may have a minute only; and twelve records are enough for a breach
+/// in each of twelve weeks.
+#[test]
+fn weeks() {
+    // Driving from Sunday evening on, up to a minute after midnight.
+    let night = [4 * 9_810, 4 * 271 + 3];
+    let mut list = [Weeks::default(); WEEKS_AT_MOST];
+    assert_eq!(breach_spans(&night, &mut list), Ok(1));
+    assert_eq!(list[0], Weeks { first: 0, last: 1 });
+    assert_eq!(breach_spans(&[4 * 9_810, 4 * 270 + 3], &mut list), Ok(0));
+
+    let twelve = week(271).repeat(12);
+    assert_eq!(breach_spans(&twelve, &mut list), Ok(12));
+    for (number, weeks) in (0..).zip(list) {
+        assert_eq!((weeks.first, weeks.last), (number, number));
     }
 }
 

@@ -50,6 +50,7 @@ const PLAN: Plan = Plan {
     scarce: 100,
     climbed: 24,
     stored: 3,
+    weeks: 0,
     entries: 0,
 };
 
@@ -67,6 +68,7 @@ const SELF_TEST: Plan = Plan {
     scarce: 0,
     climbed: 0,
     stored: 0,
+    weeks: 0,
     entries: 0,
 };
 

@@ -19,7 +19,8 @@ returns c =
     let page = c .before .before in
     let read = page .before .before .before .before in
     let start = read .before .before .before .before in
-    rw (card-read (start .args .bytes .now) cardWords (start .pre) (omega arith) (read .read-card .result) (read .read-card .ensures .0) (read .read-card .ensures .1)) (page .read-page .ensures)
+    let told = read .read-card .ensures in
+    rw (card-read (start .args .bytes .now) cardWords (start .pre) (omega arith) (read .read-card .result) (told .0) (told .1) (start .args .spans)) (page .read-page .ensures)
 
 pub card-page-spec : {M : Type 1} → statement M
 card-page-spec =

@@ -19,7 +19,8 @@ returns c =
     let page = c .before .before in
     let read = page .before .before .before .before in
     let start = read .before .before .before .before in
-    rw (desk-read (start .args .text .now) textWords (start .pre) (omega arith) (read .read-text .result) (read .read-text .ensures .0) (read .read-text .ensures .1)) (page .read-page .ensures)
+    let told = read .read-text .ensures in
+    rw (desk-read (start .args .text .now) textWords (start .pre) (omega arith) (read .read-text .result) (told .0) (told .1) (start .args .spans)) (page .read-page .ensures)
 
 pub desk-page-spec : {M : Type 1} → statement M
 desk-page-spec =

@@ -9,7 +9,7 @@ returns : tie.Need-returns
 returns c =
     let long = c .before .before .before .before in
     let start = long .before .before .before in
-    rw (input-over (start .args .card) (start .args .input .now) (omega arith)) (c .before .before .refusal-page .ensures)
+    rw (input-over (start .args .card) (start .args .spans) (start .args .input .now) (omega arith)) (c .before .before .refusal-page .ensures)
 
 returns-2 : tie.Need-returns-2
 returns-2 c = rw (c .before .before .before .before .if2 .taken) (c .before .before .card-page .ensures)

@@ -7,8 +7,8 @@ use borrow.Author.Needs.{needs}
 use Rattle.desk_report.proofs.read_page.Statement.{statement}
 use Rattle.desk_report.proofs.read_page.Tie as tie
 
-slice-aggregate-verdict-page : tie.Need-slice-aggregate-verdict-page
-slice-aggregate-verdict-page c =
+slice-aggregate-words-page : tie.Need-slice-aggregate-words-page
+slice-aggregate-words-page c =
     let told = c .before .before .before in
     let start = told .before .before .before .before in
     let few = front-within (rw (told .answer2 .given .1) at (start .pre)) in
@@ -20,7 +20,7 @@ returns c = rw (c .before .before .before .before .before .answer .given .1) (c 
 
 returns-2 : tie.Need-returns-2
 unfolding readText
-returns-2 c = rw (c .before .before .before .before .before .before .answer2 .given .1) (c .before .before .verdict-page .ensures)
+returns-2 c = rw (c .before .before .before .before .before .before .answer2 .given .1) (c .before .before .words-page .ensures)
 
 pub read-page-spec : {M : Type 1} → statement M
 read-page-spec =
@@ -30,7 +30,7 @@ read-page-spec =
     (λ c κs. search needs)
     (λ c. search needs)
     (λ c. search needs)
-    slice-aggregate-verdict-page
+    slice-aggregate-words-page
     (λ c κs. search needs)
     (λ c. search needs)
     returns

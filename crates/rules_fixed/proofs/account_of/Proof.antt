@@ -1,54 +1,66 @@
 -- `rules_fixed::account_of` meets its contract. Assumes nothing.
+use mathlib.Core.Path.{_≡_, refl}
+use mathlib.Core.List.{_∷_}
+use Prim.Native.Nat.{_-_, _≤_}
 use native.Mathlib.Omega.{arith}
+use lib.ListN.{length, getD}
+use Rattle.rules_fixed.proofs.Surveying.{Walking, start-walking, word-room, word-on, word-after, walk-done}
 use borrow.Author.Needs.{needs}
-use Prim.Native.Nat.{_-_}
-use lib.ListN.{length}
-use Rattle.rules_fixed.proofs.Surveying.{Walking, start-walking, run-room, walk-on, walk-done}
 use Rattle.rules_fixed.proofs.account_of.Statement.{statement}
 use Rattle.rules_fixed.proofs.account_of.Tie as tie
 
-abbrev Inv-loop : tie.InvT-loop
-Inv-loop words m s₀ togo₀ i₀ s togo i = Walking words m s togo i
+abbrev Inv-walk : tie.InvT-walk
+Inv-walk head words m s₀ togo₀ word₀ i₀ s togo word i = Walking (head ∷ words) m s togo i × (i ≤ length words) × (word ≡ getD (head ∷ words) i 0)
 
-abbrev μ-loop : tie.MeasureT-loop
-μ-loop words m s₀ togo₀ i₀ s togo i = length words - i
+abbrev μ-walk : tie.MeasureT-walk
+μ-walk head words m s₀ togo₀ word₀ i₀ s togo word i = length words - i
 
-loop-holds : tie.Need-loop-holds Inv-loop μ-loop
-loop-holds c = rw (c .cleared-sum .ensures) (start-walking _ _ ((c .before .before) .pre))
+walk-holds : tie.Need-walk-holds Inv-walk μ-walk
+walk-holds c = rw (c .opening-account .ensures) (start-walking _ _ (c .before .before .pre), omega arith, refl)
 
-run-requires : tie.Need-run-requires Inv-loop μ-loop
+run-requires : tie.Need-run-requires Inv-walk μ-walk
 run-requires c κs =
-    let turn = c .before .before .before in
-    (turn .loop .inv .bounded, omega (arith, run-room (turn .loop .inv) (omega arith) (c .lesser .ensures)))
+    let walk = c .before .walk .inv in
+    (walk .0 .bounded, word-room (walk .0) (omega (arith, walk .1)) (walk .2) (c .lesser .ensures))
 
-sub-togo : tie.Need-sub-togo Inv-loop μ-loop
+sub-togo : tie.Need-sub-togo Inv-walk μ-walk
 sub-togo c = omega (arith, c .before .lesser .ensures)
 
-loop-less : tie.Need-loop-less Inv-loop μ-loop
-loop-less c = omega arith
+walk-less : tie.Need-walk-less Inv-walk μ-walk
+walk-less c = omega (arith, c .before .before .before .before .walk .inv .1, c .before .if1 .left)
 
-loop-again : tie.Need-loop-again Inv-loop μ-loop
-loop-again c =
-    let turn = c .before .before .before .before in
-    walk-on (turn .loop .inv) (omega arith) (c .before .lesser .ensures) (c .run .ensures)
+shared-slice-read-word : tie.Need-shared-slice-read-word Inv-walk μ-walk
+shared-slice-read-word c = omega (arith, c .before .before .before .before .walk .inv .1, c .before .if1 .left)
 
-returns : tie.Need-returns Inv-loop μ-loop
-returns c = walk-done (c .before .loop .inv) (omega arith)
+walk-again : tie.Need-walk-again Inv-walk μ-walk
+walk-again c =
+    let at-walk = (c .before .before .before .before) in
+    let start = (c .before .before .before .before .before .before .before) in
+    let walk = at-walk .walk .inv in (
+      word-on (walk .0) (omega (arith, walk .1)) (walk .2) (c .before .before .before .lesser .ensures) (c .before .before .run .ensures),
+      omega (arith, walk .1, c .before .if1 .left),
+      word-after (start .args .head) (start .args .words .now) (at-walk .walk .i),
+    )
+
+returns : tie.Need-returns Inv-walk μ-walk
+returns c =
+    let walk = c .before .before .before .walk .inv in
+    walk-done (word-on (walk .0) (omega (arith, walk .1)) (walk .2) (c .before .before .lesser .ensures) (c .before .run .ensures)) (omega arith)
 
 pub account-of-spec : {M : Type 1} → statement M
 account-of-spec =
     tie.close
     (tie.spec
-    Inv-loop
-    μ-loop
+    Inv-walk
+    μ-walk
     (λ c κs. search needs)
-    loop-holds
-    (λ c. search needs)
-    (λ c. search needs)
-    (λ c. search needs)
+    walk-holds
     (λ c κs. search needs)
     run-requires
     sub-togo
-    loop-less
-    loop-again
+    (λ c. search needs)
+    shared-slice-read-word
+    (λ c. search needs)
+    walk-less
+    walk-again
     returns)

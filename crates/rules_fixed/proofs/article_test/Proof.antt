@@ -1,6 +1,7 @@
 -- `rules_fixed::article_test` meets its contract. Assumes nothing.
 use native.Mathlib.Omega.{arith}
 use borrow.Author.Needs.{needs}
+use Rattle.recording.specs.Words.{minutesOf}
 use Rattle.rules.specs.Fixed.{firstArticle}
 use Rattle.rules.specs.Operations.{articleTested}
 use Rattle.rules_fixed.proofs.Surveying.{test-refused, test-past, test-done}
@@ -17,10 +18,11 @@ unfolding articleTested
 returns-2 c = test-past _ _ firstArticle (measured-there _ (c .before .before .before .before .before .weigh .ensures) (c .before .before .before .weighing .given .1)) (omega arith)
 
 account-of-requires : tie.Need-account-of-requires
+unfolding minutesOf
 account-of-requires c κs = measured-is _ (measured-there _ (c .before .before .before .before .before .weigh .ensures) (c .before .before .before .weighing .given .1)) .within
 
 returns-3 : tie.Need-returns-3
-unfolding articleTested
+unfolding articleTested minutesOf
 returns-3 c =
     let at-if1 = c .before .before in
     let q = measured-there _ (at-if1 .before .before .before .before .before .weigh .ensures) (at-if1 .before .before .before .weighing .given .1) in

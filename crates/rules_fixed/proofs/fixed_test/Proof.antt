@@ -1,6 +1,7 @@
 -- `rules_fixed::fixed_test` meets its contract. Assumes nothing.
 use native.Mathlib.Omega.{arith}
 use borrow.Author.Needs.{needs}
+use Rattle.recording.specs.Words.{minutesOf}
 use Rattle.rules.specs.Fixed.{smallestRule}
 use Rattle.rules.specs.Operations.{fixedTested}
 use Rattle.rules_fixed.proofs.Surveying.{test-refused, test-past, test-done}
@@ -17,10 +18,11 @@ unfolding fixedTested
 returns-2 c = test-past _ _ smallestRule (measured-there _ (c .before .before .before .before .before .weigh .ensures) (c .before .before .before .weighing .given .1)) (omega arith)
 
 account-of-requires : tie.Need-account-of-requires
+unfolding minutesOf
 account-of-requires c κs = measured-is _ (measured-there _ (c .before .before .before .before .before .weigh .ensures) (c .before .before .before .weighing .given .1)) .within
 
 returns-3 : tie.Need-returns-3
-unfolding fixedTested
+unfolding fixedTested minutesOf
 returns-3 c =
     let at-if1 = c .before .before in
     let q = measured-there _ (at-if1 .before .before .before .before .before .weigh .ensures) (at-if1 .before .before .before .weighing .given .1) in

@@ -1,31 +1,24 @@
 -- `rules_fixed::survey_of` meets its contract. Assumes nothing.
-use mathlib.Core.Path.{ap, _∙_}
+use Rattle.recording.specs.Words.{minutesOf}
+use Rattle.rules_fixed.proofs.Surveying.{surveyed-alone}
 use borrow.Author.Needs.{needs}
-use Rattle.rules_fixed.specs.Account.{accountFrom, opening}
-use Rattle.rules_fixed.proofs.Surveying.{all-there}
 use Rattle.rules_fixed.proofs.survey_of.Statement.{statement}
 use Rattle.rules_fixed.proofs.survey_of.Tie as tie
 
+survey-from-requires : tie.Need-survey-from-requires
+unfolding minutesOf
+survey-from-requires c κs =
+    let start = c .before .before .before .before .before .before .before in
+    (start .pre .0, start .pre .1, start .pre .2, start .pre .3)
+
 returns : tie.Need-returns
-returns c =
-    let numbered = c .before .before .before in
-    let scanned = numbered .before .before .before .before .before .before in
-    let q = scanned .scan .ensures in
-    record {
-      place = q .place;
-      begun = q .begun;
-      ended = q .ended;
-      numbered = numbered .put-nets .ensures;
-      account = c .account-of .ensures ∙ ap (accountFrom opening) (all-there q);
-    }
+returns c = surveyed-alone (c .before .before .before .before .before .before .survey-from .ensures)
 
 pub survey-of-spec : {M : Type 1} → statement M
 survey-of-spec =
     tie.close
     (tie.spec
-    (λ c κs. search needs)
-    (λ c κs. search needs)
-    (λ c κs. search needs)
+    survey-from-requires
     (λ c. search needs)
     (λ c. search needs)
     (λ c. search needs)

@@ -1,5 +1,6 @@
 -- `verdict::breach_of` meets its contract. Assumes nothing.
 use borrow.Author.Needs.{needs}
+use mathlib.Core.List.{_∷_}
 use denote.Ref.{now}
 use Rattle.recording.specs.Words.{minutesOf}
 use Rattle.verdict.proofs.Halving.{least-in-whole, least-in-fixed, breach-whole, breach-under, breach-here}
@@ -11,7 +12,7 @@ least-without-requires c κs =
     let start = c .before .before .before .before .before .before .before .before .before .before .before .before in (
       start .pre .0,
       start .pre .1,
-      least-in-whole (minutesOf (now (start .args .words))) (start .pre .4) (start .pre .3) (start .pre .2) (c .before .before .before .if1 .taken),
+      least-in-whole (minutesOf (start .args .head ∷ now (start .args .words))) (start .pre .4) (start .pre .3) (start .pre .2) (c .before .before .before .if1 .taken),
     )
 
 returns : tie.Need-returns
@@ -19,14 +20,14 @@ returns c =
     let at-least-without = c .before .before .before .before .before .before in
     let at-if1 = at-least-without .before .before .before .before in
     let start = at-if1 .before .before .before .before .before .before .before .before .before in
-    breach-whole (minutesOf (now (start .args .words))) (start .pre .4) (start .pre .3) (at-if1 .if1 .taken) (at-least-without .least-without .ensures)
+    breach-whole (minutesOf (start .args .head ∷ now (start .args .words))) (start .pre .4) (start .pre .3) (at-if1 .if1 .taken) (at-least-without .least-without .ensures)
 
 least-without-requires-2 : tie.Need-least-without-requires-2
 least-without-requires-2 c κs =
     let start = c .before .before .before .before .before .before .before .before .before .before .before .before in (
       start .pre .0,
       start .pre .1,
-      least-in-fixed (minutesOf (now (start .args .words))) (start .pre .4) (start .pre .3) (c .before .before .before .if1 .left),
+      least-in-fixed (minutesOf (start .args .head ∷ now (start .args .words))) (start .pre .4) (start .pre .3) (c .before .before .before .if1 .left),
     )
 
 returns-2 : tie.Need-returns-2
@@ -34,7 +35,7 @@ returns-2 c =
     let at-least-without2 = c .before .before .before .before .before .before .before .before in
     let at-if1 = at-least-without2 .before .before .before .before in
     let start = at-if1 .before .before .before .before .before .before .before .before .before in
-    breach-under (minutesOf (now (start .args .words))) (start .pre .4) (start .pre .3) (at-if1 .if1 .left)
+    breach-under (minutesOf (start .args .head ∷ now (start .args .words))) (start .pre .4) (start .pre .3) (at-if1 .if1 .left)
     (at-least-without2 .least-without2 .ensures) (c .if2 .taken)
 
 returns-3 : tie.Need-returns-3
@@ -42,7 +43,7 @@ returns-3 c =
     let at-least-without2 = c .before .before .before .before .before .before .before .before in
     let at-if1 = at-least-without2 .before .before .before .before in
     let start = at-if1 .before .before .before .before .before .before .before .before .before in
-    breach-here (minutesOf (now (start .args .words))) (start .pre .4) (start .pre .3) (at-if1 .if1 .left)
+    breach-here (minutesOf (start .args .head ∷ now (start .args .words))) (start .pre .4) (start .pre .3) (at-if1 .if1 .left)
     (at-least-without2 .least-without2 .ensures) (c .if2 .left)
 
 pub breach-of-spec : {M : Type 1} → statement M

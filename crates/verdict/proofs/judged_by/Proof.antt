@@ -1,5 +1,6 @@
 -- `verdict::judged_by` meets its contract. Assumes nothing.
 use borrow.Author.Needs.{needs}
+use mathlib.Core.List.{_∷_}
 use denote.Ref.{now}
 use mathlib.Core.Path.{sym, ap, _∙_}
 use Rattle.recording.specs.Answers.{answered}
@@ -29,7 +30,7 @@ breach-of-requires c κs =
       start .pre .2 .rests,
       start .pre .1,
       start .pre .2 .first,
-      none-is (minutesOf (now (start .args .words))) (sym (c .before .before .before .before .if1 .left) ∙ whole-lawful (start .pre .2) (start .pre .0)
+      none-is (minutesOf (start .args .head ∷ now (start .args .words))) (sym (c .before .before .before .before .if1 .left) ∙ whole-lawful (start .pre .2) (start .pre .0)
           (at-lawful-by .lawful-by .ensures)),
     )
 

@@ -1,5 +1,6 @@
 -- `verdict::least_without` meets its contract. Assumes nothing.
 use borrow.Author.Needs.{needs}
+use mathlib.Core.List.{_∷_}
 use denote.Ref.{now}
 use native.Mathlib.Omega.{arith}
 use Rattle.recording.specs.Words.{minutesOf}
@@ -16,7 +17,7 @@ last-day-requires c κs =
       all-lie (start .pre .1) (start .pre .0),
       all-few (start .pre .1) (start .pre .0),
       omega (arith, start .pre .0, start .pre .2 .within),
-      bound-above (minutesOf (now (start .args .words))) _ (start .pre .2),
+      bound-above (minutesOf (start .args .head ∷ now (start .args .words))) _ (start .pre .2),
     )
 
 day-start-requires : tie.Need-day-start-requires
@@ -31,7 +32,7 @@ day-top-requires : tie.Need-day-top-requires
 day-top-requires c κs =
     let at-last-day = c .before .before .before .before .before .before .before in
     let start = at-last-day .before .before .before .before .before .before .before .before .before .before .before in
-    bound-above (minutesOf (now (start .args .words))) _ (start .pre .2)
+    bound-above (minutesOf (start .args .head ∷ now (start .args .words))) _ (start .pre .2)
 
 slice-aggregate-first-without : tie.Need-slice-aggregate-first-without
 slice-aggregate-first-without c =

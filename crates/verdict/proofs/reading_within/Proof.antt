@@ -3,7 +3,8 @@ use borrow.Author.Needs.{needs}
 use denote.Ref.{now}
 use native.Mathlib.Omega.{arith}
 use mathlib.Core.Path.{sym, _∙_}
-use Rattle.verdict.proofs.Answers.{within, count-few, rests-there, asked-there, least-there, told-short, told-none, told-pass, front-size, front-reading}
+use Rattle.recording.specs.Words.{minutesOf}
+use Rattle.verdict.proofs.Answers.{within, alone, count-few, rests-there, asked-there, least-there, told-short, told-none, told-pass, front-size, front-reading}
 use Rattle.verdict.proofs.Lawfulness.{starts-size, ends-size, nets-size, reading-there}
 use Rattle.verdict.proofs.reading_within.Statement.{statement}
 use Rattle.verdict.proofs.reading_within.Tie as tie
@@ -15,6 +16,7 @@ returns c =
     (t .result, t .buffer)
 
 rests-of-requires : tie.Need-rests-of-requires
+unfolding minutesOf
 rests-of-requires c κs =
     let start = c .before .before .before .before .before .before .before .before .before .before .before in
     (within (now (start .args .words)) (start .pre), search needs, search needs, search needs)
@@ -32,7 +34,7 @@ lawful-by-requires : tie.Need-lawful-by-requires
 lawful-by-requires c κs =
     let at-rests-of = c .before .before .before .before .before .before .before .before .before in
     let start = at-rests-of .before .before .before .before .before .before .before .before .before .before .before .before in
-    let r = rests-there (at-rests-of .rests-of .ensures) (start .pre) in
+    let r = rests-there (alone (at-rests-of .rests-of .ensures)) (start .pre) in
     (r .0, r .1, r .2)
 
 slice-aggregate-write-if : tie.Need-slice-aggregate-write-if
@@ -67,9 +69,9 @@ write-if-requires c κs =
     let at-rests-of = at-lawful-by .before .before .before .before .before .before .before .before .before .before in
     let at-if1 = at-rests-of .before .before .before .before in
     let start = at-if1 .before .before .before .before .before .before .before .before in
-    let r = rests-there (at-rests-of .rests-of .ensures) (start .pre) in
+    let r = rests-there (alone (at-rests-of .rests-of .ensures)) (start .pre) in
     let size = front-reading (now (start .args .words)) (now (start .args .reading)) (start .pre) (at-if1 .if1 .left) in
-    (r .0, r .1, r .2, reading-there (at-rests-of .rests-of .ensures) size)
+    (r .0, r .1, r .2, reading-there (alone (at-rests-of .rests-of .ensures)) size)
 
 cast-t57 : tie.Need-cast-t57
 cast-t57 c =
@@ -88,9 +90,9 @@ returns-2 c =
     let at-rests-of = at-lawful-by .before .before .before .before .before .before .before .before .before .before in
     let at-if1 = at-rests-of .before .before .before .before in
     let start = at-if1 .before .before .before .before .before .before .before .before in
-    let lawful = sym (at-if2 .if2 .taken) ∙ asked-there (at-rests-of .rests-of .ensures) (start .pre) (at-lawful-by .lawful-by .ensures) in
+    let lawful = sym (at-if2 .if2 .taken) ∙ asked-there (alone (at-rests-of .rests-of .ensures)) (start .pre) (at-lawful-by .lawful-by .ensures) in
     let t = told-pass (now (start .args .words)) (now (start .args .reading)) (start .pre) (at-if1 .if1 .left) lawful
-    (λ f e. at-write-if .write-if .ensures .written (at-if2 .if2 .taken) f (least-there (at-rests-of .rests-of .ensures) (start .pre) e)) in
+    (λ f e. at-write-if .write-if .ensures .written (at-if2 .if2 .taken) f (least-there (alone (at-rests-of .rests-of .ensures)) (start .pre) e)) in
     (t .result, t .buffer)
 
 -- a breach: nothing was written
@@ -102,7 +104,7 @@ returns-3 c =
     let at-rests-of = at-lawful-by .before .before .before .before .before .before .before .before .before .before in
     let at-if1 = at-rests-of .before .before .before .before in
     let start = at-if1 .before .before .before .before .before .before .before .before in
-    let unlawful = sym (at-if2 .if2 .left) ∙ asked-there (at-rests-of .rests-of .ensures) (start .pre) (at-lawful-by .lawful-by .ensures) in
+    let unlawful = sym (at-if2 .if2 .left) ∙ asked-there (alone (at-rests-of .rests-of .ensures)) (start .pre) (at-lawful-by .lawful-by .ensures) in
     let t = told-none (now (start .args .words)) (now (start .args .reading)) (start .pre) (at-if1 .if1 .left) unlawful (at-write-if .write-if .ensures .left (at-if2 .if2 .left)) in
     (t .result, t .buffer)
 

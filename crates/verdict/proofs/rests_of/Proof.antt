@@ -7,9 +7,9 @@ use Rattle.verdict.proofs.rests_of.Tie as tie
 
 returns : tie.Need-returns
 returns c =
-    let at-survey-of = c .before .before .before .before .before .before .before .before .before .before .before in
-    let start = at-survey-of .before .before .before .before .before .before .before .before in
-    in-front (at-survey-of .survey-of .ensures) (start .pre .0) (omega arith) (c .smallest-rule .ensures) (start .pre .1) (start .pre .2) (start .pre .3)
+    let at-survey-from = c .before .before .before .before .before .before .before .before .before .before .before in
+    let start = at-survey-from .before .before .before .before .before .before .before .before in
+    in-front (at-survey-from .survey-from .ensures) (start .pre .0) (omega arith) (c .smallest-rule .ensures) (start .pre .1) (start .pre .2) (start .pre .3)
 
 pub rests-of-spec : {M : Type 1} → statement M
 rests-of-spec =

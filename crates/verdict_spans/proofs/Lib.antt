@@ -1,0 +1,4 @@
+pub mod SpanLaws
+pub mod FromMondays
+pub mod Seats
+pub mod Putting

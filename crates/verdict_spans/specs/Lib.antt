@@ -1,0 +1,2 @@
+pub mod Mondays
+pub mod Found
