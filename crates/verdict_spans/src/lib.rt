@@ -30,7 +30,7 @@ pub struct Seat {
     pub start: u32,
 }
 
-// The spans of a recording: how many there are, and in the last places of two arrays their first and their last weeks.
+// The spans of a recording: how many there are, and from the front of two arrays on their first and their last weeks.
 pub struct Spans {
     pub count: usize,
     pub firsts: [u32; WEEKS],
