@@ -21,7 +21,7 @@ use Rattle.verdict_spans.specs.Mondays.{lastWeek, Sound, lastFrom, spans
 use Rattle.rules.proofs.Spans.{span, lawful-passes, none-breaches, span-is}
 use Rattle.verdict_spans.proofs.SpanLaws.{back-is}
 
--- ---- what is found of it: a pass with a lawful reading, or a breach at its minute with none
+-- ---- what is found of a recording: a pass with a lawful reading, or a breach at its minute with none
 data Found (ms : List ℕ) : Finding → Type 0 where
   lawful : HasLawful ms → Found ms passed
   unlawful : {a : ℕ} → (HasLawful ms → ⊥) → Found ms (breached (breachMinute ms) a)

@@ -4,11 +4,11 @@ use mathlib.Core.Logic.{_⊎_, inl, inr}
 use mathlib.Core.Bool.{Bool, true, false}
 use mathlib.Core.List.{List, [], _∷_}
 use Prim.Native.Nat.{ℕ, zero, suc, _+_, _-_, _*_, _≤_, _<_}
-use native.Mathlib.Nat.{eq-or-lt-of-le, zero-add, suc-add}
+use native.Mathlib.Nat.{eq-or-lt-of-le}
 use native.Mathlib.Omega.{arith}
 use lib.Dec.{ltb}
 use lib.ListN.{length, getD, set, drop, length-set, length-drop}
-use lib.Seq.{getD-set-same, getD-set-other}
+use lib.Seq.{getD-drop, getD-set-same, getD-set-other}
 use borrow.Author.Tests.{lt-ltb, le-ltb}
 use Rattle.recording.specs.Tests.{pick}
 use Rattle.recording.specs.Words.{minutesOf}
@@ -49,7 +49,7 @@ spans-few ms h =
     let all : ℕ = weeksBegun (length ms) in
     omega (arith, ap length (spans-back ms), back-length all (lastFrom ms) 0 all)
 
-pub weeks-few : (total : ℕ) → total ≤ totalAtMost → weeksBegun total ≤ weeksAtMost
+weeks-few : (total : ℕ) → total ≤ totalAtMost → weeksBegun total ≤ weeksAtMost
 weeks-few total h = omega arith
 
 -- a number put in front of what a list holds from the next place on
@@ -187,17 +187,12 @@ pairs-there (x ∷ xs) ys zero e g = absurd (omega arith)
 pairs-there (x ∷ xs) [] (suc k) e g = absurd (omega arith)
 pairs-there (x ∷ xs) (y ∷ ys) (suc k) e g = ap (λ (l : List Weeks). span x y ∷ l) (pairs-there xs ys k (omega arith) (omega arith))
 
-drop-at : (l : List ℕ) (at i : ℕ) → getD (drop at l) i 0 ≡ getD l (at + i) 0
-drop-at l zero i = ap (λ (n : ℕ). getD l n 0) (sym (zero-add i))
-drop-at [] (suc at) i = refl
-drop-at (x ∷ l) (suc at) i = rw suc-add (drop-at l at i)
-
 pub spans-listed : {words firsts lasts firsts′ lasts′ : List ℕ} {at n : ℕ} → Filled (minutesOf words) firsts lasts at → InFront firsts at firsts′ → InFront lasts at lasts′
     → n ≡ weeksAtMost - at → Lists words (record { count = n; firsts = firsts′; lasts = lasts′ })
 spans-listed {words} {firsts} {lasts} {firsts′} {lasts′} {at} {n} k f l e = record {
   records =
       same-first n (spanAt firsts′ lasts′) (spanAt (drop at firsts) (drop at lasts))
-      (λ i h j. span ((f .same i (omega (arith, e)) ∙ sym (drop-at firsts at i)) j) ((l .same i (omega (arith, e)) ∙ sym (drop-at lasts at i)) j))
+      (λ i h j. span ((f .same i (omega (arith, e)) ∙ sym (getD-drop at firsts i 0)) j) ((l .same i (omega (arith, e)) ∙ sym (getD-drop at lasts i 0)) j))
       ∙ pairs-there (drop at firsts) (drop at lasts) n (length-drop at firsts ∙ omega (arith, k .firsts-there, e)) (length-drop at lasts ∙ omega (arith, k .lasts-there, e))
       ∙ k .listed;
   few = omega (arith, e);
