@@ -5,20 +5,24 @@
  * Any content is fine: every operation answers for all words, bytes and numbers.
  *
  * Answers. A number below DESK_ANSWER is a refusal, by its number:
- *    1 a word has no minutes                      8 the text is not of the form
- *    2 the total passes 120,960                   9 too few words for the run lines or the changes
- *    3 the list is too short                     10 too few bytes for the text or the record
- *    4 the reading buffer is too short           11 the record is not of the form, or the recording not of whole days
- *    5 m is over the total                       12 the record has an unknown activity
- *    6 the reading has the wrong byte count      13 the verdict is a breach, so there is no lawful reading
- *    7 the reading has no entry of that number   14 the list of weeks is too short
+ *    1 a word has no minutes                      9 too few words for the run lines or the changes
+ *    2 the total passes 534,240                  10 too few bytes for the text or the record
+ *    3 the list is too short                     11 the record is not of the form, or the recording not of whole days
+ *    4 the reading buffer is too short           12 the record has an unknown activity
+ *    5 m is over the total                       13 the verdict is a breach, so there is no lawful reading
+ *    6 the reading has the wrong byte count      14 the list of weeks is too short
+ *    7 the reading has no entry of that number   15 the reading has no old form: a week over 11 or a carrier over 255
+ *    8 the text is not of the form
  * Otherwise the operation answered, and the macros below give its value. Only desk_entry_refusal answers with a bare
  * number. On a refusal every buffer is as it was. An operation that fills a buffer writes from its start and leaves what
  * lies beyond.
  *
+ * A reading has an entry of four bytes for each long rest: kind (0 daily, 1 weekly), week, and the carrier's low and high byte, a
+ * number that is low + 256 * high. The old form has three bytes an entry, the carrier in one.
+ *
  * Each promise stands with its function in crates/interface/src/lib.rt, and is proved. Nothing is kept between calls, so
- * threads may call at the same time, each on buffers that no other is using. Have 1 MiB of stack for desk_verdict,
- * desk_first_reading and desk_breach_spans; the most that was measured is 670 KiB, on a recording made to take much.
+ * threads may call at the same time, each on buffers that no other is using. Have 4 MiB of stack for desk_verdict,
+ * desk_first_reading and desk_breach_spans; the most that was measured is 2,370 KiB, on a year made to take much.
  */
 #ifndef DESK_H
 #define DESK_H
@@ -30,15 +34,15 @@
 extern "C" {
 #endif
 
-#define DESK_ANSWER ((uint64_t)1 << 48)
+#define DESK_ANSWER ((uint64_t)1 << 56)
 
-/* A recording has at most so many long rests, so lists of this length and readings of three times as many bytes are never
+/* A recording has at most so many long rests, so lists of this length and readings of four times as many bytes are never
  * too short. */
-#define DESK_LONG_RESTS_AT_MOST 223
+#define DESK_LONG_RESTS_AT_MOST 987
 
 /* A recording has at most so many weeks, and desk_breach_spans writes at most one record for each first week, so lists of this
  * length are never too short for it. */
-#define DESK_WEEKS_AT_MOST 12
+#define DESK_WEEKS_AT_MOST 53
 
 /* Whether an answer is one, and not a refusal; then its value: a count, a rule, or a place: an entry's in its reading, from 0,
  * or an article's in the regulation's order, from 1. */
@@ -46,9 +50,9 @@ extern "C" {
 #define DESK_VALUE(answer) ((answer) % DESK_ANSWER)
 
 /* N, S and k, from an answer of desk_weigh. */
-#define DESK_TOTAL(answer) ((uint32_t)(DESK_VALUE(answer) % 131072))
-#define DESK_JUDGED_END(answer) ((uint32_t)(DESK_VALUE(answer) / 131072 % 131072))
-#define DESK_LONG_RESTS(answer) ((uint32_t)(DESK_VALUE(answer) / 131072 / 131072))
+#define DESK_TOTAL(answer) ((uint32_t)(DESK_VALUE(answer) % 1048576))
+#define DESK_JUDGED_END(answer) ((uint32_t)(DESK_VALUE(answer) / 1048576 % 1048576))
+#define DESK_LONG_RESTS(answer) ((uint32_t)(DESK_VALUE(answer) / 1048576 / 1048576))
 
 /* Whether an answer of desk_verdict is a pass or a breach; then a breach's minute, and its article: 1 to 5 for the
  * smallest broken rule of 1 to 5 (article 7, 6.1, 6.2, 6.3, 8.2), or 6 (article 8). */
@@ -79,7 +83,7 @@ uint64_t desk_article_test(const uint32_t *words, size_t words_count, uint32_t m
 /* The smallest of rules 1 to 11 that the recording with this reading breaks, or 0; refusal 1, 2 or 6. */
 uint64_t desk_reading_test(const uint32_t *words, size_t words_count, const uint8_t *reading, size_t reading_count);
 
-/* Where the three bytes of the entry of a number (from 1) begin in the reading; refusal 6 or 7. */
+/* Where the four bytes of the entry of a number (from 1) begin in the reading; refusal 6 or 7. */
 uint64_t desk_entry(const uint8_t *reading, size_t reading_count, size_t number);
 
 /* The companion of desk_entry: 0 where it answers, or its refusal. */
@@ -103,12 +107,20 @@ uint64_t desk_write_card(const uint32_t *words, size_t words_count, uint8_t *byt
 /* The verdict: pass or breach, with no buffer lent; refusal 1 or 2. The value of a pass is 0. */
 uint64_t desk_verdict(const uint32_t *words, size_t words_count);
 
-/* The first lawful reading, three bytes for each long rest; refusal 1, 2 or 4, then 13 where the verdict is a breach. The
+/* The first lawful reading, four bytes for each long rest; refusal 1, 2 or 4, then 13 where the verdict is a breach. The
  * value is the count of its bytes.
  *
  * To have both, ask for the reading first, and for the verdict only on refusal 13: what has a lawful reading is a pass, so
  * that a pass then costs one search, and not two. */
 uint64_t desk_first_reading(const uint32_t *words, size_t words_count, uint8_t *reading, size_t reading_count);
+
+/* A stored reading of the old form in the form of four bytes an entry, kind, week and carrier as they are; refusal 6 where its
+ * count is no multiple of three, then 4. The value is the count of bytes written. */
+uint64_t desk_widen_reading(const uint8_t *old, size_t old_count, uint8_t *wide, size_t wide_count);
+
+/* The move back, into three bytes an entry, kind, week and carrier as they are; refusal 6 where the count is no multiple of
+ * four, then 4, then 15 where a week is over 11 or a carrier over 255. The value is the count of bytes written. */
+uint64_t desk_narrow_reading(const uint8_t *wide, size_t wide_count, uint8_t *old, size_t old_count);
 
 /* A record of a list: the weeks from first to last, both included. Weeks are numbered from 0. */
 struct desk_weeks {

@@ -1,4 +1,4 @@
-//! Reading a card record of 84 days with 40 changes a day and writing it back, by the desk and by the second program.
+//! Reading a card record with 40 changes a day and writing it back, by the desk and by the second program.
 
 use std::collections::BTreeSet;
 use std::hint::black_box;
@@ -9,7 +9,6 @@ use second::dice::Dice;
 use second::recording::Activity;
 
 const RECORDS: u64 = 20;
-const DAYS: usize = 84;
 const CHANGES: usize = 40;
 
 /// A record and its words, and what is lent to read into and to write into.
@@ -33,8 +32,8 @@ pub fn call(name: &str, program: &str) -> Call {
     }
 }
 
-/// The microseconds of a call on each record. Reading leaves its words, writing the record again.
-pub fn times(call: Call) -> Vec<f64> {
+/// The microseconds of a call on each record of so many days. Reading leaves its words, writing the record again.
+pub fn times(call: Call, days: usize) -> Vec<f64> {
     let time = |mut card: Card| {
         let before = Instant::now();
         call(&mut card);
@@ -42,12 +41,12 @@ pub fn times(call: Call) -> Vec<f64> {
         assert!(card.lent_words == card.words || card.lent_bytes == card.record);
         time
     };
-    cards().map(time).collect()
+    cards(days).map(time).collect()
 }
 
-fn cards() -> impl Iterator<Item = Card> {
-    (0..RECORDS).map(|seed| {
-        let record = record(&mut Dice::new(seed));
+fn cards(days: usize) -> impl Iterator<Item = Card> {
+    (0..RECORDS).map(move |seed| {
+        let record = record(&mut Dice::new(seed), days);
         let words = second::card::parse(&record).expect("the record is of the form");
         let (lent_words, lent_bytes) = (vec![0; words.len()], vec![0; record.len()]);
         Card {
@@ -60,10 +59,10 @@ fn cards() -> impl Iterator<Item = Card> {
 }
 
 /// Each day changes at minute 0 and at 39 others, every time to another activity.
-fn record(dice: &mut Dice) -> Vec<u8> {
+fn record(dice: &mut Dice, days: usize) -> Vec<u8> {
     let mut record = Vec::new();
     let mut code = 0;
-    for _ in 0..DAYS {
+    for _ in 0..days {
         let mut minutes = BTreeSet::from([0]);
         while minutes.len() < CHANGES {
             minutes.insert(dice.below(1_440));

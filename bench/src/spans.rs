@@ -1,4 +1,4 @@
-//! The breach spans of twelve weeks, by the desk and by the second program; beside them the desk's verdict on the recording of each Monday, its
+//! The breach spans, by the desk and by the second program; beside them the desk's verdict on the recording of each Monday, its
 //! words cut from the Monday on.
 
 use std::hint::black_box;
@@ -75,7 +75,7 @@ pub fn time(kind: &str, recordings: &[Vec<u32>]) {
     let [ours, theirs, verdicts] = [ours, theirs, verdicts].map(sorted);
     let n = ours.len();
     println!(
-        "{kind:12} {n:11} {spans:6} {:12.0} {:7.0} {:14.0} {:7.0} {:17.2} {:19.0} {:7.0} {:23.2}, {:5.2}",
+        "{kind:13} {n:10} {spans:6} {:12.0} {:7.0} {:14.0} {:7.0} {:17.2} {:19.0} {:7.0} {:23.2}, {:5.2}",
         ours[n / 2],
         ours[n - 1],
         theirs[n / 2],

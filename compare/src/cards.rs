@@ -9,7 +9,7 @@ use crate::inputs::{attempt, beside, lent, one_of, Room, Try};
 use crate::operation::{Input, Operation};
 
 const DAY: u32 = 1_440;
-const MOST_DAYS: usize = 84;
+const MOST_DAYS: usize = 371;
 
 const SLOT: u16 = 0x8000;
 const CREW: u16 = 0x4000;
@@ -44,7 +44,7 @@ pub fn of_recording(dice: &mut Dice, recording: &Input, tries: &mut Vec<Try>) {
         let many = many_days(dice, &changes);
         let attempt = reading(dice, room, bytes(&many));
         tries.push(Try {
-            variant: "about 84 days",
+            variant: "about 371 days",
             ..attempt
         });
     }
@@ -212,10 +212,10 @@ fn day_before(dice: &mut Dice, changes: &mut Vec<u16>) {
     changes.insert(index.expect("a day or the end"), change);
 }
 
-/// The record over and over, for 83 days or somewhat more; now and then with an
+/// The record over and over, for 370 days or somewhat more; now and then with an
 /// unknown activity.
 fn many_days(dice: &mut Dice, some: &[u16]) -> Vec<u16> {
-    let most = dice.between(83, 86) as usize;
+    let most = dice.between(370, 373) as usize;
     let some = if some.is_empty() { &[0][..] } else { some };
     let mut days = 0;
     let mut changes: Vec<u16> = (some.iter().copied().cycle())
@@ -298,14 +298,16 @@ fn unknown(dice: &mut Dice, changes: &[u16]) -> Vec<u16> {
     changes
 }
 
-/// Any bytes; or days of one change, up to a hundred, with any bits.
+/// Any bytes; or days of one change, up to a hundred or somewhat more than a year, with
+/// any bits.
 fn random_record(dice: &mut Dice) -> Vec<u8> {
     if dice.one_in(2) {
         let count = dice.below(12);
         return (0..count).map(|_| dice.below(256) as u8).collect();
     }
     let unknown_in = one_of(dice, &[20, 1_000]);
-    let days = (0..dice.below(100)).map(|_| {
+    let most = one_of(dice, &[100, 100, 450]);
+    let days = (0..dice.below(most)).map(|_| {
         let known = one_of(dice, &KNOWN);
         let marks = if dice.one_in(unknown_in) { OUT } else { known };
         marks | (dice.below(4) as u16) << 11

@@ -6,10 +6,12 @@ use second::grow;
 use crate::cards;
 use crate::edges;
 use crate::inputs::{self, Room, Try};
+use crate::moves;
 use crate::recordings;
 use crate::weeks;
+use crate::years;
 
-/// How many recordings of each kind, and how many readings for the entry.
+/// How many recordings of each kind, and how many readings for the entry and the moves.
 pub struct Plan {
     pub random: u64,
     pub few_days: u64,
@@ -28,7 +30,11 @@ pub struct Plan {
     /// Of the recordings of several weeks, which are for the breach spans alone, so many
     /// of the kind that takes the longest, and of others by their share.
     pub weeks: u64,
+    /// Of the recordings of 13 to 53 weeks, so many of the kind that takes the longest,
+    /// and of others by their share.
+    pub years: u64,
     pub entries: u64,
+    pub moves: u64,
 }
 
 /// The recordings that a search is slow on, and the one on which it goes deepest.
@@ -57,6 +63,7 @@ pub fn each(plan: &Plan, visit: Visit) -> bool {
     texts(visit)
         && card_records(visit)
         && each_entry(plan, visit)
+        && each_move(plan, visit)
         && each_recording(plan, &mut |kind, recorded| {
             let Recorded {
                 words,
@@ -83,6 +90,7 @@ pub fn each_recording(plan: &Plan, visit: VisitRecording) -> bool {
         && recordings_of(plan.scarce, 7, "scarce", grow::scarce, visit)
         && recordings_of(plan.climbed, 8, "climbed", climbed, visit)
         && stored(plan, visit)
+        && each_year(plan, visit)
 }
 
 fn all(kind: &'static str, tries: Vec<Try>, visit: Visit) -> bool {
@@ -160,6 +168,20 @@ fn card_records(visit: Visit) -> bool {
 fn each_entry(plan: &Plan, visit: Visit) -> bool {
     let mut dice = Dice::new(103);
     (0..plan.entries).all(|_| all("readings", inputs::entries(&mut dice), visit))
+}
+
+fn each_move(plan: &Plan, visit: Visit) -> bool {
+    let mut dice = Dice::new(106);
+    (0..plan.moves).all(|_| all("readings", moves::moves(&mut dice), visit))
+}
+
+/// Recordings of 13 to 53 weeks.
+fn each_year(plan: &Plan, visit: VisitRecording) -> bool {
+    let mut kinds = (30..).zip(years::KINDS);
+    kinds.all(|(seed, kind)| {
+        let count = kind.share * plan.years;
+        recordings_of(count, seed, kind.name, kind.make, visit)
+    })
 }
 
 /// Recordings of several weeks, and the stored ones, for the breach spans alone.

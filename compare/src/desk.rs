@@ -34,6 +34,10 @@ pub fn desk(operation: Operation, input: &Input) -> Answer {
         Operation::BreachSpans => {
             desk_spans(words, &mut after.lent_words, &mut after.lent_ends).map(one)
         }
+        Operation::WidenReading => hours_desk::widen_reading(bytes, &mut after.lent_bytes).map(one),
+        Operation::NarrowReading => {
+            hours_desk::narrow_reading(bytes, &mut after.lent_bytes).map(one)
+        }
     };
     answer(told.map_err(hours_desk::Refusal::number), after)
 }

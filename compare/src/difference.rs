@@ -3,6 +3,8 @@
 use std::fmt;
 
 use second::card::{changes, Change};
+use second::reading::{entries, Entry, ENTRY_BYTES};
+use second::stored::STORED_ENTRY_BYTES;
 
 use crate::operation::{Answer, Input, Operation, Program};
 use crate::shrink;
@@ -85,10 +87,32 @@ impl Difference {
         parts.join(" ")
     }
 
-    /// What the operation is shown on: the recording, or the card record.
+    /// Kind, week and carrier of each entry that is passed, and the bytes left over.
+    fn entries(&self) -> String {
+        let bytes = &self.input.bytes;
+        let (entry_bytes, entries): (usize, Vec<Entry>) = match self.operation {
+            Operation::WidenReading => (STORED_ENTRY_BYTES, stored_entries(bytes)),
+            _ => (ENTRY_BYTES, entries(bytes)),
+        };
+        let shown = |entry: &Entry| format!("{}-{}-{}", entry.kind, entry.week, entry.carrier);
+        let mut parts: Vec<String> = entries.iter().map(shown).collect();
+        match bytes.len() % entry_bytes {
+            0 if parts.is_empty() => parts.push("no entries".into()),
+            0 => {}
+            1 => parts.push("a byte".into()),
+            over => parts.push(format!("{over} bytes")),
+        }
+        parts.join(" ")
+    }
+
+    /// What the operation is shown on: the recording, the card record or the entries.
     pub fn shown(&self) -> String {
         match self.operation {
             Operation::ReadCard => self.card(),
+            Operation::Entry
+            | Operation::EntryRefusal
+            | Operation::WidenReading
+            | Operation::NarrowReading => self.entries(),
             _ => self.recording(),
         }
     }
@@ -110,6 +134,9 @@ impl fmt::Display for Difference {
         if self.operation == Operation::ReadCard {
             writeln!(to, "  changes   {}", self.card())?;
         }
+        if let Operation::WidenReading | Operation::NarrowReading = self.operation {
+            writeln!(to, "  entries   {}", self.entries())?;
+        }
         writeln!(to, "  bytes     {:?}", input.bytes)?;
         writeln!(to, "  number    {}", input.number)?;
         writeln!(
@@ -120,6 +147,16 @@ impl fmt::Display for Difference {
         writeln!(to, "  desk      {}", answered(&self.ours))?;
         write!(to, "  second    {}", answered(&self.theirs))
     }
+}
+
+/// The entries of a reading of the old form.
+fn stored_entries(bytes: &[u8]) -> Vec<Entry> {
+    let entry = |three: &[u8]| Entry {
+        kind: three[0],
+        week: three[1],
+        carrier: three[2].into(),
+    };
+    bytes.chunks_exact(STORED_ENTRY_BYTES).map(entry).collect()
 }
 
 fn answered(answer: &Answer) -> String {

@@ -1,7 +1,8 @@
 //! The cases of "On the edge", and recordings at the edge of each number of the
 //! documents, with readings to test them by.
 
-use second::recording::Span;
+use second::reading::{bytes, Entry};
+use second::recording::{weigh, Span};
 
 use crate::recordings::{driving_days, driving_week};
 use crate::shorthand::{around, attempt, days, general_figure, span, tight_weeks, times, words};
@@ -16,10 +17,20 @@ fn edge(shorthand: &str) -> Edge {
     read(shorthand, &[])
 }
 
-fn read(shorthand: &str, readings: &[&[u8]]) -> Edge {
+/// With readings, each given as kind, week and carrier, entry by entry.
+fn read(shorthand: &str, readings: &[&[u16]]) -> Edge {
+    let reading = |numbers: &&[u16]| {
+        let entry = |three: &[u16]| Entry {
+            kind: three[0] as u8,
+            week: three[1] as u8,
+            carrier: three[2],
+        };
+        let entries: Vec<Entry> = numbers.chunks_exact(3).map(entry).collect();
+        bytes(&entries)
+    };
     Edge {
         words: words(shorthand),
-        readings: readings.iter().map(|reading| reading.to_vec()).collect(),
+        readings: readings.iter().map(reading).collect(),
     }
 }
 
@@ -100,7 +111,7 @@ fn figures() -> Vec<Edge> {
         edges.push(edge(&tight_weeks(&[&figure_2[..5], &[sixth]].concat())));
     }
     edges.push(edge(&tight_weeks(&[&figure_2[1..], &[3960]].concat())));
-    let readings = [0, 19, 25, 32].map(|carrier| second::reading::bytes(&attempt(carrier)));
+    let readings = [0, 19, 25, 32].map(|carrier| bytes(&attempt(carrier)));
     edges.push(Edge {
         words: words(&tight_weeks(&figure_2)),
         readings: readings.into(),
@@ -111,6 +122,7 @@ fn figures() -> Vec<Edge> {
 /// Each number of the document a minute under, at and over its edge.
 pub fn constants() -> Vec<Edge> {
     let mut edges = totals();
+    edges.extend(late_weeks());
     for change in [-1, 0, 1] {
         edges.extend(fixed_rules(change));
         edges.extend(broken_at_once(change));
@@ -120,34 +132,104 @@ pub fn constants() -> Vec<Edge> {
         edges.extend(readings(change));
         edges.extend(weekly_rests(change));
         edges.extend(weeks(change));
+        edges.extend(far_carriers(change));
         edges.extend(whole_days(change));
     }
     edges
 }
 
-/// 120,960 minutes, in one word and in many; words of no minutes and huge ones;
-/// 223 long rests.
+/// 534,240 minutes, in one word and in many; words of no minutes and huge ones; 987 long
+/// rests. Twelve weeks and a minute more; 223 long rests, as many as a byte can number,
+/// and one more of each.
 fn totals() -> Vec<Edge> {
-    let mut edges = vec![
+    let mut edges = Vec::new();
+    for minutes in [120_960, 120_961, 534_239, 534_240, 534_241] {
+        edges.push(whole(vec![4 * minutes]));
+        edges.push(whole(vec![4 * (minutes - 1), 7]));
+    }
+    edges.extend([
         whole(vec![0]),
         whole(vec![3]),
         whole(vec![u32::MAX]),
         whole(vec![u32::MAX; 8]),
-        whole(vec![4 * 120_960, 0]),
-        whole(vec![4 * 120_961, 0]),
-        whole(vec![0, 4 * 120_961]),
-        edge(&times(223, "r540 w1")),
-        edge(&times(224, "r540")),
+        whole(vec![4 * 534_240, 0]),
+        whole(vec![4 * 534_241, 0]),
+        whole(vec![0, 4 * 534_241]),
+        edge("r533340 w900"),
+        edge("r533339 w901"),
         edge("r20160 w1"),
         edge("w1 r540"),
         edge("r270 r270 w1"),
-    ];
-    for minutes in [120_959, 120_960, 120_961] {
-        edges.push(whole(vec![4 * minutes]));
-        edges.push(whole(vec![4; minutes as usize]));
-        edges.push(whole(vec![4 * (minutes - 1), 7]));
+        edge(&times(990, "r540")),
+    ]);
+    for rests in [223, 224, 255, 256, 257, 987, 988] {
+        edges.push(edge(&times(rests, "r540 w1")));
     }
+    edges.push(edge(&times(987, "r540 w1").replacen("r540", "r813", 1)));
+    for minutes in [534_240, 534_241] {
+        edges.push(whole(vec![4; minutes]));
+    }
+    edges.push(whole([4, 6].repeat(267_120)));
     edges
+}
+
+/// A weekly rest over 51 weeks and into the next, counted in weeks about 11, 16 and 51 and
+/// in weeks that no recording has; another in week 52; a breach in each of 53 weeks.
+fn late_weeks() -> Vec<Edge> {
+    let words = around(&[span(60, 516_080), span(524_500, 527_200)], 527_300);
+    let rests = weigh(&words).map_or(0, |measure| measure.long_rests);
+    let counted = [0, 11, 12, 15, 16, 50, 51, 52, 53, 67, 115, 255];
+    let readings = counted.map(|week| {
+        let mut entries = vec![Entry::daily(); rests];
+        entries[0] = Entry::weekly(week, 0);
+        entries[rests - 1] = Entry::weekly(52, 0);
+        bytes(&entries)
+    });
+    vec![
+        Edge {
+            words,
+            readings: readings.into(),
+        },
+        edge(&times(53, "d271 r9809")),
+    ]
+}
+
+/// A reduced weekly rest, number 253, that 255 and 256 alone can pay back by themselves;
+/// with carriers on both sides of them, off by 256, and with their bytes exchanged.
+fn far_carriers(change: i64) -> Vec<Edge> {
+    let week = |weekly: i64, rests: [i64; 10]| {
+        let day = |rest| format!("w{} r{rest} ", 730 - rest);
+        let work = 2_780 - weekly;
+        rests.map(day).concat() + &format!("w{work} r{weekly} ")
+    };
+    let (most, least) = (660, 540);
+    let plain = [
+        least, least, least, most, most, most, most, most, most, most,
+    ];
+    let mut paying = [most; 10];
+    paying[..5].copy_from_slice(&[least, 720 + change, 720, least, least]);
+    let shorthand = [
+        week(2_700, plain).repeat(22),
+        week(2_640, plain),
+        week(2_700, paying),
+        week(2_700, plain).repeat(3),
+        "w1".into(),
+    ];
+    let carriers = [0, 254, 255, 256, 257, 264, 511, 512, 65_280, 1, 65_535, 253];
+    let readings = carriers.map(|carrier| {
+        let mut entries: Vec<Entry> = (1..=27 * 11)
+            .map(|number: u16| match number % 11 {
+                0 => Entry::weekly((number / 11 - 1) as u8, 0),
+                _ => Entry::daily(),
+            })
+            .collect();
+        entries[252].carrier = carrier;
+        bytes(&entries)
+    });
+    vec![Edge {
+        words: words(&shorthand.concat()),
+        readings: readings.into(),
+    }]
 }
 
 /// Rules 1 to 5.
@@ -322,7 +404,7 @@ fn loads(change: i64) -> Vec<Edge> {
 /// Rules 6 to 9, by readings.
 fn readings(change: i64) -> Vec<Edge> {
     let at = |edge: i64| edge + change;
-    let one: [&[u8]; 9] = [
+    let one: [&[u16]; 11] = [
         &[0, 0, 0],
         &[1, 0, 0],
         &[2, 0, 0],
@@ -332,8 +414,10 @@ fn readings(change: i64) -> Vec<Edge> {
         &[1, 1, 0],
         &[1, 0, 1],
         &[1, 0, 2],
+        &[0, 0, 256],
+        &[1, 0, 256],
     ];
-    let two: [&[u8]; 7] = [
+    let two: [&[u16]; 9] = [
         &[0, 0, 0, 0, 0, 0],
         &[1, 0, 2, 0, 0, 0],
         &[1, 0, 2, 1, 0, 0],
@@ -341,8 +425,10 @@ fn readings(change: i64) -> Vec<Edge> {
         &[1, 0, 1, 1, 0, 0],
         &[1, 0, 0, 1, 0, 1],
         &[1, 0, 2, 1, 0, 2],
+        &[1, 0, 258, 1, 0, 0],
+        &[1, 0, 512, 1, 0, 0],
     ];
-    let three: [&[u8]; 3] = [
+    let three: [&[u16]; 3] = [
         &[1, 0, 2, 1, 0, 0, 1, 1, 0],
         &[1, 0, 2, 1, 0, 3, 1, 1, 0],
         &[1, 0, 0, 1, 0, 3, 1, 1, 0],
@@ -506,7 +592,7 @@ pub fn card_records() -> Vec<(Vec<u16>, Vec<u8>)> {
             records.push(vec![at(0, 0), at(minute, 1), at(second % 2_048, 2)]);
         }
     }
-    for days in [83, 84, 85, 86] {
+    for days in [84, 85, 370, 371, 372, 373] {
         let whole = vec![at(0, 2); days];
         records.push(whole.clone());
         records.push([&whole[..], &[at(1, 0)]].concat());
@@ -574,7 +660,7 @@ pub fn texts() -> Vec<String> {
     ] {
         texts.push(one_week(&format!("(rest {number})\n")));
     }
-    for weeks in [1, 11, 12, 13] {
+    for weeks in [1, 11, 12, 13, 52, 53, 54] {
         texts.push(recording(&full.repeat(weeks)));
         texts.push(recording(
             &(full.repeat(weeks - 1) + &week("(work 10079)\n")),

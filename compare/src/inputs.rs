@@ -4,17 +4,23 @@
 
 use second::dice::Dice;
 use second::fast::Judge;
+use second::limits::MOST_WEEKS;
+use second::reading::{entries as entries_of, Entry, ENTRY_BYTES};
 use second::runs::{Course, LongRest};
 use second::verdict::{Outcome, Verdict};
 use second::Limits;
 
 use crate::cards;
+use crate::moves;
 use crate::operation::{Input, Operation};
 use crate::spans;
 
 /// A recording that takes so many steps of a search is asked for its breach spans one
 /// time in four: they take a search from each Monday on.
 const MANY_STEPS: u64 = 2_000;
+
+/// Where the carrier's low byte lies in an entry, and after it the high one.
+const LOW: usize = 2;
 
 /// An input, and what is tried by it.
 pub struct Try {
@@ -124,7 +130,8 @@ pub fn verdicts_of_recording(dice: &mut Dice, words: &[u32]) -> Vec<Try> {
     match second::recording::weigh(words) {
         Ok(measure) => {
             let passes = second::verdict::verdict(words) == Ok(Verdict::Pass);
-            verdicts(dice, &recording, 3 * measure.long_rests, passes, &mut tries);
+            let need = ENTRY_BYTES * measure.long_rests;
+            verdicts(dice, &recording, need, passes, &mut tries);
         }
         Err(_) => {
             tries.push(attempt(Operation::Verdict, "any", recording.clone()));
@@ -188,7 +195,7 @@ fn weighed(dice: &mut Dice, recording: &Input, readings: &[Vec<u8>], tries: &mut
         Outcome::Pass(reading) => reading.clone(),
         Outcome::Breach { minute, .. } => {
             let mut before = judge.first_reading(minute - 1).unwrap_or_default();
-            before.resize(3 * course.long_rests.len(), 0);
+            before.resize(ENTRY_BYTES * course.long_rests.len(), 0);
             before
         }
     };
@@ -200,6 +207,9 @@ fn weighed(dice: &mut Dice, recording: &Input, readings: &[Vec<u8>], tries: &mut
             ..recording.clone()
         };
         tries.push(attempt(Operation::ReadingTest, "nearly lawful", input));
+    }
+    if dice.one_in(3) {
+        moves::of_reading(dice, &first, tries);
     }
     verdicts(dice, recording, first.len(), passes, tries);
     if let Outcome::Breach { minute, .. } = outcome {
@@ -303,11 +313,17 @@ fn reading_tests(
     for _ in 0..2 {
         push("nearly lawful", nearly(dice, rests, first));
     }
+    let carriers = if rests.len() > 255 { 4 } else { 1 };
+    for _ in 0..carriers {
+        push("another carrier", another_carrier(dice, first));
+    }
     push("random", random_reading(dice, rests));
-    let length = match dice.below(4) {
-        0 => first.len() + 3,
+    let length = match dice.below(6) {
+        0 => first.len() + ENTRY_BYTES,
         1 => first.len().saturating_sub(1),
-        2 => dice.below(700) as usize,
+        2 => dice.below(4_000) as usize,
+        3 => 3 * rests.len(),
+        4 => first.len().saturating_sub(ENTRY_BYTES),
         _ => first.len() + 1,
     };
     let mut other = first.to_vec();
@@ -323,25 +339,55 @@ fn nearly(dice: &mut Dice, rests: &[LongRest], reading: &[u8]) -> Vec<u8> {
     }
     let index = dice.below(rests.len() as u32) as usize;
     let byte = dice.below(reading.len() as u32) as usize;
+    let entry = ENTRY_BYTES * index;
     match dice.below(6) {
         0 => reading[byte] ^= 1,
         1 => reading[byte] = reading[byte].wrapping_add(1),
         2 => reading[byte] = dice.below(256) as u8,
-        3 => reading[3 * index..3 * index + 3].fill(0),
-        4 => reading[3 * index + 2] = later(dice, rests, index),
+        3 => reading[entry..entry + ENTRY_BYTES].fill(0),
+        4 => {
+            let carrier = later(dice, rests, index);
+            reading[entry + LOW..entry + ENTRY_BYTES].copy_from_slice(&carrier.to_le_bytes());
+        }
         _ => {
-            let entry = plausible(dice, rests, index);
-            reading[3 * index..3 * index + 3].copy_from_slice(&entry);
+            let plausible = plausible(dice, rests, index).bytes();
+            reading[entry..entry + ENTRY_BYTES].copy_from_slice(&plausible);
         }
     }
     reading
 }
 
+/// The reading with one carrier off by 256, with its low and high byte exchanged, or
+/// with another high byte. Most often it is a carrier that is not 0, if there is one.
+fn another_carrier(dice: &mut Dice, reading: &[u8]) -> Vec<u8> {
+    let mut reading = reading.to_vec();
+    let entries = entries_of(&reading);
+    if entries.is_empty() {
+        return reading;
+    }
+    let carried: Vec<usize> = (0..entries.len())
+        .filter(|&index| entries[index].carrier > 0)
+        .collect();
+    let index = if carried.is_empty() || dice.one_in(8) {
+        dice.below(entries.len() as u32) as usize
+    } else {
+        one_of(dice, &carried)
+    };
+    let carrier = &mut reading[ENTRY_BYTES * index + LOW..ENTRY_BYTES * (index + 1)];
+    match dice.below(4) {
+        0 => carrier[1] = carrier[1].wrapping_add(1),
+        1 => carrier[1] = carrier[1].wrapping_sub(1),
+        2 => carrier.reverse(),
+        _ => carrier[1] = dice.below(256) as u8,
+    }
+    reading
+}
+
 /// An entry that a rest could have: daily, or weekly in one of its weeks.
-fn plausible(dice: &mut Dice, rests: &[LongRest], index: usize) -> [u8; 3] {
+fn plausible(dice: &mut Dice, rests: &[LongRest], index: usize) -> Entry {
     let rest = rests[index].span;
     if rest.length() < 1_440 && !dice.one_in(20) {
-        return [0; 3];
+        return Entry::daily();
     }
     let minute = one_of(dice, &[rest.start, rest.end - 1]);
     let week = (minute / 10_080) as u8;
@@ -350,26 +396,26 @@ fn plausible(dice: &mut Dice, rests: &[LongRest], index: usize) -> [u8; 3] {
     } else {
         0
     };
-    [1, week, carrier]
+    Entry::weekly(week, carrier)
 }
 
 /// The number of a later rest, now and then of any.
-fn later(dice: &mut Dice, rests: &[LongRest], index: usize) -> u8 {
+fn later(dice: &mut Dice, rests: &[LongRest], index: usize) -> u16 {
     let count = rests.len() as u32;
     if dice.one_in(10) {
-        return dice.below(count + 2) as u8;
+        return dice.below(count + 2) as u16;
     }
-    (index as u32 + 1 + dice.between(0, 4)).min(count) as u8
+    (index as u32 + 1 + dice.between(0, 4)).min(count) as u16
 }
 
 fn random_reading(dice: &mut Dice, rests: &[LongRest]) -> Vec<u8> {
     if dice.one_in(4) {
-        return (0..3 * rests.len())
+        return (0..ENTRY_BYTES * rests.len())
             .map(|_| dice.below(256) as u8)
             .collect();
     }
     (0..rests.len())
-        .flat_map(|index| plausible(dice, rests, index))
+        .flat_map(|index| plausible(dice, rests, index).bytes())
         .collect()
 }
 
@@ -402,7 +448,7 @@ fn up_to_the_breach(dice: &mut Dice, recording: &Input, breach: u32, tries: &mut
     let words = cards::split_at(&recording.words, breach - dice.below(2)).0;
     let long_rests = second::recording::weigh(&words).map_or(0, |measure| measure.long_rests);
     let room = one_of(dice, &[Room::JustFits, Room::Longer]);
-    let length = room.length(dice, 3 * long_rests);
+    let length = room.length(dice, ENTRY_BYTES * long_rests);
     let input = Input {
         words,
         lent_bytes: lent(dice, length),
@@ -433,9 +479,8 @@ fn spans(dice: &mut Dice, recording: &Input, tries: &mut Vec<Try>) {
 
 /// Writing the recording's text, and reading it, whole and damaged.
 fn texts(dice: &mut Dice, recording: &Input, tries: &mut Vec<Try>) {
-    let mut text = vec![0; 24 * recording.words.len() + 400];
-    let need = second::text::write(&recording.words, &mut text).expect("the words were weighed");
-    text.truncate(need);
+    let text = written(&recording.words);
+    let need = text.len();
     let other = one_of(dice, &[Room::Empty, Room::Longer]);
     for room in [Room::JustFits, Room::ShortByOne, other] {
         let length = room.length(dice, need);
@@ -448,6 +493,15 @@ fn texts(dice: &mut Dice, recording: &Input, tries: &mut Vec<Try>) {
     let room = one_of(dice, &Room::ALL);
     tries.push(reading(dice, room, text.clone()));
     of_text(dice, &text, tries);
+}
+
+/// The text of words that weighing does not turn away. A week's end adds a run and two
+/// lines to it.
+pub fn written(words: &[u32]) -> Vec<u8> {
+    let mut text = vec![0; 24 * (words.len() + 2 * MOST_WEEKS)];
+    let length = second::text::write(words, &mut text).expect("the words were weighed");
+    text.truncate(length);
+    text
 }
 
 /// Reading a text with this room for its words.
@@ -556,11 +610,11 @@ fn renumber(dice: &mut Dice, lines: &mut Vec<Vec<u8>>, index: usize) {
 pub fn entries(dice: &mut Dice) -> Vec<Try> {
     let count = dice.below(40) as usize;
     let damage = if dice.one_in(3) {
-        dice.between(1, 2) as usize
+        dice.between(1, 3) as usize
     } else {
         0
     };
-    let bytes: Vec<u8> = (0..3 * count + damage)
+    let bytes: Vec<u8> = (0..ENTRY_BYTES * count + damage)
         .map(|_| dice.below(256) as u8)
         .collect();
     let (variant, number) = match dice.below(8) {
@@ -568,7 +622,10 @@ pub fn entries(dice: &mut Dice) -> Vec<Try> {
         1 => ("number over", count + 1),
         2 => (
             "number over",
-            one_of(dice, &[usize::MAX, usize::MAX / 3 + 2, 1 << 63, 1 << 32]),
+            one_of(
+                dice,
+                &[usize::MAX, usize::MAX / 4 + 2, 1 << 62, 1 << 63, 1 << 32],
+            ),
         ),
         3 => ("last number", count),
         _ => ("some number", dice.between(1, count as u32 + 1) as usize),

@@ -10,7 +10,9 @@ mod edges;
 pub mod first_part;
 pub mod inputs;
 pub mod mistake;
+mod moves;
 pub mod operation;
+pub mod reading_order;
 mod recordings;
 #[path = "../../second/tests/shorthand/mod.rs"]
 mod shorthand;
@@ -19,3 +21,4 @@ pub mod spans;
 pub mod split_rest;
 pub mod tally;
 mod weeks;
+mod years;

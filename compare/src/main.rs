@@ -34,7 +34,9 @@ fn main() {
         climbed: 60,
         stored: 3,
         weeks: 120,
+        years: 15,
         entries: 20_000,
+        moves: 24_000,
     };
     let mut tally = Tally::default();
     let ended = cases::each(&plan, &mut |kind, attempt| {

@@ -9,6 +9,7 @@ use crate::article_order;
 use crate::cards::split_at;
 use crate::first_part;
 use crate::operation::{second, Answer, Input, Operation};
+use crate::reading_order;
 use crate::spans;
 use crate::split_rest;
 
@@ -29,20 +30,30 @@ pub struct Mistake {
 pub struct About {
     pub title: &'static str,
     pub mistakes: &'static [Mistake],
+    /// The inputs in each row that an operation is compared on at least.
+    pub at_least: usize,
 }
 
-pub const REQUESTS: [About; 4] = [
+const MANY: usize = 500;
+
+/// Where it takes a recording of many weeks.
+const SOME: usize = 50;
+
+pub const REQUESTS: [About; 5] = [
     About {
         title: "first part by mistake",
         mistakes: &[first_part::ANY_REST, first_part::SINCE_MINUTE_0],
+        at_least: MANY,
     },
     About {
         title: "rule 9 by mistake",
         mistakes: &[split_rest::NEVER, split_rest::ANY_DAY],
+        at_least: MANY,
     },
     About {
         title: "articles by mistake",
         mistakes: &[article_order::BY_NUMBER],
+        at_least: MANY,
     },
     About {
         title: "spans by mistake",
@@ -51,6 +62,12 @@ pub const REQUESTS: [About; 4] = [
             spans::NOT_BY_ITSELF,
             spans::NO_PART_WEEK,
         ],
+        at_least: MANY,
+    },
+    About {
+        title: "order by mistake",
+        mistakes: &[reading_order::BY_BYTES],
+        at_least: SOME,
     },
 ];
 

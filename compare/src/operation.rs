@@ -24,10 +24,12 @@ pub enum Operation {
     Verdict,
     FirstReading,
     BreachSpans,
+    WidenReading,
+    NarrowReading,
 }
 
 impl Operation {
-    pub const ALL: [Operation; 14] = [
+    pub const ALL: [Operation; 16] = [
         Operation::Weigh,
         Operation::List,
         Operation::FixedTest,
@@ -42,6 +44,8 @@ impl Operation {
         Operation::Verdict,
         Operation::FirstReading,
         Operation::BreachSpans,
+        Operation::WidenReading,
+        Operation::NarrowReading,
     ];
 
     pub fn name(self) -> &'static str {
@@ -60,6 +64,8 @@ impl Operation {
             Operation::Verdict => "verdict",
             Operation::FirstReading => "first reading",
             Operation::BreachSpans => "breach spans",
+            Operation::WidenReading => "widening a reading",
+            Operation::NarrowReading => "narrowing a reading",
         }
     }
 
@@ -80,6 +86,8 @@ impl Operation {
             Operation::Verdict => "verdict",
             Operation::FirstReading => "first",
             Operation::BreachSpans => "spans",
+            Operation::WidenReading => "widen",
+            Operation::NarrowReading => "narrow",
         }
     }
 
@@ -97,6 +105,8 @@ impl Operation {
             Operation::WriteCard => &[1, 2, 11, 10],
             Operation::FirstReading => &[1, 2, 4, NO_LAWFUL_READING],
             Operation::BreachSpans => &[1, 2, SPAN_LIST_TOO_SHORT],
+            Operation::WidenReading => &[6, 4],
+            Operation::NarrowReading => &[6, 4, NO_OLD_FORM],
         }
     }
 }
@@ -105,7 +115,7 @@ impl Operation {
 #[derive(Clone, Debug, Default, PartialEq, Eq)]
 pub struct Input {
     pub words: Vec<u32>,
-    /// The reading, the text or the card record that is passed to be read.
+    /// The reading, the text or the card record that is passed to be read or moved.
     pub bytes: Vec<u8>,
     /// The stretch m, or the number of an entry.
     pub number: usize,
@@ -139,6 +149,9 @@ pub const NO_LAWFUL_READING: u8 = 13;
 
 /// What the breach spans refuse where there are more of them than records.
 pub const SPAN_LIST_TOO_SHORT: u8 = 14;
+
+/// What the move back refuses where a week is over 11 or a carrier over 255.
+pub const NO_OLD_FORM: u8 = 15;
 
 impl Answer {
     /// Whether the rules were asked. No other refusals than 13 and 14 come of them.
@@ -179,6 +192,12 @@ pub fn second(operation: Operation, input: &Input) -> Answer {
             second::verdict::first_reading(words, &mut after.lent_bytes).map(one)
         }
         Operation::BreachSpans => return spans::by_terms(&Terms::request(), input),
+        Operation::WidenReading => {
+            second::stored::widen_reading(bytes, &mut after.lent_bytes).map(one)
+        }
+        Operation::NarrowReading => {
+            second::stored::narrow_reading(bytes, &mut after.lent_bytes).map(one)
+        }
     };
     answer(told.map_err(Refusal::number), after)
 }

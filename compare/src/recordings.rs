@@ -29,7 +29,7 @@ fn any_word(dice: &mut Dice) -> u32 {
         0 => dice.roll() as u32,
         1 => dice.below(4),
         2 => u32::MAX - dice.below(16),
-        _ => 4 * dice.between(120_900, 121_000) + dice.below(4),
+        _ => 4 * dice.between(534_190, 534_290) + dice.below(4),
     }
 }
 

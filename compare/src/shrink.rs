@@ -1,12 +1,15 @@
-//! The smallest input found that still shows a difference: weeks and words left
-//! out, words joined and shortened, texts, card records and buffers shortened, as
+//! The smallest input found that still shows a difference: weeks, words and entries
+//! left out, words joined and shortened, texts, card records and buffers shortened, as
 //! long as it shows.
 
 use std::time::{Duration, Instant};
 
+use second::reading::{bytes, entries, ENTRY_BYTES};
 use second::recording::{weigh, word, word_activity, word_minutes};
+use second::stored::STORED_ENTRY_BYTES;
 
 use crate::cards::{record, split_at};
+use crate::inputs::written;
 use crate::operation::{Input, Operation};
 use crate::spans;
 
@@ -38,6 +41,7 @@ pub fn smallest(operation: Operation, input: Input, differs: &dyn Fn(&Input) -> 
         shrinking.join_words();
         shrinking.shorten_words();
         shrinking.leave_out_changes();
+        shrinking.leave_out_entries();
         shrinking.clear_bits();
         shrinking.shorten_bytes();
         shrinking.shorten_buffers();
@@ -166,9 +170,33 @@ impl Shrinking<'_> {
         }
     }
 
-    /// Bits of a card record that are set, its highest first.
+    /// Entries of a reading that is passed to be moved or to take one from. What is lent
+    /// for them is as it is, or fitted.
+    fn leave_out_entries(&mut self) {
+        let Some((from, to)) = entry_bytes(self.operation) else {
+            return;
+        };
+        let mut count = self.best.bytes.len() / from;
+        while count > 0 {
+            let mut at = 0;
+            while at + from <= self.best.bytes.len() {
+                let same = Input {
+                    bytes: without(&self.best.bytes, at, from * count),
+                    ..self.best.clone()
+                };
+                let mut fitted = same.clone();
+                resize(&mut fitted.lent_bytes, -((to * count) as i64));
+                if !(self.take(fitted) || self.take(same)) {
+                    at += from * count;
+                }
+            }
+            count /= 2;
+        }
+    }
+
+    /// Bits of a card record or a reading that are set, its highest first.
     fn clear_bits(&mut self) {
-        if self.operation != Operation::ReadCard {
+        if self.operation != Operation::ReadCard && entry_bytes(self.operation).is_none() {
             return;
         }
         for at in 0..self.best.bytes.len() {
@@ -236,6 +264,17 @@ impl Shrinking<'_> {
     }
 }
 
+/// The bytes of an entry that is passed, and of one that is lent for it, where entries are
+/// moved or taken by themselves.
+fn entry_bytes(operation: Operation) -> Option<(usize, usize)> {
+    match operation {
+        Operation::WidenReading => Some((STORED_ENTRY_BYTES, ENTRY_BYTES)),
+        Operation::NarrowReading => Some((ENTRY_BYTES, STORED_ENTRY_BYTES)),
+        Operation::Entry | Operation::EntryRefusal => Some((ENTRY_BYTES, 0)),
+        _ => None,
+    }
+}
+
 fn without<T: Clone>(list: &[T], at: usize, count: usize) -> Vec<T> {
     let end = (at + count).min(list.len());
     [&list[..at], &list[end..]].concat()
@@ -261,7 +300,7 @@ fn fitted(operation: Operation, input: &Input, words: Vec<u32>) -> Vec<Input> {
             resize(&mut fitted.lent_words, rests);
             resize(&mut fitted.lent_ends, rests);
         }
-        Operation::FirstReading => resize(&mut fitted.lent_bytes, 3 * rests),
+        Operation::FirstReading => resize(&mut fitted.lent_bytes, ENTRY_BYTES as i64 * rests),
         Operation::WriteText => resize(&mut fitted.lent_bytes, new.text - old.text),
         Operation::WriteCard => resize(&mut fitted.lent_bytes, new.record - old.record),
         Operation::FixedTest | Operation::ArticleTest => {
@@ -280,17 +319,19 @@ fn fitted(operation: Operation, input: &Input, words: Vec<u32>) -> Vec<Input> {
 /// The reading with so many entries left out, from each number on.
 fn without_entries(input: &Input, count: i64) -> Vec<Input> {
     let count = count as usize;
-    let entries = input.bytes.len() / 3;
-    (0..=entries.saturating_sub(count))
+    let all = entries(&input.bytes);
+    (0..=all.len().saturating_sub(count))
         .map(|from| {
-            let mut input = input.clone();
-            input.bytes = without(&input.bytes, 3 * from, 3 * count);
-            for entry in input.bytes.chunks_exact_mut(3) {
-                if usize::from(entry[2]) > from + count {
-                    entry[2] -= count as u8;
+            let mut kept = without(&all, from, count);
+            for entry in &mut kept {
+                if usize::from(entry.carrier) > from + count {
+                    entry.carrier -= count as u16;
                 }
             }
-            input
+            Input {
+                bytes: bytes(&kept),
+                ..input.clone()
+            }
         })
         .collect()
 }
@@ -320,12 +361,10 @@ fn needs(words: &[u32]) -> Needs {
     let Ok(measure) = weigh(words) else {
         return Needs::default();
     };
-    let mut text = vec![0; 24 * words.len() + 400];
-    let length = second::text::write(words, &mut text).expect("the words were weighed");
     Needs {
         total: measure.total,
         rests: measure.long_rests as i64,
-        text: length as i64,
+        text: written(words).len() as i64,
         record: record(words).map_or(0, |record| record.len() as i64),
     }
 }

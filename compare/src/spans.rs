@@ -2,6 +2,7 @@
 //! its own ... Write out each span that is a breach while no shorter span inside it is
 //! one". Three mistakes about it, and what the answers are counted by.
 
+use second::limits::MOST_WEEKS;
 use second::recording::total_minutes;
 use second::spans::{breach_spans_by, Terms, Weeks};
 use second::{Limits, Refusal};
@@ -63,7 +64,7 @@ pub fn weeks(words: &[u32]) -> usize {
 /// How many spans of weeks are a breach with no shorter one inside; 0 where the words
 /// are turned away.
 pub fn count(words: &[u32]) -> usize {
-    let mut list = [Weeks { first: 0, last: 0 }; 12];
+    let mut list = [Weeks { first: 0, last: 0 }; MOST_WEEKS];
     second::spans::breach_spans(words, &mut list).unwrap_or(0)
 }
 

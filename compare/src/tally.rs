@@ -2,17 +2,25 @@
 
 use std::collections::BTreeSet;
 
+use second::reading::entries;
+
 use crate::inputs::{Room, Try};
 use crate::mistake::REQUESTS;
+use crate::moves;
 use crate::operation::{Answer, Operation, BREACH};
 use crate::spans;
 
-/// The inputs in each row of a mistake that an operation is compared on at least, the
-/// first readings and the breach spans with each buffer, and the latter by number.
+/// The inputs that the first readings, the breach spans and the moves are compared on at
+/// least with each buffer, and the breach spans by number.
 const EACH_ROW: usize = 500;
 
 /// The same of breach spans by length.
 const EACH_LENGTH: usize = 200;
+
+/// The same of lawful readings that are tested or written, by what the old form has not.
+const EACH_BEYOND: usize = 50;
+
+const BEYOND: [&str; 2] = ["with a week over 11", "with a carrier over 255"];
 
 /// A number for each operation.
 type Counts = [usize; Operation::ALL.len()];
@@ -85,6 +93,8 @@ pub struct Tally {
     mistakes: [Table; REQUESTS.len()],
     /// Answers by the number and the lengths of their spans.
     spans: Table,
+    /// Lawful readings by what the old form does not have.
+    readings: Table,
     /// The refusals, rules, places and articles that each operation answered with.
     told: BTreeSet<(usize, String)>,
 }
@@ -106,6 +116,9 @@ impl Tally {
                 self.spans.count(row, operation);
             }
         }
+        for row in beyond_the_old_form(attempt, answer) {
+            self.readings.count(row, operation);
+        }
         self.told
             .insert((operation as usize, class(operation, answer)));
     }
@@ -125,6 +138,8 @@ impl Tally {
         }
         self.spans.print("spans that are a breach");
         println!();
+        self.readings.print("lawful readings");
+        println!();
         print!("{:26}", "inputs");
         for sum in self.kinds.sums() {
             print!("{sum:10}");
@@ -133,8 +148,8 @@ impl Tally {
     }
 
     /// The operations with fewer inputs than asked for, also in a row of a mistake, with
-    /// a buffer for a reading or for spans, or by spans, and the answers that were never
-    /// met.
+    /// a buffer for a reading or for spans, by spans, or by what has no old form, and the
+    /// answers that were never met.
     pub fn missing(&self, at_least: usize) -> Vec<String> {
         let mut missing = Vec::new();
         for (operation, sum) in Operation::ALL.into_iter().zip(self.kinds.sums()) {
@@ -150,7 +165,8 @@ impl Tally {
         for (table, request) in self.mistakes.iter().zip(REQUESTS) {
             for mistake in request.mistakes {
                 for &operation in mistake.judging {
-                    missing.extend(table.too_few(operation, &mistake.rows(), EACH_ROW));
+                    let rows = mistake.rows();
+                    missing.extend(table.too_few(operation, &rows, request.at_least));
                 }
             }
         }
@@ -159,9 +175,18 @@ impl Tally {
             for (operation, rows) in [
                 (Operation::FirstReading, &rows[..]),
                 (Operation::BreachSpans, &rows[..1]),
+                (Operation::WidenReading, &rows[..1]),
+                (Operation::NarrowReading, &rows[..1]),
             ] {
                 missing.extend(self.variants.too_few(operation, rows, EACH_ROW));
             }
+        }
+        let no_old_form = moves::NO_OLD_FORM;
+        let too_few = (self.variants).too_few(Operation::NarrowReading, &no_old_form, EACH_ROW);
+        missing.extend(too_few);
+        for operation in [Operation::ReadingTest, Operation::FirstReading] {
+            let too_few = (self.readings).too_few(operation, &BEYOND, EACH_BEYOND);
+            missing.extend(too_few);
         }
         for (rows, at_least) in [(spans::NUMBERS, EACH_ROW), (spans::LENGTHS, EACH_LENGTH)] {
             let too_few = self.spans.too_few(Operation::BreachSpans, &rows, at_least);
@@ -169,6 +194,20 @@ impl Tally {
         }
         missing
     }
+}
+
+/// The rows of a lawful reading that is tested or written.
+fn beyond_the_old_form(attempt: &Try, answer: &Answer) -> Vec<&'static str> {
+    let reading = match (attempt.operation, answer.told.as_deref()) {
+        (Operation::ReadingTest, Ok([0])) => &attempt.input.bytes[..],
+        (Operation::FirstReading, Ok([written])) => &answer.lent_bytes[..*written as usize],
+        _ => &[],
+    };
+    let entries = entries(reading);
+    let late = entries.iter().any(|entry| entry.week > 11);
+    let far = entries.iter().any(|entry| entry.carrier > 255);
+    let rows = BEYOND.into_iter().zip([late, far]);
+    rows.filter(|row| row.1).map(|row| row.0).collect()
 }
 
 /// What kind of answer it is: a refusal, a rule, a place, an article or a pass, or so

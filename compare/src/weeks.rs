@@ -19,7 +19,7 @@ pub struct Kind {
     pub share: u64,
 }
 
-const fn kind(name: &'static str, share: u64, make: fn(&mut Dice) -> Vec<u32>) -> Kind {
+pub const fn kind(name: &'static str, share: u64, make: fn(&mut Dice) -> Vec<u32>) -> Kind {
     Kind { name, make, share }
 }
 
@@ -42,7 +42,7 @@ fn some_weeks(dice: &mut Dice) -> u32 {
 
 /// Whole weeks, or the last of them in part: its first minute alone, some, or all but
 /// the last one. Now and then a word is cut at a Monday.
-fn ended(dice: &mut Dice, words: Vec<u32>) -> Vec<u32> {
+pub fn ended(dice: &mut Dice, words: Vec<u32>) -> Vec<u32> {
     let total = total_minutes(&words) as u32;
     let left = total % WEEK;
     let last = if left > 0 { left } else { WEEK };
@@ -61,8 +61,13 @@ fn ended(dice: &mut Dice, words: Vec<u32>) -> Vec<u32> {
 
 /// Weeks that are made one by one, with nothing over a Monday but rest.
 fn joined(dice: &mut Dice) -> Vec<u32> {
+    let weeks = some_weeks(dice);
+    joined_weeks(dice, weeks)
+}
+
+pub fn joined_weeks(dice: &mut Dice, weeks: u32) -> Vec<u32> {
     let mut words = Vec::new();
-    for _ in 0..some_weeks(dice) {
+    for _ in 0..weeks {
         let piece = piece(dice);
         words.extend(whole_week(&piece));
     }
@@ -198,6 +203,10 @@ fn fortnights(dice: &mut Dice) -> Vec<u32> {
 /// document 000. Now and then another rest can pay.
 fn debts(dice: &mut Dice) -> Vec<u32> {
     let weeks = dice.between(4, 12);
+    debts_of_weeks(dice, weeks)
+}
+
+pub fn debts_of_weeks(dice: &mut Dice, weeks: u32) -> Vec<u32> {
     let first = dice.below(weeks - 3);
     let second = one_of(dice, &[first + 1, weeks - 2, weeks - 2]);
     let rests: Vec<Span> = (0..weeks)

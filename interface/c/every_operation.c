@@ -53,10 +53,28 @@ static void print_verdict(const uint32_t *words, size_t count)
 /* The first lawful reading in so many bytes of a buffer, and the whole buffer. */
 static void print_first_reading(const uint32_t *words, size_t count, size_t lent)
 {
-    uint8_t reading[8] = {9, 9, 9, 9, 9, 9, 9, 9};
+    uint8_t reading[10] = {9, 9, 9, 9, 9, 9, 9, 9, 9, 9};
     print_value("first reading", desk_first_reading(words, count, reading, lent));
     printf(" ");
     print_bytes(reading, sizeof reading);
+}
+
+/* A stored reading of three bytes an entry in so many bytes of a buffer, and the whole buffer. */
+static void print_widening(const uint8_t *old, size_t count, size_t lent)
+{
+    uint8_t wide[10] = {9, 9, 9, 9, 9, 9, 9, 9, 9, 9};
+    print_value("widening", desk_widen_reading(old, count, wide, lent));
+    printf(" ");
+    print_bytes(wide, sizeof wide);
+}
+
+/* The move back, the same way. */
+static void print_narrowing(const uint8_t *wide, size_t count, size_t lent)
+{
+    uint8_t old[8] = {9, 9, 9, 9, 9, 9, 9, 9};
+    print_value("narrowing", desk_narrow_reading(wide, count, old, lent));
+    printf(" ");
+    print_bytes(old, sizeof old);
 }
 
 /* A week of five days with 540 minutes of driving, and with so many more on a sixth: its 23 words. */
@@ -94,8 +112,18 @@ int main(void)
                                WORD(165, DRIVING), WORD(45, REST),     WORD(271, DRIVING)};
     const uint32_t late_drive[] = {WORD(630, WORK), WORD(271, DRIVING)};
     const uint32_t no_minutes[] = {WORD(0, AVAILABILITY)};
-    const uint32_t too_long[] = {WORD(120960, REST), WORD(1, WORK)};
-    const uint8_t reading[] = {0, 0, 0, 1, 0, 0};
+    const uint32_t too_long[] = {WORD(534240, REST), WORD(1, WORK)};
+    const uint32_t year[] = {WORD(533339, REST), WORD(901, WORK)};
+    const uint8_t reading[] = {0, 0, 0, 0, 1, 0, 0, 0};
+    /* The highest week and carrier of the old form. Bytes of no lawful reading, which are moved all the same. Then what has no
+     * old form: a week of 12, and carriers of 256 and 65,535, each after an entry that has one. */
+    const uint8_t old[] = {0, 0, 0, 1, 11, 255};
+    const uint8_t wide[] = {0, 0, 0, 0, 1, 11, 255, 0};
+    const uint8_t odd[] = {7, 200, 3, 255, 255, 255};
+    const uint8_t odd_kinds[] = {7, 11, 3, 0, 255, 0, 0, 0};
+    const uint8_t late_week[] = {0, 0, 0, 0, 1, 12, 0, 0};
+    const uint8_t far_carrier[] = {0, 0, 0, 0, 1, 0, 0, 1};
+    const uint8_t last_carrier[] = {0, 0, 0, 0, 0, 0, 255, 255};
     /* Rest; work from 05:00; driving from 05:20, with a second driver; a day of rest, entered by hand; then a day unknown. */
     const uint8_t days[] = {0x00, 0x00, 0x11, 0x2C, 0x59, 0x40, 0x60, 0x00, 0x20, 0x00};
     struct desk_span list[3] = {{7, 8}, {7, 8}, {7, 8}};
@@ -105,11 +133,20 @@ int main(void)
     uint8_t record[10] = {9, 9, 9, 9, 9, 9, 9, 9, 9, 9};
     uint32_t weeks[3 * 23];
     size_t weeks_count = 0;
+    uint32_t most[2 * DESK_LONG_RESTS_AT_MOST];
     uint64_t length;
 
     print_weighing(words, 5);
     print_weighing(words, 0);
     print_weighing(no_minutes, 1);
+    print_weighing(too_long, 1);
+    print_weighing(too_long, 2);
+    print_weighing(year, 2);
+    for (size_t i = 0; i < DESK_LONG_RESTS_AT_MOST; i++) {
+        most[2 * i] = WORD(540, REST);
+        most[2 * i + 1] = WORD(1, WORK);
+    }
+    print_weighing(most, 2 * DESK_LONG_RESTS_AT_MOST);
 
     print_value("listing long rests", desk_list(words, 5, list, 3));
     for (size_t i = 0; i < 3; i++)
@@ -130,13 +167,16 @@ int main(void)
     print_both_tests(drives, 6, 901);
     print_both_tests(late_drive, 2, 901);
 
+    print_value("reading test", desk_reading_test(words, 5, reading, 8));
+    print_value("reading test", desk_reading_test(words, 5, far_carrier, 8));
     print_value("reading test", desk_reading_test(words, 5, reading, 6));
-    print_value("reading test", desk_reading_test(words, 5, reading, 3));
 
-    print_value("entry 2", desk_entry(reading, 6, 2));
-    print_value("entry 3", desk_entry(reading, 6, 3));
-    printf("companion of entry 2: %" PRIu64 "\n", desk_entry_refusal(reading, 6, 2));
-    printf("companion of entry 3: %" PRIu64 "\n", desk_entry_refusal(reading, 6, 3));
+    print_value("entry 2", desk_entry(reading, 8, 2));
+    print_value("entry 3", desk_entry(reading, 8, 3));
+    print_value("entry 2 of six bytes", desk_entry(reading, 6, 2));
+    printf("companion of entry 2: %" PRIu64 "\n", desk_entry_refusal(reading, 8, 2));
+    printf("companion of entry 3: %" PRIu64 "\n", desk_entry_refusal(reading, 8, 3));
+    printf("companion of entry 2 of six bytes: %" PRIu64 "\n", desk_entry_refusal(reading, 6, 2));
 
     length = desk_write_text(words, 5, text, sizeof text);
     print_value("writing text", length);
@@ -164,17 +204,39 @@ int main(void)
     print_verdict(words, 5);
     print_verdict(words, 0);
     print_verdict(long_day, 1);
+    print_verdict(year, 2);
     print_verdict(no_minutes, 1);
     print_verdict(too_long, 2);
 
-    print_first_reading(words, 5, 8);
+    print_first_reading(words, 5, 10);
     print_first_reading(words, 0, 0);
-    print_first_reading(no_minutes, 1, 8);
-    print_first_reading(too_long, 2, 8);
-    print_first_reading(words, 5, 5);
-    print_first_reading(long_day_after_rest, 2, 2);
+    print_first_reading(no_minutes, 1, 10);
+    print_first_reading(too_long, 2, 10);
+    print_first_reading(words, 5, 7);
     print_first_reading(long_day_after_rest, 2, 3);
-    print_first_reading(long_day_after_rest, 2, 8);
+    print_first_reading(long_day_after_rest, 2, 4);
+    print_first_reading(long_day_after_rest, 2, 10);
+
+    print_widening(old, 6, 10);
+    print_widening(old, 6, 8);
+    print_widening(old, 6, 7);
+    print_widening(old, 5, 10);
+    print_widening(old, 4, 0);
+    print_widening(odd, 6, 10);
+    print_widening(odd, 0, 0);
+
+    print_narrowing(wide, 8, 8);
+    print_narrowing(wide, 8, 6);
+    print_narrowing(wide, 8, 5);
+    print_narrowing(wide, 7, 8);
+    print_narrowing(late_week, 6, 0);
+    print_narrowing(odd_kinds, 8, 8);
+    print_narrowing(late_week, 8, 8);
+    print_narrowing(late_week, 8, 5);
+    print_narrowing(far_carrier, 8, 6);
+    print_narrowing(last_carrier, 8, 8);
+    print_narrowing(last_carrier, 4, 8);
+    print_narrowing(last_carrier, 0, 0);
 
     /* The first week is a pass and so is the second, but with 2,701 minutes of driving each they break 6.3 together. The third
      * breaks 7 by itself. */

@@ -33,6 +33,26 @@ fn main() {
         "climbed",
         (0..40).map(|seed| grow::climbed(&mut Dice::new(seed), 8, 400)),
     );
+    report(
+        "ordinary years",
+        (0..100).map(|seed| grow::ordinary_weeks(&mut Dice::new(seed), 53)),
+    );
+    report(
+        "grown years",
+        (0..20).map(|seed| grow::grown_through(&mut Dice::new(seed), 53)),
+    );
+    report(
+        "hard years",
+        (0..6).map(|seed| grow::hard_of_weeks(&mut Dice::new(seed), 20, 53)),
+    );
+    report(
+        "scarce years",
+        (0..100).map(|seed| grow::scarce_of_weeks(&mut Dice::new(seed), 53)),
+    );
+    report(
+        "climbed years",
+        (0..10).map(|seed| grow::climbed_of_weeks(&mut Dice::new(seed), 8, 100, 53)),
+    );
 }
 
 /// Prints the median and the most of time and steps.

@@ -1,5 +1,5 @@
-//! Recordings of the document's size to compare on, from a generator with a
-//! fixed seed.
+//! Recordings to compare on, from a generator with a fixed seed: of twelve weeks, and,
+//! by the functions whose names end in `of_weeks`, of any number up to 53.
 
 use crate::dice::Dice;
 use crate::fast::Judge;
@@ -8,20 +8,31 @@ use crate::limits::Limits;
 use crate::recording::{word, Activity, Span};
 use crate::verdict::Outcome;
 
-const TOTAL: u32 = 120_960;
+/// The weeks of a recording where no other number is asked for.
+const WEEKS: u32 = 12;
 const WEEK: u32 = 10_080;
 const DAY: u32 = 1_440;
 
-/// A recording in the making; what would pass the total is cut off.
-#[derive(Clone, Default)]
+/// A recording in the making; what would pass its weeks is cut off.
+#[derive(Clone)]
 struct Draft {
     words: Vec<u32>,
     total: u32,
+    /// The minutes of its weeks.
+    full: u32,
 }
 
 impl Draft {
+    fn new(weeks: u32) -> Draft {
+        Draft {
+            words: Vec::new(),
+            total: 0,
+            full: weeks * WEEK,
+        }
+    }
+
     fn push(&mut self, activity: Activity, minutes: u32) {
-        let minutes = minutes.min(TOTAL - self.total);
+        let minutes = minutes.min(self.full - self.total);
         if minutes > 0 {
             self.words.push(word(minutes, activity));
             self.total += minutes;
@@ -34,7 +45,7 @@ impl Draft {
     }
 
     fn is_full(&self) -> bool {
-        self.total == TOTAL
+        self.total == self.full
     }
 
     /// Whether it is lawful with its last rest closed.
@@ -50,19 +61,29 @@ impl Draft {
 /// weekly rest around Sunday, or six days and a reduced one, but not twice in
 /// a row. Most are lawful.
 pub fn ordinary(dice: &mut Dice) -> Vec<u32> {
-    let weeks = dice.between(1, 12);
-    ordinary_weeks(dice, weeks)
+    ordinary_of_weeks(dice, WEEKS)
 }
 
-/// So many of them, at most twelve, and some days of the week after.
+/// One to `most` of them.
+pub fn ordinary_of_weeks(dice: &mut Dice, most: u32) -> Vec<u32> {
+    let weeks = dice.between(1, most);
+    ordinary_up_to(dice, weeks, most)
+}
+
+/// So many of them; if they are fewer than twelve, also some days of the week after.
 pub fn ordinary_weeks(dice: &mut Dice, weeks: u32) -> Vec<u32> {
-    let mut draft = Draft::default();
+    ordinary_up_to(dice, weeks, weeks.max(WEEKS))
+}
+
+/// So many of them and, if they are fewer than `most`, some days of the week after.
+fn ordinary_up_to(dice: &mut Dice, weeks: u32, most: u32) -> Vec<u32> {
+    let mut draft = Draft::new(most);
     let mut days = 5;
     for week in 0..weeks {
         days = if days == 5 && dice.one_in(4) { 6 } else { 5 };
         ordinary_week(dice, &mut draft, week * WEEK, days);
     }
-    if weeks < 12 {
+    if weeks < most {
         let days = dice.below(5);
         ordinary_week(dice, &mut draft, weeks * WEEK, days);
     }
@@ -82,9 +103,14 @@ fn ordinary_week(dice: &mut Dice, draft: &mut Draft, monday: u32, days: u32) {
 /// a rest of nine to eleven hours follows them: in one week of three nearly all of
 /// its days, in the others one in four.
 pub fn split(dice: &mut Dice) -> Vec<u32> {
-    let mut draft = Draft::default();
+    split_of_weeks(dice, WEEKS)
+}
+
+/// So many of them.
+pub fn split_of_weeks(dice: &mut Dice, weeks: u32) -> Vec<u32> {
+    let mut draft = Draft::new(weeks);
     let mut days = 5;
-    for week in 0..12 {
+    for week in 0..weeks {
         days = if days == 5 && dice.one_in(4) { 6 } else { 5 };
         split_week(dice, &mut draft, week * WEEK, days);
     }
@@ -158,18 +184,23 @@ fn ordinary_break(dice: &mut Dice, draft: &mut Draft) {
 
 /// Any words, now and then one of no minutes or one far too long.
 pub fn random_words(dice: &mut Dice) -> Vec<u32> {
-    let count = dice.below(60);
-    (0..count).map(|_| random_word(dice)).collect()
+    random_words_of_weeks(dice, WEEKS)
 }
 
-fn random_word(dice: &mut Dice) -> u32 {
+/// The same, now and then with one of about so many weeks.
+pub fn random_words_of_weeks(dice: &mut Dice, weeks: u32) -> Vec<u32> {
+    let count = dice.below(60);
+    (0..count).map(|_| random_word(dice, weeks)).collect()
+}
+
+fn random_word(dice: &mut Dice, weeks: u32) -> u32 {
     let minutes = match dice.weighted(&[2, 60, 60, 60, 20, 3, 1]) {
         0 => 0,
         1 => dice.between(1, 60),
         2 => dice.between(1, 600),
         3 => dice.between(530, 900),
         4 => dice.between(1_400, 4_000),
-        5 => dice.between(9_000, 130_000),
+        5 => dice.between(9_000, weeks * WEEK + 9_040),
         _ => dice.between(0, u32::MAX / 4),
     };
     word(minutes, Activity::ALL[dice.below(4) as usize])
@@ -232,8 +263,13 @@ fn over_the_week_end(dice: &mut Dice, start: u32) -> u32 {
 /// A recording grown rest by rest while it stays lawful, up to twelve weeks.
 /// Half of them end with a rest that makes them unlawful.
 pub fn grown(dice: &mut Dice) -> Vec<u32> {
+    grown_of_weeks(dice, WEEKS)
+}
+
+/// The same, up to so many weeks.
+pub fn grown_of_weeks(dice: &mut Dice, weeks: u32) -> Vec<u32> {
     let taste = Taste::mixed(dice);
-    let mut draft = Draft::default();
+    let mut draft = Draft::new(weeks);
     while !draft.is_full() {
         match grown_by_a_day(dice, &draft, taste) {
             Ok(next) => draft = next,
@@ -242,6 +278,23 @@ pub fn grown(dice: &mut Dice) -> Vec<u32> {
         }
     }
     draft.words
+}
+
+/// A lawful recording of so many weeks, grown in the same way. Where no rest will do,
+/// the last few days are taken back.
+pub fn grown_through(dice: &mut Dice, weeks: u32) -> Vec<u32> {
+    let taste = Taste::mixed(dice);
+    let mut drafts = vec![Draft::new(weeks)];
+    loop {
+        let draft = drafts.last().expect("the first draft is never taken back");
+        if draft.is_full() {
+            return draft.words.clone();
+        }
+        match grown_by_a_day(dice, draft, taste) {
+            Ok(next) => drafts.push(next),
+            Err(_) => drafts.truncate(drafts.len().saturating_sub(4).max(1)),
+        }
+    }
 }
 
 /// A lawful draft with one more duty and rest, or the last one tried.
@@ -275,7 +328,12 @@ fn grown_duty(dice: &mut Dice, draft: &mut Draft) {
 /// the last week. It starts from a grown one and takes each change by which
 /// the breach gets later, up to the last week, or the search longer.
 pub fn hard(dice: &mut Dice, rounds: u32) -> Vec<u32> {
-    let mut best = grown_of_reduced_rests(dice);
+    hard_of_weeks(dice, rounds, WEEKS)
+}
+
+/// The same of so many weeks.
+pub fn hard_of_weeks(dice: &mut Dice, rounds: u32, weeks: u32) -> Vec<u32> {
+    let mut best = grown_of_reduced_rests(dice, weeks);
     let mut best_score = score(&best);
     for _ in 0..rounds {
         let changed = best.changed(dice);
@@ -296,19 +354,24 @@ fn score(days: &Days) -> (i64, u64) {
     let mut judge = Judge::new(&words, &limits);
     match judge.outcome() {
         Outcome::Pass(_) => (0, 0),
-        Outcome::Breach { minute, .. } => (minute.min(i64::from(TOTAL - WEEK)), judge.steps),
+        Outcome::Breach { minute, .. } => (minute.min(i64::from(days.last_week())), judge.steps),
     }
 }
 
 /// Twelve weeks of rests of little more than 24 hours, which cannot carry each
 /// other's debts, with a longer one every so often: many debts, few carriers.
 pub fn scarce(dice: &mut Dice) -> Vec<u32> {
+    scarce_of_weeks(dice, WEEKS)
+}
+
+/// So many weeks of them.
+pub fn scarce_of_weeks(dice: &mut Dice, weeks: u32) -> Vec<u32> {
     let lengths: Vec<u32> = (0..6).map(|_| dice.between(1_440, 1_500)).collect();
     let longer = [2_700, 2_701, 2_710, 2_760, 3_500][dice.below(5) as usize];
     let every = dice.between(5, 10);
     let daily = dice.between(540, 900);
     let work = dice.between(1, 60);
-    let mut draft = Draft::default();
+    let mut draft = Draft::new(weeks);
     for number in 1.. {
         let rest = match dice.below(7) {
             _ if number % every == 0 => longer,
@@ -329,11 +392,20 @@ pub fn scarce(dice: &mut Dice) -> Vec<u32> {
 /// `widest`. Where nothing is left, the last few days are taken back. Half of
 /// them have daily rests alone in the last week.
 pub fn climbed(dice: &mut Dice, candidates: u32, widest: usize) -> Vec<u32> {
+    climbed_of_weeks(dice, candidates, widest, WEEKS)
+}
+
+/// So many weeks of them.
+pub fn climbed_of_weeks(dice: &mut Dice, candidates: u32, widest: usize, weeks: u32) -> Vec<u32> {
     let climb = Climb::new(dice);
-    let end = TOTAL - if dice.one_in(2) { 0 } else { WEEK };
-    let mut days = Days::default();
-    let mut fronts = vec![Front::new(i64::from(TOTAL) - 1)];
-    for _ in 0..400 {
+    let mut days = Days::new(weeks);
+    let end = if dice.one_in(2) {
+        days.full()
+    } else {
+        days.last_week()
+    };
+    let mut fronts = vec![Front::new(i64::from(days.full()) - 1)];
+    for _ in 0..days.tries() {
         let front = fronts.last().expect("the first front is never taken back");
         let reached = days.draft().total;
         if reached >= end {
@@ -348,12 +420,12 @@ pub fn climbed(dice: &mut Dice, candidates: u32, widest: usize) -> Vec<u32> {
         });
         match fronts_after.max_by_key(|(_, after)| after.width()) {
             Some((day, after)) => {
-                days.0.push(day);
+                days.days.push(day);
                 fronts.push(after);
             }
             None => {
-                days.0.truncate(days.0.len().saturating_sub(4));
-                fronts.truncate(days.0.len() + 1);
+                days.take_back();
+                fronts.truncate(days.days.len() + 1);
             }
         }
     }
@@ -398,21 +470,51 @@ impl Climb {
     }
 }
 
-/// Days of work alone: minutes of work, then minutes of rest.
-#[derive(Clone, Default)]
-struct Days(Vec<(u32, u32)>);
+/// Days of work alone, in so many weeks: minutes of work, then minutes of rest.
+#[derive(Clone)]
+struct Days {
+    weeks: u32,
+    days: Vec<(u32, u32)>,
+}
 
 impl Days {
+    fn new(weeks: u32) -> Days {
+        Days {
+            weeks,
+            days: Vec::new(),
+        }
+    }
+
+    /// The minutes of its weeks.
+    fn full(&self) -> u32 {
+        self.weeks * WEEK
+    }
+
+    /// The start of the last week.
+    fn last_week(&self) -> u32 {
+        self.full() - WEEK
+    }
+
+    /// How often a day is looked for.
+    fn tries(&self) -> u32 {
+        400 * self.weeks / WEEKS
+    }
+
+    /// Without the last few days.
+    fn take_back(&mut self) {
+        self.days.truncate(self.days.len().saturating_sub(4));
+    }
+
     fn draft(&self) -> Draft {
-        let mut draft = Draft::default();
-        for &(work, rest) in &self.0 {
+        let mut draft = Draft::new(self.weeks);
+        for &(work, rest) in &self.days {
             draft.push(Activity::Work, work);
             draft.push(Activity::Rest, rest);
         }
         draft
     }
 
-    /// The days, and after them daily rests alone up to twelve weeks.
+    /// The days, and after them daily rests alone up to the end of its weeks.
     fn words(&self) -> Vec<u32> {
         let mut draft = self.draft();
         while !draft.is_full() {
@@ -425,23 +527,23 @@ impl Days {
     /// The same days with one of them changed.
     fn changed(&self, dice: &mut Dice) -> Days {
         let mut days = self.clone();
-        let count = days.0.len() as u32;
+        let count = days.days.len() as u32;
         if count == 0 {
             return days;
         }
         let chosen = dice.below(count) as usize;
         let other = dice.below(count) as usize;
         match dice.below(6) {
-            0 => days.0.swap(chosen, other),
-            1 => days.0[chosen].0 = dice.between(1, 900),
-            2 => days.0[chosen].1 = dice.between(540, 1_500),
-            3 => days.0[chosen].1 = dice.between(1_440, 2_720),
+            0 => days.days.swap(chosen, other),
+            1 => days.days[chosen].0 = dice.between(1, 900),
+            2 => days.days[chosen].1 = dice.between(540, 1_500),
+            3 => days.days[chosen].1 = dice.between(1_440, 2_720),
             4 => {
-                let change = dice.between(0, 60);
-                days.0[chosen].1 = (days.0[chosen].1 + change).saturating_sub(30).max(540);
+                let rest = days.days[chosen].1 + dice.between(0, 60);
+                days.days[chosen].1 = rest.saturating_sub(30).max(540);
             }
             _ => {
-                days.0.remove(chosen);
+                days.days.remove(chosen);
             }
         }
         days
@@ -451,17 +553,17 @@ impl Days {
 /// Days grown while they stay lawful, up to the last week, with a regular
 /// weekly rest only where nothing else will do. Where nothing will, the last
 /// few days are taken back.
-fn grown_of_reduced_rests(dice: &mut Dice) -> Days {
+fn grown_of_reduced_rests(dice: &mut Dice, weeks: u32) -> Days {
     let taste = Taste::reduced(dice);
-    let mut days = Days::default();
-    for _ in 0..400 {
+    let mut days = Days::new(weeks);
+    for _ in 0..days.tries() {
         let draft = days.draft();
-        if draft.total >= TOTAL - WEEK {
+        if draft.total >= days.last_week() {
             break;
         }
         match lawful_day(dice, &draft, taste) {
-            Some(day) => days.0.push(day),
-            None => days.0.truncate(days.0.len().saturating_sub(4)),
+            Some(day) => days.days.push(day),
+            None => days.take_back(),
         }
     }
     days

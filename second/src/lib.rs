@@ -8,8 +8,8 @@
 //!   for recordings of any size; [`stepwise`] stands in between, for tests.
 //! * [`broken`] keeps for both which of the fixed rules are broken, and picks by
 //!   rule or by article.
-//! * [`verdict`], [`spans`], [`entry`], [`text`], [`card`] and [`print`] are the
-//!   other operations.
+//! * [`verdict`], [`spans`], [`entry`], [`stored`], [`text`], [`card`] and [`print`]
+//!   are the other operations.
 //! * [`grow`] and [`small`] make recordings to compare on, by the [`dice`];
 //!   [`fronts`] tells how wide a front they come to.
 
@@ -32,6 +32,7 @@ pub mod search;
 pub mod small;
 pub mod spans;
 pub mod stepwise;
+pub mod stored;
 pub mod text;
 pub mod verdict;
 

@@ -6,11 +6,18 @@
 //! in the document: a week is no shorter than a long rest, and the lengths of
 //! rests grow from daily through weekly to regular weekly.
 
+/// "The total rises to 534,240 minutes".
+pub const MOST_MINUTES: i64 = 534_240;
+/// "long rests to 987": as many as the total has room for, each with a minute after it.
+pub const MOST_LONG_RESTS: usize = 987;
+/// "text to 53 weeks": as many as the total has.
+pub const MOST_WEEKS: usize = 53;
+
 /// The numbers that the rules compare with, in minutes unless said otherwise; those
 /// of the fixed rules in the regulation's order.
 #[derive(Clone, Copy, Debug, PartialEq, Eq)]
 pub struct Limits {
-    /// "The total N is 0 to 120,960."
+    /// "The total N is 0 to 120,960"; by request 7 it "rises to 534,240 minutes".
     pub total: i64,
     /// "Week w (from 0) is minutes 10,080 × w to 10,080 × (w + 1)."
     pub week: i64,
@@ -66,7 +73,7 @@ impl Limits {
     /// The numbers of the documents.
     pub const fn document() -> Limits {
         Limits {
-            total: 120_960,
+            total: MOST_MINUTES,
             week: 10_080,
             long_rest: 540,
             day_driving: 600,

@@ -6,7 +6,8 @@ use crate::reading::{self, bytes, has_minute_in_week, Entry};
 use crate::recording::Recording;
 use crate::verdict::Outcome;
 
-/// The entries of a long rest that can keep rule 6, in byte order.
+/// The entries of a long rest that can keep rule 6, in the order of readings: "kind,
+/// then week, then carrier as a number".
 pub fn candidates(recording: &Recording, number: usize) -> Vec<Entry> {
     let rest = recording.long_rests[number - 1];
     let mut candidates = vec![Entry::daily()];
@@ -17,7 +18,7 @@ pub fn candidates(recording: &Recording, number: usize) -> Vec<Entry> {
     for week in weeks {
         candidates.push(Entry::weekly(week, 0));
         for carrier in number + 1..=recording.long_rests.len() {
-            candidates.push(Entry::weekly(week, carrier as u8));
+            candidates.push(Entry::weekly(week, carrier as u16));
         }
     }
     candidates
@@ -31,8 +32,8 @@ pub fn readings(recording: &Recording) -> f64 {
 }
 
 /// "The first lawful reading is the one before every other lawful one of the
-/// same recording." Readings are tried in order: "byte by byte, first
-/// difference decides, smaller first".
+/// same recording." Readings are tried in order: "first difference decides, smaller
+/// first", and by request 7 it "compares kind, then week, then carrier as a number".
 pub fn first_lawful(recording: &Recording) -> Option<Vec<u8>> {
     if fixed::broken_rule(recording) != 0 {
         return None;

@@ -1,8 +1,8 @@
 //! What the desk program prints.
 
 use crate::card;
-use crate::limits::Limits;
-use crate::reading::{entries, Entry};
+use crate::limits::{Limits, MOST_WEEKS};
+use crate::reading::{entries, Entry, ENTRY_BYTES};
 use crate::refusal::Refusal;
 use crate::runs::Course;
 use crate::spans::{breach_spans, Weeks};
@@ -60,7 +60,7 @@ fn judged(words: &[u32]) -> Result<String, Refusal> {
     let total = course.total;
     let found = match verdict {
         Verdict::Pass => {
-            let mut reading = vec![0; 3 * course.long_rests.len()];
+            let mut reading = vec![0; ENTRY_BYTES * course.long_rests.len()];
             first_reading(words, &mut reading)?;
             let judged_end = course.judged_end(total);
             let rests = rest_lines(&course, &entries(&reading));
@@ -73,10 +73,10 @@ fn judged(words: &[u32]) -> Result<String, Refusal> {
     Ok(format!("(verdict\n(minutes {total})\n{found})\n"))
 }
 
-/// A line for each span of weeks, its first and its last. Of twelve Mondays each
-/// begins one span at most.
+/// A line for each span of weeks, its first and its last. Each Monday begins one span
+/// at most.
 fn spans(words: &[u32]) -> Result<String, Refusal> {
-    let mut list = [Weeks { first: 0, last: 0 }; 12];
+    let mut list = [Weeks { first: 0, last: 0 }; MOST_WEEKS];
     let count = breach_spans(words, &mut list)?;
     let line = |weeks: &Weeks| format!("(weeks {} {})\n", weeks.first, weeks.last);
     let lines: String = list[..count].iter().map(line).collect();

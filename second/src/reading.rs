@@ -8,13 +8,18 @@ use crate::refusal::Refusal;
 pub const DAILY: u8 = 0;
 pub const WEEKLY: u8 = 1;
 
+/// Request 7: "a reading's entry becomes four bytes".
+pub const ENTRY_BYTES: usize = 4;
+
 /// "A reading has three bytes for each long rest: kind (0 daily, 1 weekly),
-/// week, carrier (0, or the number of the long rest that pays back)."
-#[derive(Clone, Copy, Debug, PartialEq, Eq)]
+/// week, carrier (0, or the number of the long rest that pays back)." Request 7:
+/// "four bytes: kind, week, carrier low, carrier high". "The order of readings compares
+/// kind, then week, then carrier as a number": entry by entry, in the order of the fields.
+#[derive(Clone, Copy, Debug, PartialEq, Eq, PartialOrd, Ord)]
 pub struct Entry {
     pub kind: u8,
     pub week: u8,
-    pub carrier: u8,
+    pub carrier: u16,
 }
 
 impl Entry {
@@ -26,7 +31,7 @@ impl Entry {
         }
     }
 
-    pub fn weekly(week: u8, carrier: u8) -> Entry {
+    pub fn weekly(week: u8, carrier: u16) -> Entry {
         Entry {
             kind: WEEKLY,
             week,
@@ -34,8 +39,10 @@ impl Entry {
         }
     }
 
-    pub fn bytes(self) -> [u8; 3] {
-        [self.kind, self.week, self.carrier]
+    /// "kind, week, carrier low, carrier high"
+    pub fn bytes(self) -> [u8; ENTRY_BYTES] {
+        let [low, high] = self.carrier.to_le_bytes();
+        [self.kind, self.week, low, high]
     }
 
     pub fn is_weekly(self) -> bool {
@@ -45,12 +52,12 @@ impl Entry {
 
 /// The entries of a reading, one a long rest.
 pub fn entries(bytes: &[u8]) -> Vec<Entry> {
-    let entry = |three: &[u8]| Entry {
-        kind: three[0],
-        week: three[1],
-        carrier: three[2],
+    let entry = |four: &[u8]| Entry {
+        kind: four[0],
+        week: four[1],
+        carrier: u16::from_le_bytes([four[2], four[3]]),
     };
-    bytes.chunks_exact(3).map(entry).collect()
+    bytes.chunks_exact(ENTRY_BYTES).map(entry).collect()
 }
 
 pub fn bytes(entries: &[Entry]) -> Vec<u8> {
@@ -58,12 +65,12 @@ pub fn bytes(entries: &[Entry]) -> Vec<u8> {
 }
 
 /// Testing a reading: "1, 2; then 6, its byte count isn't 3 × k. The answer is
-/// 0 or the smallest broken rule."
+/// 0 or the smallest broken rule." Request 7: "Counts of 3 × k become 4 × k".
 pub fn test(words: &[u32], reading: &[u8]) -> Result<u8, Refusal> {
     let limits = Limits::document();
     let minutes = weighed_minutes(words, &limits)?;
     let recording = Recording::new(&minutes, &limits);
-    if reading.len() != 3 * recording.long_rests.len() {
+    if reading.len() != ENTRY_BYTES * recording.long_rests.len() {
         return Err(Refusal::ReadingByteCount);
     }
     Ok(broken_rule(&recording, &entries(reading)))

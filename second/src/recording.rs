@@ -68,7 +68,8 @@ pub struct Weighing {
 }
 
 /// "Words are taken in order and the first word at fault decides: 1, its
-/// minutes are 0; else 2, the total passes 120,960."
+/// minutes are 0; else 2, the total passes 120,960." Request 7: "The total rises to
+/// 534,240 minutes".
 pub fn total(words: &[u32], limits: &Limits) -> Result<i64, Refusal> {
     let mut total = 0;
     for &word in words {

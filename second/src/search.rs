@@ -262,7 +262,7 @@ impl<'a> Search<'a> {
             for carrier in self.carriers(position, week) {
                 let decided = self.weekly(position, state, week, own, left.clone(), carrier);
                 if let Some(next) = decided.filter(|next| self.completes(position + 1, next)) {
-                    return Some((Entry::weekly(week as u8, carrier as u8), next));
+                    return Some((Entry::weekly(week as u8, carrier as u16), next));
                 }
             }
         }

@@ -6,15 +6,21 @@ use crate::fast::Judge;
 use crate::limits::Limits;
 use crate::recording::{total_minutes, word, word_activity, word_minutes, Activity};
 
-/// Limits under which a week is a few minutes long and a debt soon due.
+/// Limits under which a week is a few minutes long and a debt soon due, for twelve
+/// weeks.
 pub fn limits(dice: &mut Dice) -> Limits {
+    limits_of_weeks(dice, 12)
+}
+
+/// The same for so many weeks.
+pub fn limits_of_weeks(dice: &mut Dice, weeks: u32) -> Limits {
     let mut pick = |least: u32, most: u32| i64::from(dice.between(least, most));
     let week = pick(12, 40);
     let long_rest = pick(1, 4);
     let weekly_rest = long_rest + pick(2, 5);
     let earlier_rest_least = pick(1, 2);
     Limits {
-        total: 12 * week,
+        total: i64::from(weeks) * week,
         week,
         long_rest,
         full_break: 4,

@@ -1,6 +1,6 @@
 //! Bracket text: its reader and its writer.
 
-use crate::limits::Limits;
+use crate::limits::{Limits, MOST_WEEKS};
 use crate::recording::{self, word, Activity};
 use crate::refusal::Refusal;
 use crate::runs::{cut_at_weeks, runs};
@@ -8,9 +8,6 @@ use crate::runs::{cut_at_weeks, runs};
 /// The names of the activities, by their codes: "A run is `(rest n)`,
 /// `(avail n)`, `(work n)` or `(drive n)`."
 const NAMES: [&str; 4] = ["rest", "avail", "work", "drive"];
-
-/// "0 to 12 weeks"
-const MOST_WEEKS: usize = 12;
 
 /// Reading text: "8, not of the form below; then 9, fewer words lent than run
 /// lines. It writes one word a run line, leaves later words, and gives their
@@ -48,8 +45,8 @@ struct Reader<'a> {
 }
 
 impl Reader<'_> {
-    /// "`(recording`, then 0 to 12 weeks, then `)`." "Every week but the last
-    /// sums to 10,080; the last to at most that."
+    /// "`(recording`, then 0 to 12 weeks, then `)`." Request 7: "text to 53 weeks".
+    /// "Every week but the last sums to 10,080; the last to at most that."
     fn recording(&mut self) -> Option<Vec<u32>> {
         let limits = Limits::document();
         let mut words = Vec::new();

@@ -4,6 +4,7 @@
 
 use crate::fast::Judge;
 use crate::limits::Limits;
+use crate::reading::ENTRY_BYTES;
 use crate::recording;
 use crate::refusal::Refusal;
 
@@ -34,12 +35,12 @@ pub fn verdict(words: &[u32]) -> Result<Verdict, Refusal> {
 
 /// The first lawful reading, "into the first 3 × k bytes; the rest stays"; the answer
 /// is their count. Request 5: "the second turns away 1, 2 and 4, then 13 when the
-/// verdict is a breach."
+/// verdict is a breach." Request 7: "Counts of 3 × k become 4 × k".
 pub fn first_reading(words: &[u32], reading: &mut [u8]) -> Result<usize, Refusal> {
     let limits = Limits::document();
     let total = recording::total(words, &limits)?;
     let mut judge = Judge::new(words, &limits);
-    if reading.len() < 3 * judge.long_rests() {
+    if reading.len() < ENTRY_BYTES * judge.long_rests() {
         return Err(Refusal::ReadingBufferTooShort);
     }
     let first = judge.first_reading(total).ok_or(Refusal::NoLawfulReading)?;

@@ -143,6 +143,38 @@ fn verdicts_of_a_middle_size() {
     assert!(seen.carried_with_others > 20);
 }
 
+/// The same for up to 53 weeks of a few minutes each, a pass or a breach after the twelfth.
+#[test]
+fn verdicts_after_twelve_weeks() {
+    let mut dice = Dice::new(6);
+    let mut seen = Seen::default();
+    let mut given_up = 0;
+    while seen.recordings < 120 {
+        let limits = small::limits_of_weeks(&mut dice, 53);
+        let words = small::recording(&mut dice, &limits, 100);
+        let found = Judge::new(&words, &limits).outcome();
+        let reached = match found {
+            Outcome::Pass(_) => total_minutes(&words),
+            Outcome::Breach { minute, .. } => minute,
+        };
+        if reached <= 12 * limits.week {
+            continue;
+        }
+        let minutes = minutes(&words);
+        let recording = Recording::new(&minutes, &limits);
+        match verdict_is_right(&recording, &found) {
+            Ok(right) => assert!(right, "{limits:?} {words:?} {found:?}"),
+            Err(GivenUp) => {
+                given_up += 1;
+                continue;
+            }
+        }
+        seen.outcome(&recording, &found);
+    }
+    println!("after twelve weeks, stepwise ({given_up} given up): {seen:?}");
+    assert!(seen.passes > 30 && seen.reading_breaches > 20 && seen.carried > 20);
+}
+
 fn verdict_is_right(recording: &Recording, verdict: &Outcome) -> Result<bool, GivenUp> {
     let first = |m: usize| stepwise::first_lawful(&recording.stretch(m), 5_000);
     match verdict {

@@ -365,7 +365,7 @@ fn stretches_of_grown_recordings() {
 }
 
 /// The number of the refusal: "1, its minutes are 0; else 2, the total passes
-/// 120,960"; "then 5, m is over N".
+/// 120,960", by request 7 534,240; "then 5, m is over N".
 fn refusal(words: &[u32], m: usize) -> Option<u8> {
     let mut total = 0;
     for word in words {
@@ -374,7 +374,7 @@ fn refusal(words: &[u32], m: usize) -> Option<u8> {
         if minutes == 0 {
             return Some(1);
         }
-        if total > 120_960 {
+        if total > 534_240 {
             return Some(2);
         }
     }
@@ -392,8 +392,8 @@ fn refusals_of_the_fixed_test() {
     for (recording, m, number) in [
         (vec![no_minutes], 0, 1),
         (vec![no_minutes], usize::MAX, 1),
-        (vec![4 * 120_960, no_minutes], usize::MAX, 1),
-        (vec![4 * 120_961, no_minutes], 0, 2),
+        (vec![4 * 534_240, no_minutes], usize::MAX, 1),
+        (vec![4 * 534_241, no_minutes], 0, 2),
         (vec![u32::MAX], usize::MAX, 2),
         (words("d270 d1"), 272, 5),
         (words("d270 d1"), usize::MAX, 5),

@@ -73,8 +73,8 @@ fn joined_and_cut() {
         written(&words("w10080")),
         one_week("(work 10080)\n").as_bytes()
     );
-    let twelve = format!("(recording\n{})\n", "(week\n(rest 10080)\n)\n".repeat(12));
-    assert_eq!(written(&words("r120960")), twelve.as_bytes());
+    let year = format!("(recording\n{})\n", "(week\n(rest 10080)\n)\n".repeat(53));
+    assert_eq!(written(&words("r534240")), year.as_bytes());
 }
 
 #[test]
@@ -191,8 +191,8 @@ fn damaged_lines() {
 fn weeks_and_their_sums() {
     let full = "(week\n(rest 10080)\n)\n";
     let recording = |weeks: &str| format!("(recording\n{weeks})\n");
-    assert!(!refused(&recording(&full.repeat(12))));
-    assert!(refused(&recording(&full.repeat(13))));
+    assert!(!refused(&recording(&full.repeat(53))));
+    assert!(refused(&recording(&full.repeat(54))));
     let half = "(week\n(rest 10079)\n(work 1)\n)\n";
     assert!(!refused(&recording(&format!("{half}{full}"))));
     let short = "(week\n(rest 10079)\n)\n";

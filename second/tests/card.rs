@@ -72,7 +72,7 @@ fn plain_refusal(record: &[u8], lent: usize) -> Option<Refusal> {
     if changes.iter().any(|change| change & (OUT | CREW) == OUT) {
         return Some(Refusal::UnknownActivity);
     }
-    if 1_440 * days(&changes).len() > 120_960 {
+    if 1_440 * days(&changes).len() > 534_240 {
         return Some(Refusal::TotalPassed);
     }
     (lent < changes.len()).then_some(Refusal::TooFewWords)
@@ -89,7 +89,7 @@ fn read_all(changes: &[u16]) -> Result<Vec<u32>, Refusal> {
 
 /// What is written, with bytes beyond it.
 fn written(words: &[u32]) -> Vec<u8> {
-    let mut record = vec![b'#'; 250_000];
+    let mut record = vec![b'#'; 1_100_000];
     let length = write(words, &mut record).expect("no refusal");
     assert!(record[length..].iter().all(|&byte| byte == b'#'));
     record.truncate(length);
@@ -148,7 +148,7 @@ fn refused_as_said() {
     for _ in 0..40_000 {
         let mut changes = random_changes(&mut dice, 2);
         if dice.one_in(3) {
-            let days = dice.between(80, 90);
+            let days = dice.between(366, 376);
             let begin = |_| KNOWN[dice.below(6) as usize];
             changes.extend((0..days).map(begin));
         }
@@ -199,7 +199,7 @@ fn round_trips() {
             1 => grow::random_words(&mut dice),
             _ => read_all(&random_changes(&mut dice, 6)).unwrap(),
         };
-        let mut record = vec![b'#'; 250_000];
+        let mut record = vec![b'#'; 1_100_000];
         if let Err(refusal) = weigh(&words) {
             assert_eq!(write(&words, &mut record), Err(refusal));
             continue;
@@ -313,15 +313,15 @@ fn reading_refusals_in_order() {
 
     for fault in [at(1_440, 0), UNKNOWN | at(1_440, 0)] {
         refused(&[unknown, fault], Refusal::DayForm);
-        refused(&joined(&[&days(100), &[unknown, fault]]), Refusal::DayForm);
+        refused(&joined(&[&days(400), &[unknown, fault]]), Refusal::DayForm);
     }
     refused(&[at(1, 0), unknown], Refusal::DayForm);
     refused(&[unknown, at(9, 1), at(9, 1)], Refusal::DayForm);
     let odd = [bytes(&[unknown]), vec![0]].concat();
     assert_eq!(read(&odd, &mut none), Err(Refusal::DayForm));
 
-    for place in [0, 50, 85] {
-        let mut changes = days(86);
+    for place in [0, 50, 372] {
+        let mut changes = days(373);
         changes[place] = unknown;
         refused(&changes, Refusal::UnknownActivity);
         let told = read(&bytes(&changes), &mut none);
@@ -330,17 +330,17 @@ fn reading_refusals_in_order() {
     let told = read(&bytes(&[unknown]), &mut none);
     assert_eq!(told, Err(Refusal::UnknownActivity));
 
-    refused(&days(85), Refusal::TotalPassed);
-    let told = read(&bytes(&days(85)), &mut none);
+    refused(&days(372), Refusal::TotalPassed);
+    let told = read(&bytes(&days(372)), &mut none);
     assert_eq!(told, Err(Refusal::TotalPassed));
 
-    assert_eq!(read_all(&days(84)).unwrap(), words(&times(84, "w1440")));
-    let mut words = [77; 84];
-    let told = read(&bytes(&days(84)), &mut words[..83]);
+    assert_eq!(read_all(&days(371)).unwrap(), words(&times(371, "w1440")));
+    let mut words = [77; 371];
+    let told = read(&bytes(&days(371)), &mut words[..370]);
     assert_eq!(told, Err(Refusal::TooFewWords));
-    assert_eq!(words, [77; 84]);
-    assert_eq!(read(&bytes(&days(84)), &mut words), Ok(84));
-    assert_eq!(words, [4 * 1_440 + 2; 84]);
+    assert_eq!(words, [77; 371]);
+    assert_eq!(read(&bytes(&days(371)), &mut words), Ok(371));
+    assert_eq!(words, [4 * 1_440 + 2; 371]);
 }
 
 #[test]
@@ -358,26 +358,26 @@ fn changes_at_midnight() {
     assert_eq!(record("d1441 a1439"), bytes(&late));
     let around = [at(0, 2), at(1_439, 0), at(0, 0), at(1, 2)];
     assert_eq!(record("w1439 r2 w1439"), bytes(&around));
-    assert_eq!(record("r120960"), vec![0; 2 * 84]);
-    let alternating = record(&times(60_480, "r1 w1"));
-    assert_eq!(alternating.len(), 2 * 120_960);
+    assert_eq!(record("r534240"), vec![0; 2 * 371]);
+    let alternating = record(&times(267_120, "r1 w1"));
+    assert_eq!(alternating.len(), 2 * 534_240);
     assert_eq!(alternating[..6], bytes(&[at(0, 0), at(1, 2), at(2, 0)]));
 }
 
 #[test]
 fn writing_refusals_in_order() {
     let mut none: [u8; 0] = [];
-    for part_day in ["r1", "r1439", "r1441", "r120959", "w700 d1"] {
+    for part_day in ["r1", "r1439", "r1441", "r534239", "w700 d1"] {
         let told = write(&words(part_day), &mut none);
         assert_eq!(told, Err(Refusal::DayForm), "{part_day}");
     }
     assert_eq!(write(&[4, 3, 4], &mut none), Err(Refusal::NoMinutes));
     assert_eq!(
-        write(&words("r120961"), &mut none),
+        write(&words("r534241"), &mut none),
         Err(Refusal::TotalPassed)
     );
     assert_eq!(
-        write(&words("r122400"), &mut none),
+        write(&words("r535680"), &mut none),
         Err(Refusal::TotalPassed)
     );
     assert_eq!(write(&[], &mut none), Ok(0));
@@ -411,7 +411,7 @@ fn printed_cards() {
     for (changes, number) in [
         (&[UNKNOWN][..], 12),
         (&[at(1, 0)], 11),
-        (&[at(0, 0); 85], 2),
+        (&[at(0, 0); 372], 2),
     ] {
         let page = format!("(verdict\n(refused {number})\n)\n");
         assert_eq!(printed(changes), page);

@@ -3,7 +3,7 @@
 mod shorthand;
 
 use second::fixed;
-use second::reading;
+use second::reading::{self, entries};
 use second::recording::{list_long_rests, weigh, Span, Weighing};
 use second::{Limits, Refusal};
 use shorthand::{around, assert_breach, assert_pass, judged, span, times, words};
@@ -26,12 +26,12 @@ fn total() {
         weigh(&words).map(|weighing| weighing.total)
     };
     assert_eq!(weigh_words(&[]), Ok(0));
-    assert_eq!(weigh_words(&[120_960]), Ok(120_960));
-    assert_eq!(weigh_words(&[120_961]), Err(Refusal::TotalPassed));
-    assert_eq!(weigh_words(&[120_960, 1]), Err(Refusal::TotalPassed));
-    assert_eq!(weigh_words(&[120_960, 0]), Err(Refusal::NoMinutes));
-    assert_eq!(weigh_words(&[120_961, 0]), Err(Refusal::TotalPassed));
-    assert_eq!(weigh_words(&[0, 120_961]), Err(Refusal::NoMinutes));
+    assert_eq!(weigh_words(&[534_240]), Ok(534_240));
+    assert_eq!(weigh_words(&[534_241]), Err(Refusal::TotalPassed));
+    assert_eq!(weigh_words(&[534_240, 1]), Err(Refusal::TotalPassed));
+    assert_eq!(weigh_words(&[534_240, 0]), Err(Refusal::NoMinutes));
+    assert_eq!(weigh_words(&[534_241, 0]), Err(Refusal::TotalPassed));
+    assert_eq!(weigh_words(&[0, 534_241]), Err(Refusal::NoMinutes));
     let huge = [u32::MAX / 4; 8];
     assert_eq!(weigh_words(&huge), Err(Refusal::TotalPassed));
     assert_eq!(weigh(&[u32::MAX; 8]).map(|_| ()), Err(Refusal::TotalPassed));
@@ -54,8 +54,8 @@ fn long_rests_and_the_open_rest() {
     assert_eq!(weighed("r540"), weighing(540, 0, 0));
     assert_eq!(weighed("r270 r270 w1"), weighing(541, 541, 1));
     assert_eq!(
-        weighed(&times(223, "r540 w1")),
-        weighing(120_643, 120_643, 223)
+        weighed(&times(987, "r540 w1")),
+        weighing(533_967, 533_967, 987)
     );
 }
 
@@ -157,26 +157,29 @@ fn fixed_test_of_a_stretch() {
 #[test]
 fn rule_6() {
     let one = "w1 r1440 w1";
-    assert_eq!(reading_rule(one, &[0, 0, 0]), 0);
-    assert_eq!(reading_rule(one, &[1, 0, 0]), 0);
+    assert_eq!(reading_rule(one, &[0, 0, 0, 0]), 0);
+    assert_eq!(reading_rule(one, &[1, 0, 0, 0]), 0);
     for broken in [
-        [2, 0, 0],
-        [255, 0, 0],
-        [0, 1, 0],
-        [0, 0, 1],
-        [1, 1, 0],
-        [1, 0, 1],
-        [1, 0, 2],
+        [2, 0, 0, 0],
+        [255, 0, 0, 0],
+        [0, 1, 0, 0],
+        [0, 0, 1, 0],
+        [0, 0, 0, 1],
+        [1, 1, 0, 0],
+        [1, 0, 1, 0],
+        [1, 0, 2, 0],
+        [1, 0, 0, 1],
     ] {
         assert_eq!(reading_rule(one, &broken), 6, "{broken:?}");
     }
-    assert_eq!(reading_rule("w1 r1439 w1", &[1, 0, 0]), 6);
+    assert_eq!(reading_rule("w1 r1439 w1", &[1, 0, 0, 0]), 6);
     // A carrier is a later long rest; this one has the room.
     let two = "w1 r2699 w1 r2701 w1";
-    assert_eq!(reading_rule(two, &[1, 0, 2, 1, 0, 0]), 0);
-    assert_eq!(reading_rule(two, &[1, 0, 3, 1, 0, 0]), 6);
-    assert_eq!(reading_rule(two, &[1, 0, 1, 1, 0, 0]), 6);
-    assert_eq!(reading_rule(two, &[1, 0, 0, 1, 0, 1]), 6);
+    assert_eq!(reading_rule(two, &[1, 0, 2, 0, 1, 0, 0, 0]), 0);
+    assert_eq!(reading_rule(two, &[1, 0, 3, 0, 1, 0, 0, 0]), 6);
+    assert_eq!(reading_rule(two, &[1, 0, 1, 0, 1, 0, 0, 0]), 6);
+    assert_eq!(reading_rule(two, &[1, 0, 0, 0, 1, 0, 1, 0]), 6);
+    assert_eq!(reading_rule(two, &[1, 0, 2, 1, 1, 0, 0, 0]), 6);
 }
 
 #[test]
@@ -189,9 +192,9 @@ fn rule_6_the_minute_in_that_week() {
     ];
     let words = around(&rests, 30_300);
     let rule = |weeks: [u8; 3]| {
-        let reading: Vec<u8> = weeks.iter().flat_map(|&week| [1, week, 0]).collect();
+        let reading: Vec<u8> = weeks.iter().flat_map(|&week| [1, week, 0, 0]).collect();
         let daily = weigh(&words).unwrap().long_rests - 3;
-        let mut whole = vec![0; 3 * daily];
+        let mut whole = vec![0; 4 * daily];
         whole.extend(reading);
         reading::test(&words, &whole).unwrap()
     };
@@ -207,10 +210,12 @@ fn rule_6_the_minute_in_that_week() {
 #[test]
 fn rule_7() {
     // The first owes 1,260: what is left of the second must be 540 or 1,440.
-    let daily = |length: i64| reading_rule(&format!("r1440 w1 r{length} w1"), &[1, 0, 2, 0, 0, 0]);
+    let daily =
+        |length: i64| reading_rule(&format!("r1440 w1 r{length} w1"), &[1, 0, 2, 0, 0, 0, 0, 0]);
     assert_eq!(daily(1_800), 0);
     assert_eq!(daily(1_799), 7);
-    let weekly = |length: i64| reading_rule(&format!("r1440 w1 r{length} w1"), &[1, 0, 2, 1, 0, 0]);
+    let weekly =
+        |length: i64| reading_rule(&format!("r1440 w1 r{length} w1"), &[1, 0, 2, 0, 1, 0, 0, 0]);
     assert_eq!(weekly(2_700), 0);
     assert_eq!(weekly(2_699), 7);
     assert_eq!(weekly(1_440), 7);
@@ -218,13 +223,23 @@ fn rule_7() {
 
 #[test]
 fn rule_8_a_regular_rest_has_carrier_0() {
-    assert_eq!(reading_rule("r2700 w1 r5000 w1", &[1, 0, 2, 0, 0, 0]), 8);
-    assert_eq!(reading_rule("r2699 w1 r5000 w1", &[1, 0, 2, 0, 0, 0]), 0);
+    assert_eq!(
+        reading_rule("r2700 w1 r5000 w1", &[1, 0, 2, 0, 0, 0, 0, 0]),
+        8
+    );
+    assert_eq!(
+        reading_rule("r2699 w1 r5000 w1", &[1, 0, 2, 0, 0, 0, 0, 0]),
+        0
+    );
     // The second is regular only while it carries nothing.
     let rests = "r1440 w1 r3959 w1 r6000 w1";
-    assert_eq!(reading_rule(rests, &[1, 0, 2, 1, 0, 0, 1, 1, 0]), 0);
-    assert_eq!(reading_rule(rests, &[1, 0, 2, 1, 0, 3, 1, 1, 0]), 0);
-    assert_eq!(reading_rule(rests, &[1, 0, 0, 1, 0, 3, 1, 1, 0]), 8);
+    let rule = |first: u8, second: u8| {
+        let reading = [1, 0, first, 0, 1, 0, second, 0, 1, 1, 0, 0];
+        reading_rule(rests, &reading)
+    };
+    assert_eq!(rule(2, 0), 0);
+    assert_eq!(rule(2, 3), 0);
+    assert_eq!(rule(0, 3), 8);
 }
 
 /// A debt of 1,260 from week 0 and no rest that could carry it: its due,
@@ -239,7 +254,7 @@ fn rule_8_due_after_the_judged_end() {
     ];
     assert_eq!(judged(&around(&rests, 40_330)), Err((40_320, 6)));
     let reading = judged(&around(&rests, 40_319)).unwrap();
-    assert!(reading.chunks(3).all(|entry| entry[2] == 0));
+    assert!(entries(&reading).iter().all(|entry| entry.carrier == 0));
 }
 
 /// The same debt with a rest of 3,960 to carry it, which may end exactly at
@@ -278,7 +293,7 @@ fn one_rest_carries_two_debts() {
         judged(&around(&rests, 60_800))
     };
     let reading = judged_with_length(2_100).unwrap();
-    let carriers: Vec<u8> = (reading.chunks(3).map(|entry| entry[2]))
+    let carriers: Vec<u16> = (entries(&reading).iter().map(|entry| entry.carrier))
         .filter(|&carrier| carrier > 0)
         .collect();
     assert_eq!(carriers.len(), 2);
@@ -304,7 +319,7 @@ fn rule_9() {
     // A daily rest that carries 1,260 has the rest of its length only.
     let carrying = |length: i64| {
         let days = times(3, "w780 r600") + "w1";
-        let reading = [&[1, 0, 2][..], &[0; 12]].concat();
+        let reading = [&[1, 0, 2, 0][..], &[0; 16]].concat();
         reading_rule(&format!("r1440 w1 r{length} w1 {days}"), &reading)
     };
     assert_eq!(carrying(1_920), 0);
@@ -336,7 +351,7 @@ fn rule_9_by_the_later_portion() {
     assert_eq!(limits.later_portion, by_the_window);
     let own = |length: i64| {
         let shorthand = format!("r2699 w100 r180 w560 r{length} w1");
-        reading_rule(&shorthand, &[1, 0, 2, 0, 0, 0])
+        reading_rule(&shorthand, &[1, 0, 2, 0, 0, 0, 0, 0])
     };
     assert_eq!(own(541), 0);
     assert_eq!(own(540), 7);
@@ -380,16 +395,16 @@ fn rule_11_a_week_of_rest() {
         span(38_000, 40_700),
     ];
     let reading = judged(&around(&rests, 41_000)).unwrap();
-    let weeks: Vec<u8> = (reading.chunks(3))
-        .filter(|entry| entry[0] == 1)
-        .map(|entry| entry[1])
+    let weeks: Vec<u8> = (entries(&reading).iter())
+        .filter(|entry| entry.is_weekly())
+        .map(|entry| entry.week)
         .collect();
     assert_eq!(weeks, [0, 2, 3]);
     // Counted in the week it covers, it adds nothing there.
     let words = around(&[span(8_000, 20_160)], 20_200);
     let daily = weigh(&words).unwrap().long_rests - 1;
     for (week, rule) in [(0, 0), (1, 11)] {
-        let reading = [vec![0; 3 * daily], vec![1, week, 0]].concat();
+        let reading = [vec![0; 4 * daily], vec![1, week, 0, 0]].concat();
         assert_eq!(reading::test(&words, &reading), Ok(rule));
     }
 }

@@ -69,7 +69,7 @@ fn figure_5() {
 /// is erased."
 #[test]
 fn figure_6() {
-    for weeks in 6..=12 {
+    for weeks in (6..=12).chain([26, 53]) {
         let rests = general_figure(weeks);
         assert_breach_at_the_end(&rests);
         assert_pass(&rests[1..]);

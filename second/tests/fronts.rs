@@ -80,6 +80,16 @@ fn scarce_recordings() {
 }
 
 #[test]
+fn years() {
+    let scarce = (0..6).map(|seed| grow::scarce_of_weeks(&mut Dice::new(seed), 53));
+    let grown = (0..40).map(|seed| grow::grown_of_weeks(&mut Dice::new(seed), 53));
+    let through = (0..4).map(|seed| grow::grown_through(&mut Dice::new(seed), 53));
+    let ordinary = (0..10).map(|seed| grow::ordinary_weeks(&mut Dice::new(seed), 53));
+    let (yes, no, _) = compare(scarce.chain(grown).chain(through).chain(ordinary));
+    assert!(yes > 60 && no > 5);
+}
+
+#[test]
 fn climbed_recordings_are_wide() {
     let climbed = |seed| grow::climbed(&mut Dice::new(seed), 8, 400);
     let (yes, no, widest) = compare((0..40).map(climbed));

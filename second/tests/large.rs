@@ -143,11 +143,47 @@ fn scarce_carriers() {
     assert!(passes(&outcomes) > 2 && passes(&outcomes) < 38);
 }
 
+/// A kind of recording, and how many of it.
+type Kind = (u64, fn(&mut Dice) -> Vec<u32>);
+
+/// Recordings of a year of every kind.
+#[test]
+fn years() {
+    let kinds: [Kind; 7] = [
+        (20, |dice| grow::ordinary_weeks(dice, 53)),
+        (8, |dice| grow::split_of_weeks(dice, 53)),
+        (60, |dice| grow::grown_of_weeks(dice, 53)),
+        (8, |dice| grow::grown_through(dice, 53)),
+        (16, |dice| grow::scarce_of_weeks(dice, 53)),
+        (3, |dice| grow::hard_of_weeks(dice, 20, 53)),
+        (3, |dice| grow::climbed_of_weeks(dice, 8, 100, 53)),
+    ];
+    let (mut outcomes, mut late, mut over_255) = (Vec::new(), 0, 0);
+    for (count, grow) in kinds {
+        for seed in 0..count {
+            let outcome = check(&grow(&mut Dice::new(seed)));
+            match &outcome {
+                Outcome::Pass(reading) => {
+                    let mut entries = entries(reading).into_iter();
+                    over_255 += usize::from(entries.any(|entry| entry.carrier > 255));
+                }
+                Outcome::Breach { minute, .. } => late += usize::from(*minute > 120_960),
+            }
+            outcomes.push(outcome);
+        }
+    }
+    let (passes, all) = (passes(&outcomes), outcomes.len());
+    println!(
+        "years: {passes} of {all} pass, {over_255} with a carrier over 255, {late} late breaches"
+    );
+    assert!(passes > 40 && over_255 > 5 && late > 10);
+}
+
 /// The most long rests there can be.
 #[test]
-fn two_hundred_and_twenty_three_rests() {
-    let words = [4 * 540, 4 + 2].repeat(223);
-    assert_eq!(weigh(&words).map(|weighing| weighing.long_rests), Ok(223));
+fn nine_hundred_and_eighty_seven_rests() {
+    let words = [4 * 540, 4 + 2].repeat(987);
+    assert_eq!(weigh(&words).map(|weighing| weighing.long_rests), Ok(987));
     let outcome = check(&words);
     let breach = Outcome::Breach {
         minute: 4 * 541,

@@ -13,7 +13,7 @@ const NO_MINUTES: u32 = 3;
 #[test]
 fn verdict_refusals_in_order() {
     let recording = words("w10 r600 w10 r600 w1");
-    let mut short = [7; 5];
+    let mut short = [7; 7];
     assert_eq!(verdict(&recording), Ok(Verdict::Pass));
     assert_eq!(
         first_reading(&recording, &mut short),
@@ -28,15 +28,15 @@ fn verdict_refusals_in_order() {
         assert_eq!(verdict(&recording), Err(refusal));
         assert_eq!(first_reading(&recording, &mut short), Err(refusal));
     }
-    assert_eq!(short, [7; 5]);
+    assert_eq!(short, [7; 7]);
 }
 
 #[test]
 fn a_reading_is_written_alone() {
     let recording = words("w10 r600 w10 r600 w1");
-    let mut buffer = [7; 8];
-    assert_eq!(first_reading(&recording, &mut buffer), Ok(6));
-    assert_eq!(buffer, [0, 0, 0, 0, 0, 0, 7, 7]);
+    let mut buffer = [7; 10];
+    assert_eq!(first_reading(&recording, &mut buffer), Ok(8));
+    assert_eq!(buffer, [0, 0, 0, 0, 0, 0, 0, 0, 7, 7]);
     assert_eq!(first_reading(&[], &mut []), Ok(0));
 }
 
@@ -48,24 +48,24 @@ fn a_breach_writes_nothing() {
         article: 5,
     };
     assert_eq!(verdict(&recording), Ok(breach));
-    let mut buffer = [7; 3];
+    let mut buffer = [7; 4];
     assert_eq!(
         first_reading(&recording, &mut buffer),
         Err(Refusal::NoLawfulReading)
     );
     // A short buffer is seen first, though the recording is a breach.
     assert_eq!(
-        first_reading(&recording, &mut buffer[..2]),
+        first_reading(&recording, &mut buffer[..3]),
         Err(Refusal::ReadingBufferTooShort)
     );
-    assert_eq!(buffer, [7; 3]);
+    assert_eq!(buffer, [7; 4]);
 }
 
 #[test]
 fn reading_test_refusals_in_order() {
     let recording = words("w10 r600 w901");
-    assert_eq!(reading::test(&recording, &[0; 3]), Ok(5));
-    for count in [0, 1, 2, 4, 6] {
+    assert_eq!(reading::test(&recording, &[0; 4]), Ok(5));
+    for count in [0, 1, 2, 3, 5, 8] {
         let reading = vec![0; count];
         assert_eq!(
             reading::test(&recording, &reading),
@@ -80,25 +80,25 @@ fn reading_test_refusals_in_order() {
 fn the_smallest_broken_rule() {
     // Rules 1 and 5 are broken, and the reading breaks rule 6.
     assert_eq!(
-        reading::test(&words("d271 w700 r600 w1"), &[2, 0, 0]),
+        reading::test(&words("d271 w700 r600 w1"), &[2, 0, 0, 0]),
         Ok(1)
     );
-    assert_eq!(reading::test(&words("w971 r600 w1"), &[2, 0, 0]), Ok(5));
-    assert_eq!(reading::test(&words("w900 r600 w1"), &[2, 0, 0]), Ok(6));
+    assert_eq!(reading::test(&words("w971 r600 w1"), &[2, 0, 0, 0]), Ok(5));
+    assert_eq!(reading::test(&words("w900 r600 w1"), &[2, 0, 0, 0]), Ok(6));
 }
 
 #[test]
 fn entries() {
-    let reading = [1, 2, 3, 4, 5, 6];
-    assert_eq!(entry(&reading, 1), [1, 2, 3]);
-    assert_eq!(entry(&reading, 2), [4, 5, 6]);
-    assert!(std::ptr::eq(entry(&reading, 2), &reading[3..6]));
+    let reading = [1, 2, 3, 4, 5, 6, 7, 8];
+    assert_eq!(entry(&reading, 1), [1, 2, 3, 4]);
+    assert_eq!(entry(&reading, 2), [5, 6, 7, 8]);
+    assert!(std::ptr::eq(entry(&reading, 2), &reading[4..8]));
     assert_eq!(entry_refusal(&reading, 2), 0);
     for number in [0, 3, usize::MAX] {
         assert!(entry(&reading, number).is_empty());
         assert_eq!(entry_refusal(&reading, number), 7);
     }
-    for count in [1, 2, 4, 5] {
+    for count in [1, 2, 3, 5, 6, 7] {
         assert!(entry(&reading[..count], 0).is_empty());
         assert_eq!(entry_refusal(&reading[..count], 0), 6);
         assert_eq!(entry_refusal(&reading[..count], 1), 6);

@@ -40,7 +40,7 @@ fn breach(shorthand: &str, minute: i64) {
     assert_eq!(fixed::test(&words, m), Ok(1), "{shorthand}");
     let weighing = weigh(&words).unwrap();
     assert_eq!(weighing.total, minute, "{shorthand}");
-    let daily = vec![0; 3 * weighing.long_rests];
+    let daily = vec![0; 4 * weighing.long_rests];
     assert_eq!(reading::test(&words, &daily), Ok(1), "{shorthand}");
 }
 

@@ -28,7 +28,7 @@ const LENT: Weeks = weeks(77, 7);
 
 /// The spans that are written; the rest of the list stays.
 fn written(words: &[u32]) -> Vec<Weeks> {
-    let mut list = [LENT; 13];
+    let mut list = [LENT; 54];
     let count = breach_spans(words, &mut list).expect("no refusal");
     assert!(list[count..].iter().all(|&record| record == LENT));
     list[..count].to_vec()
@@ -227,8 +227,8 @@ fn whole_weeks() {
     assert_spans("w10081", &[weeks(0, 0)]);
     assert_spans("w10980", &[weeks(0, 0)]);
     assert_spans("w10981", &[weeks(0, 0), weeks(1, 1)]);
-    let each: Vec<Weeks> = (0..12).map(|week| weeks(week, week)).collect();
-    for count in 1..=12 {
+    let each: Vec<Weeks> = (0..53).map(|week| weeks(week, week)).collect();
+    for count in 1..=53 {
         assert_spans(&format!("w{}", 10_080 * count), &each[..count]);
         assert_spans(&format!("r{}", 10_080 * count), &[]);
     }
@@ -282,13 +282,13 @@ fn words_at_fault() {
         ("r0", 1),
         ("w901 r0", 1),
         ("w20160 d0", 1),
-        ("r0 w120961", 1),
-        ("w120961", 2),
-        ("w120961 r0", 2),
-        ("w901 w120060", 2),
+        ("r0 w534241", 1),
+        ("w534241", 2),
+        ("w534241 r0", 2),
+        ("w901 w533340", 2),
         ("w901 w1073741823", 2),
     ] {
-        for length in [0, 1, 12, 13] {
+        for length in [0, 1, 53, 54] {
             let mut list = vec![LENT; length];
             let answer = breach_spans(&words(shorthand), &mut list);
             assert_eq!(answer.map_err(Refusal::number), Err(number), "{shorthand}");
@@ -296,7 +296,7 @@ fn words_at_fault() {
         }
     }
     assert_eq!(
-        breach_spans(&words("w901 r120059"), &mut []),
+        breach_spans(&words("w901 r533339"), &mut []),
         Err(Refusal::SpanListTooShort)
     );
 }
@@ -315,10 +315,10 @@ fn pages() {
         page("w901 r9179 r9945 d271"),
         "(spans\n(weeks 0 0)\n(weeks 1 2)\n)\n"
     );
-    let twelve: String = (0..12)
+    let year: String = (0..53)
         .map(|week| format!("(weeks {week} {week})\n"))
         .collect();
-    assert_eq!(page("w120960"), format!("(spans\n{twelve})\n"));
+    assert_eq!(page("w534240"), format!("(spans\n{year})\n"));
     let refused = |number| format!("(verdict\n(refused {number})\n)\n");
     assert_eq!(print_spans(b""), refused(8));
     assert_eq!(print_spans(b"(recording\n)"), refused(8));
@@ -337,15 +337,15 @@ fn assert_rising(spans: &[Weeks]) {
 }
 
 /// What a comparison has met.
-#[derive(Debug, Default)]
+#[derive(Debug)]
 struct Met {
     recordings: usize,
     /// By the number of weeks begun.
-    begun: [usize; 13],
+    begun: [usize; 54],
     /// Those with so many spans.
-    answers: [usize; 13],
+    answers: [usize; 54],
     /// The spans by their number of weeks.
-    counts: [usize; 13],
+    counts: [usize; 54],
     /// Those with a span though the whole is lawful.
     lawful_whole: usize,
     /// Those answered in another way where each shortest breach of a Monday is
@@ -370,6 +370,17 @@ const OTHERS: [Terms; 3] = [
 ];
 
 impl Met {
+    fn new() -> Met {
+        Met {
+            recordings: 0,
+            begun: [0; 54],
+            answers: [0; 54],
+            counts: [0; 54],
+            lawful_whole: 0,
+            others: [0; 3],
+        }
+    }
+
     fn spans(&mut self, words: &[u32], limits: &Limits, spans: &[Weeks]) {
         let total = total_minutes(words);
         self.recordings += 1;
@@ -393,7 +404,7 @@ impl Met {
 #[test]
 fn small_recordings() {
     let mut dice = Dice::new(61);
-    let mut met = Met::default();
+    let mut met = Met::new();
     while met.recordings < 6_000 {
         let limits = small::limits(&mut dice);
         let words = match dice.below(3) {
@@ -443,7 +454,7 @@ fn small_words(dice: &mut Dice) -> Vec<u32> {
 /// A kind of recording, and how many of it.
 type Kind = (u64, fn(&mut Dice) -> Vec<u32>);
 
-const KINDS: [Kind; 9] = [
+const KINDS: [Kind; 12] = [
     (120, grow::random_words),
     (80, grow::ordinary),
     (20, grow::split),
@@ -453,16 +464,19 @@ const KINDS: [Kind; 9] = [
     (2, |dice| grow::climbed(dice, 8, 100)),
     (150, |dice| small::recording(dice, &Limits::document(), 60)),
     (150, driving_days),
+    (4, |dice| grow::ordinary_of_weeks(dice, 53)),
+    (1, |dice| grow::grown_through(dice, 53)),
+    (1, |dice| grow::scarce_of_weeks(dice, 53)),
 ];
 
-/// Recordings of every kind of up to twelve weeks, as they are and without their first
+/// Recordings of every kind, most of up to twelve weeks, as they are and without their first
 /// minutes, with their words in pieces, against every span judged by itself: by plain
 /// enumeration where it can follow, and by the search.
 #[test]
 fn recordings_of_any_size() {
     let limits = Limits::document();
     let mut dice = Dice::new(62);
-    let mut met = Met::default();
+    let mut met = Met::new();
     let mut plainly = 0;
     for (count, grow) in KINDS {
         for seed in 0..count {
@@ -494,9 +508,9 @@ fn recordings_of_any_size() {
     }
     println!("{met:?}, {plainly} weeks by plain enumeration");
     assert!(plainly > 4_000);
-    assert!(met.begun[1..].iter().all(|&count| count > 20) && met.begun[12] > 200);
+    assert!(met.begun[1..13].iter().all(|&count| count > 20) && met.begun[12] > 200);
     assert!(met.answers[..5].iter().all(|&count| count > 20) && met.answers[12] > 0);
-    assert!(met.counts[1..].iter().all(|&count| count > 0));
+    assert!(met.counts[1..13].iter().all(|&count| count > 0));
     assert!(met.lawful_whole > 50);
     assert!(met.others.iter().all(|&count| count > 100));
 }

@@ -23,7 +23,7 @@ impl Lines {
 
     fn case(&mut self, name: &str, shorthand: &str) {
         let words = words(shorthand);
-        let mut reading = [9; 669];
+        let mut reading = [9; 3_948];
         let written = first_reading(&words, &mut reading).unwrap_or(0);
         self.push(name, &(told(&words) + &shown(&reading[..written])));
     }
@@ -60,7 +60,7 @@ impl Lines {
     /// The verdict, and what the first reading answers with so many bytes lent.
     fn lent(&mut self, shorthand: &str, lent: usize) {
         let words = words(shorthand);
-        let mut reading = [9; 9];
+        let mut reading = [9; 12];
         let answer = match first_reading(&words, &mut reading[..lent]) {
             Ok(written) => format!("{written} bytes"),
             Err(refusal) => format!("refused {}", refusal.number()),
@@ -95,11 +95,11 @@ fn told(words: &[u32]) -> String {
     }
 }
 
-/// A letter for a daily rest, all three bytes for any other entry.
+/// A letter for a daily rest, kind, week and carrier for any other entry.
 fn shown(reading: &[u8]) -> String {
-    let entry = |entry: &Entry| match entry.bytes() {
-        [0, 0, 0] => " d".into(),
-        [kind, week, carrier] => format!(" {kind}/{week}/{carrier}"),
+    let entry = |entry: &Entry| match (entry.kind, entry.week, entry.carrier) {
+        (0, 0, 0) => " d".into(),
+        (kind, week, carrier) => format!(" {kind}/{week}/{carrier}"),
     };
     entries(reading).iter().map(entry).collect()
 }
@@ -282,17 +282,17 @@ fn weeks_and_debts(lines: &mut Lines) {
 
 fn refusals(lines: &mut Lines) {
     lines.runs("w5 r0");
-    lines.runs("r0 w120961");
-    lines.runs("r60000 w60960");
-    lines.runs("r60000 w60961 r0");
-    lines.lent("w10 r600 w10 r600 w1", 5);
-    lines.lent("w10 r600 w10 r600 w1", 6);
-    lines.lent("w10 r600 w10 r600 w1", 9);
-    lines.lent("w10 r600 w901", 2);
+    lines.runs("r0 w534241");
+    lines.runs("r60000 w474240");
+    lines.runs("r60000 w474241 r0");
+    lines.lent("w10 r600 w10 r600 w1", 7);
+    lines.lent("w10 r600 w10 r600 w1", 8);
+    lines.lent("w10 r600 w10 r600 w1", 12);
     lines.lent("w10 r600 w901", 3);
-    lines.lent("w10 r600 w901", 9);
+    lines.lent("w10 r600 w901", 4);
+    lines.lent("w10 r600 w901", 12);
     lines.lent("r15 d270 r30 d1", 0);
-    lines.lent("w10 r600 w0", 2);
+    lines.lent("w10 r600 w0", 3);
     lines.lent("w900", 0);
 }
 
@@ -327,7 +327,7 @@ fn spans(lines: &mut Lines) {
         ("w901", 0),
         ("w901", 1),
         ("w901 r0", 0),
-        ("r60000 w60961", 0),
+        ("r60000 w474241", 0),
     ] {
         lines.spans(shorthand, shorthand, room);
     }

@@ -46,7 +46,7 @@ fn first_breach(shorthand: &str, minute: i64, article: u8) {
 fn tested(shorthand: &str) -> (u8, u8) {
     let words = words(shorthand);
     let weighing = weigh(&words).unwrap();
-    let daily = vec![0; 3 * weighing.long_rests];
+    let daily = vec![0; 4 * weighing.long_rests];
     let fixed = fixed::test(&words, weighing.total as usize).unwrap();
     (fixed, reading::test(&words, &daily).unwrap())
 }
@@ -66,7 +66,7 @@ fn after_three(then: &str) -> String {
 fn three_hours_then_nine() {
     let day = "w300 r180 w360 r600";
     pass(&days(4, day));
-    assert_eq!(judged(&words(&days(4, day))), Ok(vec![0; 12]));
+    assert_eq!(judged(&words(&days(4, day))), Ok(vec![0; 16]));
     pass(&days(5, day));
     // Six days on, a weekly rest is lacking.
     pass(&times(6, day));
@@ -127,7 +127,7 @@ fn portion_by_the_window() {
 fn portion_by_a_load() {
     let tested = |weekly: i64, day: &str| {
         let shorthand = format!("r{weekly} {day} {}", after_three("w1"));
-        let entries = [&[1, 0, 2][..], &[0; 12]].concat();
+        let entries = [&[1, 0, 2, 0][..], &[0; 16]].concat();
         reading::test(&words(&shorthand), &entries).unwrap()
     };
     for (weekly, debt) in [(2_699, 1), (2_640, 60), (1_440, 1_260)] {
@@ -227,8 +227,8 @@ fn the_open_rest() {
 #[test]
 fn the_first_lawful_reading() {
     let read = |day: &str| judged(&words(&after_three(day)));
-    let daily = vec![0; 12];
-    let weekly = [&[0; 9][..], &[1, 0, 0]].concat();
+    let daily = vec![0; 16];
+    let weekly = [&[0; 12][..], &[1, 0, 0, 0]].concat();
     assert_eq!(read("w300 r180 w360 r1500 w1"), Ok(daily));
     assert_eq!(read("w300 r179 w361 r1500 w1"), Ok(weekly));
 }

@@ -34,6 +34,7 @@ struct Judged {
 
 /// The number of the refusal of the words: "Words are taken in order and the first
 /// word at fault decides: 1, its minutes are 0; else 2, the total passes 120,960."
+/// Request 7: "The total rises to 534,240 minutes".
 fn refusal(words: &[u32]) -> Option<u8> {
     let mut total = 0;
     for word in words {
@@ -42,7 +43,7 @@ fn refusal(words: &[u32]) -> Option<u8> {
         if minutes == 0 {
             return Some(1);
         }
-        if total > 120_960 {
+        if total > 534_240 {
             return Some(2);
         }
     }
@@ -71,17 +72,18 @@ fn judged(words: &[u32]) -> Result<Judged, u8> {
 /// The single verdict of document 01, a refusal by its number: "1, 2; then 4, the
 /// reading buffer is under 3 × k bytes. ... A pass writes the first lawful reading
 /// into the first 3 × k bytes; the rest stays. A breach writes nothing and gives the
-/// least m without a lawful reading, and its article."
+/// least m without a lawful reading, and its article." Request 7: "Counts of 3 × k
+/// become 4 × k".
 fn single(judged: &Result<Judged, u8>, reading: &mut [u8]) -> Result<Single, u8> {
     let judged = judged.as_ref().map_err(|&number| number)?;
-    if reading.len() < 3 * judged.k {
+    if reading.len() < 4 * judged.k {
         return Err(4);
     }
     match &judged.outcome {
         Outcome::Pass(first) => {
-            reading[..3 * judged.k].copy_from_slice(first);
+            reading[..4 * judged.k].copy_from_slice(first);
             Ok(Single::Pass {
-                written: 3 * judged.k,
+                written: 4 * judged.k,
             })
         }
         &Outcome::Breach { minute, article } => Ok(Single::Breach { minute, article }),
@@ -164,9 +166,9 @@ fn compare(words: &[u32], dice: &mut Dice, met: &mut Met) {
 
 /// Empty, short by one, exact, a little longer and longer.
 fn lengths(judged: &Result<Judged, u8>, dice: &mut Dice) -> Vec<usize> {
-    let exact = judged.as_ref().map_or(0, |judged| 3 * judged.k);
-    let little = dice.between(1, 3) as usize;
-    let much = dice.between(4, 700) as usize;
+    let exact = judged.as_ref().map_or(0, |judged| 4 * judged.k);
+    let little = dice.between(1, 4) as usize;
+    let much = dice.between(5, 4_000) as usize;
     let mut lengths = vec![0, exact.saturating_sub(1), exact];
     lengths.dedup();
     lengths.extend([exact + little, exact + much]);
@@ -193,7 +195,7 @@ fn cut(words: &[u32], minutes: u32) -> Vec<u32> {
 /// or both.
 fn at_fault(dice: &mut Dice, words: &[u32]) -> Vec<u32> {
     let total: u64 = words.iter().map(|word| u64::from(word / 4)).sum();
-    let full = 120_960_u64.saturating_sub(total) as u32;
+    let full = 534_240_u64.saturating_sub(total) as u32;
     let long = match dice.below(4) {
         0 => u32::MAX / 4,
         more => full + more - 1,
@@ -220,7 +222,7 @@ fn tight(dice: &mut Dice, limits: &Limits, most_rests: u32) -> Vec<u32> {
 /// A kind of recording, and how many of it.
 type Kind = (u64, fn(&mut Dice) -> Vec<u32>);
 
-const KINDS: [Kind; 10] = [
+const KINDS: [Kind; 14] = [
     (1_500, grow::random_words),
     (400, grow::ordinary),
     (100, grow::split),
@@ -231,6 +233,10 @@ const KINDS: [Kind; 10] = [
     (500, |dice| small::recording(dice, &Limits::document(), 40)),
     (100, |dice| tight(dice, &Limits::document(), 20)),
     (1_200, driving_days),
+    (300, |dice| grow::random_words_of_weeks(dice, 53)),
+    (40, |dice| grow::ordinary_of_weeks(dice, 53)),
+    (6, |dice| grow::grown_through(dice, 53)),
+    (6, |dice| grow::scarce_of_weeks(dice, 53)),
 ];
 
 /// Recordings of every kind, their beginnings, which are short enough for plain
@@ -344,20 +350,20 @@ fn passes() {
     check("", 5, PASS, Ok(&[]));
     check("w900", 0, PASS, Ok(&[]));
     // The rest is open, so k is 0.
-    check("w10 r120950", 0, PASS, Ok(&[]));
+    check("w10 r534230", 0, PASS, Ok(&[]));
     let two_rests = "w10 r600 w10 r600 w1";
-    check(two_rests, 6, PASS, Ok(&[0; 6]));
-    check(two_rests, 9, PASS, Ok(&[0; 6]));
+    check(two_rests, 8, PASS, Ok(&[0; 8]));
+    check(two_rests, 12, PASS, Ok(&[0; 8]));
     let weekly = times(5, "w780 r660") + "w780 r2700 w1";
-    let reading = [&[0; 15][..], &[1, 0, 0]].concat();
-    check(&weekly, 18, PASS, Ok(&reading));
-    check(&weekly, 669, PASS, Ok(&reading));
+    let reading = [&[0; 20][..], &[1, 0, 0, 0]].concat();
+    check(&weekly, 24, PASS, Ok(&reading));
+    check(&weekly, 3_948, PASS, Ok(&reading));
 }
 
 /// A pass needs no buffer; the reading does.
 #[test]
 fn a_short_buffer() {
-    for lent in 0..6 {
+    for lent in 0..8 {
         check("w10 r600 w10 r600 w1", lent, PASS, Err(4));
     }
 }
@@ -380,14 +386,14 @@ fn breaches() {
         ("w901", 901, 5, 0),
         ("w10 r600 w901", 1_511, 5, 1),
         ("w901 r600 w1", 901, 5, 1),
-        ("r60000 w60960", 60_901, 5, 1),
+        ("r60000 w474240", 60_901, 5, 1),
         (&(times(4, "w840 r600") + "w1"), 5_761, 6, 4),
         (&(times(6, "w780 r660") + "w1"), 8_641, 6, 6),
     ] {
-        for lent in 0..3 * k {
+        for lent in 0..4 * k {
             check(shorthand, lent, breach(minute, article), Err(4));
         }
-        for lent in 3 * k..3 * k + 4 {
+        for lent in 4 * k..4 * k + 5 {
             check(shorthand, lent, breach(minute, article), Err(13));
         }
     }
@@ -399,20 +405,20 @@ fn words_at_fault() {
     for (shorthand, number) in [
         ("r0", 1),
         ("w5 r0", 1),
-        ("r0 w120961", 1),
-        ("r60000 w60960 d0", 1),
+        ("r0 w534241", 1),
+        ("r60000 w474240 d0", 1),
         ("w10 r600 w901 d0", 1),
         ("w10 r600 w10 r600 d0 w1", 1),
-        ("w120961", 2),
-        ("w120961 r0", 2),
-        ("r60000 w60961 r0", 2),
-        ("w10 r600 w901 r119450", 2),
+        ("w534241", 2),
+        ("w534241 r0", 2),
+        ("r60000 w474241 r0", 2),
+        ("w10 r600 w901 r532730", 2),
         ("w10 r600 w10 r600 w1073741823", 2),
     ] {
-        for lent in [0, 2, 3, 6, 7] {
+        for lent in [0, 3, 4, 8, 9] {
             check(shorthand, lent, Err(number), Err(number));
         }
     }
-    check("w10 r600 w901 r119449", 2, breach(1_511, 5), Err(4));
-    check("w10 r600 w901 r119449", 3, breach(1_511, 5), Err(13));
+    check("w10 r600 w901 r532729", 3, breach(1_511, 5), Err(4));
+    check("w10 r600 w901 r532729", 4, breach(1_511, 5), Err(13));
 }

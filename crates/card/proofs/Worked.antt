@@ -60,11 +60,11 @@ pub record Worked : Type 0 where
   falling : cardRead (0 ∷ 0 ∷ 24 ∷ 60 ∷ 0 ∷ 59 ∷ []) 3 ≡ refused 11
   -- 11 before 12, although the unknown activity stands first
   order-first : cardRead (32 ∷ 0 ∷ 0 ∷ 60 ∷ 0 ∷ 60 ∷ []) 3 ≡ refused 11
-  -- 84 days are 120,960 minutes; 12 before 2, and 2 before 9
-  most-days : counted (cardRead (days 84) 84) ≡ answered 84
-  more-days : cardRead (days 85) 85 ≡ refused 2
-  unknown-first : cardRead (32 ∷ 0 ∷ days 84) 0 ≡ refused 12
-  total-first : cardRead (days 85) 0 ≡ refused 2
+  -- 371 days are 534,240 minutes; 12 before 2, and 2 before 9
+  most-days : counted (cardRead (days 371) 371) ≡ answered 371
+  more-days : cardRead (days 372) 372 ≡ refused 2
+  unknown-first : cardRead (32 ∷ 0 ∷ days 371) 0 ≡ refused 12
+  total-first : cardRead (days 372) 0 ≡ refused 2
   -- words lent: too few, and more than are needed
   few-words : cardRead (0 ∷ 0 ∷ 26 ∷ 88 ∷ []) 1 ≡ refused 9
   more-words : filled (cardRead (0 ∷ 0 ∷ []) 2) (7 ∷ 8 ∷ []) ≡ r 1440 ∷ 8 ∷ []
@@ -85,31 +85,31 @@ pub record Worked : Type 0 where
   long-day : cardWritten (r 1440 ∷ d 1 ∷ []) 4 ≡ refused 11
   -- 1 and 2 before 11, and 11 before 10
   no-minutes : cardWritten (r 1 ∷ r 0 ∷ []) 0 ≡ refused 1
-  past-total : cardWritten (r 120961 ∷ []) 0 ≡ refused 2
+  past-total : cardWritten (r 534241 ∷ []) 0 ≡ refused 2
   part-first : cardWritten (r 1439 ∷ []) 0 ≡ refused 11
   -- bytes lent: too few, and more than are needed
   few-bytes : cardWritten (r 1440 ∷ []) 1 ≡ refused 10
   more-bytes : filled (cardWritten (d 1440 ∷ []) 3) (7 ∷ 8 ∷ 9 ∷ []) ≡ 24 ∷ 0 ∷ 9 ∷ []
   bytes-kept : filled (cardWritten (d 1440 ∷ []) 1) (7 ∷ []) ≡ 7 ∷ []
-  -- 120,960 minutes are 84 days
-  most-minutes : counted (cardWritten (w 120960 ∷ []) 168) ≡ answered 168
+  -- 534,240 minutes are 371 days
+  most-minutes : counted (cardWritten (w 534240 ∷ []) 742) ≡ answered 742
 
--- ---- 84 and 85 days, by the first pass, which goes by changes and not by minutes
+-- ---- 371 and 372 days, by the first pass, which goes by changes and not by minutes
 by-changes : (bytes : List ℕ) (room n : ℕ) → refusalFor (judgedFrom begun (changesIn bytes)) (length bytes) room ≡ n → cardRead bytes room
     ≡ unlessFault n (answered (wordsOf (changesIn bytes)))
 by-changes bytes room n e = refusal-is bytes room ∙ ap (λ (k : ℕ). unlessFault k (answered (wordsOf (changesIn bytes)))) e
 
--- and 120,960 minutes, counted word by word
-most-counted : changesCounted (w 120960 ∷ []) ≡ answered 84
+-- and 534,240 minutes, counted word by word
+most-counted : changesCounted (w 534240 ∷ []) ≡ answered 371
 unfolding faultOf changesInRun isWritten _or_
 most-counted =
-    let start = start-counting (w 120960 ∷ []) in
-    sym (count-done (count-on start {fault = 0} (omega arith) refl {r = 84} refl refl) refl refl)
+    let start = start-counting (w 534240 ∷ []) in
+    sym (count-done (count-on start {fault = 0} (omega arith) refl {r = 371} refl refl) refl refl)
 
-most-written : counted (cardWritten (w 120960 ∷ []) 168) ≡ answered 168
+most-written : counted (cardWritten (w 534240 ∷ []) 742) ≡ answered 742
 most-written =
-    rw (counted-words (w 120960 ∷ []) 168, most-counted)
-    (ap answered (bytes-length (changesOf (minutesOf (w 120960 ∷ []))) ∙ ap (λ (k : ℕ). 2 * k) (sym (counted-is (w 120960 ∷ []) most-counted .changes))))
+    rw (counted-words (w 534240 ∷ []) 742, most-counted)
+    (ap answered (bytes-length (changesOf (minutesOf (w 534240 ∷ []))) ∙ ap (λ (k : ℕ). 2 * k) (sym (counted-is (w 534240 ∷ []) most-counted .changes))))
 
 pub worked : Worked
 unfolding opened bytesOf changesIn isUnknown follows allFollow inOrder isEven isDayRecord endBefore wordsOf cardRead changeOf isWritten changeIf changesFrom isWholeDays cardWritten
@@ -135,10 +135,10 @@ worked = record {
   equal = refl;
   falling = refl;
   order-first = refl;
-  most-days = ap counted (by-changes (days 84) 84 0 refl);
-  more-days = by-changes (days 85) 85 2 refl;
+  most-days = ap counted (by-changes (days 371) 371 0 refl);
+  more-days = by-changes (days 372) 372 2 refl;
   unknown-first = refl;
-  total-first = by-changes (days 85) 0 2 refl;
+  total-first = by-changes (days 372) 0 2 refl;
   few-words = refl;
   more-words = refl;
   words-kept = refl;

@@ -114,10 +114,10 @@ fn main() {
     show(b"d271 d330", &one_after_another, 600);
     let split_word = [543u32, 543, 1];
     show(b"d135 d135 and a word of no minutes", &split_word, 0);
-    let long = [240000u32, 243842];
-    show(b"r60000 w60960", &long, 120960);
-    let too_long = [240000u32, 243846, 0];
-    show(b"r60000 w60961 and a word of no minutes", &too_long, 0);
+    let long = [240000u32, 1896962];
+    show(b"r60000 w474240", &long, 534240);
+    let too_long = [240000u32, 1896966, 0];
+    show(b"r60000 w474241 and a word of no minutes", &too_long, 0);
     let huge = [4294967295u32, 4294967295];
     show(b"two words of 1073741823 minutes", &huge, 0);
     show(b"the largest m", &w900, 4294967295);

@@ -87,46 +87,73 @@ fn show_entry(reading: &[u8], number: usize) {
 // Rule 6.
 fn show_forms() {
     let w60r1440 = [242u32, 5760, 6];
-    show(b"weekly of 1440", &w60r1440, b"\x01\x00\x00");
+    show(b"weekly of 1440", &w60r1440, b"\x01\x00\x00\x00");
     let w60r1439 = [242u32, 5756, 6];
-    show(b"weekly of 1439", &w60r1439, b"\x01\x00\x00");
-    show(b"a kind over 1", &w60r1440, b"\x02\x00\x00");
-    show(b"a week it has no minute in", &w60r1440, b"\x01\x01\x00");
-    show(b"a carrier that is not there", &w60r1440, b"\x01\x00\x02");
-    show(b"itself its carrier", &w60r1440, b"\x01\x00\x01");
-    show(b"daily with a week", &w60r1440, b"\x00\x01\x00");
-    show(b"two bytes", &w60r1440, b"\x00\x00");
-    show(b"four bytes", &w60r1440, b"\x00\x00\x00\x00");
+    show(b"weekly of 1439", &w60r1439, b"\x01\x00\x00\x00");
+    show(b"a kind over 1", &w60r1440, b"\x02\x00\x00\x00");
+    show(
+        b"a week it has no minute in",
+        &w60r1440,
+        b"\x01\x01\x00\x00",
+    );
+    show(
+        b"a carrier that is not there",
+        &w60r1440,
+        b"\x01\x00\x02\x00",
+    );
+    show(b"itself its carrier", &w60r1440, b"\x01\x00\x01\x00");
+    show(b"daily with a week", &w60r1440, b"\x00\x01\x00\x00");
+    show(b"a carrier of 256", &w60r1440, b"\x01\x00\x00\x01");
+    show(
+        b"daily with a carrier of 256",
+        &w60r1440,
+        b"\x00\x00\x00\x01",
+    );
+    show(b"three bytes", &w60r1440, b"\x00\x00\x00");
+    show(b"five bytes", &w60r1440, b"\x00\x00\x00\x00\x00");
 }
 
 // Rules 7 and 8: a reduced weekly rest paid back.
 fn show_compensations() {
     let r1800 = [242u32, 5760, 242, 7200, 6];
-    show(b"paid back from 1800", &r1800, b"\x01\x00\x02\x00\x00\x00");
+    show(
+        b"paid back from 1800",
+        &r1800,
+        b"\x01\x00\x02\x00\x00\x00\x00\x00",
+    );
+    show(
+        b"paid back, the carrier 256 too many",
+        &r1800,
+        b"\x01\x00\x02\x01\x00\x00\x00\x00",
+    );
     let r1799 = [242u32, 5760, 242, 7196, 6];
-    show(b"paid back from 1799", &r1799, b"\x01\x00\x02\x00\x00\x00");
+    show(
+        b"paid back from 1799",
+        &r1799,
+        b"\x01\x00\x02\x00\x00\x00\x00\x00",
+    );
     let r2700 = [242u32, 10800, 242, 2164, 6];
     show(
         b"a regular rest with a carrier",
         &r2700,
-        b"\x01\x00\x02\x00\x00\x00",
+        b"\x01\x00\x02\x00\x00\x00\x00\x00",
     );
     let late = [242u32, 5760, 242, 155044, 6];
     show(
         b"a carrier that ends a minute late",
         &late,
-        b"\x01\x00\x02\x01\x00\x00",
+        b"\x01\x00\x02\x00\x01\x00\x00\x00",
     );
     let timely = [242u32, 5760, 242, 155040, 6];
     show(
         b"a carrier that ends at the deadline",
         &timely,
-        b"\x01\x00\x02\x01\x00\x00",
+        b"\x01\x00\x02\x00\x01\x00\x00\x00",
     );
     show(
         b"no carrier, the deadline before S",
         &timely,
-        b"\x01\x00\x00\x01\x00\x00",
+        b"\x01\x00\x00\x00\x01\x00\x00\x00",
     );
 }
 
@@ -136,7 +163,7 @@ fn show_days() {
     show(
         b"four shortened daily rests",
         &short,
-        b"\x00\x00\x00\x00\x00\x00\x00\x00\x00\x00\x00\x00",
+        b"\x00\x00\x00\x00\x00\x00\x00\x00\x00\x00\x00\x00\x00\x00\x00\x00",
     );
     let six = [
         3122u32,
@@ -156,7 +183,7 @@ fn show_days() {
     show(
         b"six days and no weekly rest",
         &six,
-        b"\x00\x00\x00\x00\x00\x00\x00\x00\x00\x00\x00\x00\x00\x00\x00\x00\x00\x00",
+        b"\x00\x00\x00\x00\x00\x00\x00\x00\x00\x00\x00\x00\x00\x00\x00\x00\x00\x00\x00\x00\x00\x00\x00\x00",
     );
 }
 
@@ -181,7 +208,7 @@ fn show_split_day(name: &[u8], earlier: u32, work: u32, long: u32) {
     show(
         name,
         &words,
-        b"\x01\x00\x05\x00\x00\x00\x00\x00\x00\x00\x00\x00\x00\x00\x00",
+        b"\x01\x00\x05\x00\x00\x00\x00\x00\x00\x00\x00\x00\x00\x00\x00\x00\x00\x00\x00\x00",
     );
 }
 
@@ -240,12 +267,12 @@ fn show_weeks() {
     show(
         b"a week of rest, its rest counted there",
         &only_one,
-        b"\x01\x00\x00\x00\x00\x00\x00\x00\x00\x00\x00\x00\x00\x00\x00\x00\x00\x00\x00\x00\x00",
+        b"\x01\x00\x00\x00\x00\x00\x00\x00\x00\x00\x00\x00\x00\x00\x00\x00\x00\x00\x00\x00\x00\x00\x00\x00\x00\x00\x00\x00",
     );
     show(
         b"a week of rest, its rest counted in the next",
         &only_one,
-        b"\x01\x01\x00\x00\x00\x00\x00\x00\x00\x00\x00\x00\x00\x00\x00\x00\x00\x00\x00\x00\x00",
+        b"\x01\x01\x00\x00\x00\x00\x00\x00\x00\x00\x00\x00\x00\x00\x00\x00\x00\x00\x00\x00\x00\x00\x00\x00\x00\x00\x00\x00",
     );
 }
 
@@ -257,13 +284,13 @@ fn show_fixed_rules() {
     show(
         b"a quarter hour before any driving",
         &before_driving,
-        b"\x00\x00\x00",
+        b"\x00\x00\x00\x00",
     );
     let after_a_minute = [7u32, 60, 1079, 120, 7, 2160, 6];
     show(
         b"a quarter hour after a minute of it",
         &after_a_minute,
-        b"\x00\x00\x00",
+        b"\x00\x00\x00\x00",
     );
     let empty = [2u32];
     show(b"a word of no minutes", &empty, b"");
@@ -280,11 +307,11 @@ fn main() {
     show_numbers();
     show_weeks();
     show_fixed_rules();
-    show_entry(b"abcdef", 1);
-    show_entry(b"abcdef", 2);
-    show_entry(b"abcdef", 3);
+    show_entry(b"abcdefgh", 1);
+    show_entry(b"abcdefgh", 2);
+    show_entry(b"abcdefgh", 3);
+    show_entry(b"abcdefgh", 0);
     show_entry(b"abcdef", 0);
-    show_entry(b"abcde", 0);
     show_entry(b"", 1);
-    show_entry(b"abcdef", 18446744073709551615);
+    show_entry(b"abcdefgh", 18446744073709551615);
 }

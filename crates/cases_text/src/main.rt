@@ -114,9 +114,9 @@ fn damaged() {
 
 // Reads the text of n weeks of rest.
 fn read_weeks(n: usize)
-    requires { ⌜ n ≤ 13 ⌝ }
+    requires { ⌜ n ≤ 54 ⌝ }
 {
-    let mut text = [0u8; 286];
+    let mut text = [0u8; 1147];
     let mut at = text::put_all(&mut text, 0, b"(recording\n");
     let mut i = 0;
     while i < n {
@@ -127,20 +127,20 @@ fn read_weeks(n: usize)
     read(&text[0..end]);
 }
 
-// Five run lines, or twelve weeks, and four words lent; then thirteen weeks, which are not of the form.
+// Five run lines, or 53 weeks, and four words lent; then 54 weeks, which are not of the form.
 fn too_many() {
     read(b"(recording\n(week\n(rest 1)\n(work 1)\n(rest 1)\n(work 1)\n(rest 1)\n)\n)\n");
-    read_weeks(12);
-    read_weeks(13);
+    read_weeks(53);
+    read_weeks(54);
 }
 
 fn written() {
     io::write_all(1, b"---- words\n");
     let zero = [41, 2];
     write(&zero);
-    let long = [40, 4 * 120960];
+    let long = [40, 4 * 534240];
     write(&long);
-    let longest = [4 * 120960 + 3];
+    let longest = [4 * 534240 + 3];
     write(&longest);
     let over = [4 * 20161 + 2];
     write(&over);

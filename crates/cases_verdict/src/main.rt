@@ -8,6 +8,9 @@ use rules_fixed::Tested;
 use verdict::Judgement;
 use verdict_spans::Found;
 
+// Bytes enough for any reading.
+const READING_BYTES: usize = rules_entries::ENTRY_BYTES * recording::LONG_RESTS;
+
 // The word of a letter of the shorthand, with no minutes yet; 4 for another byte.
 fn activity(byte: u8) -> u32 {
     match byte {
@@ -140,13 +143,14 @@ fn show_byte(byte: u8) {
     io::print_decimal(STDOUT_FILENO, byte as u64);
 }
 
-// An entry of a reading: its three bytes.
+// An entry of a reading: kind, week and carrier, by its four bytes.
 fn show_entry(entry: &[u8]) {
-    if entry.len() < 3 {
+    if entry.len() < 4 {
         return;
     }
     io::write_all(STDOUT_FILENO, b" ");
-    if entry[0] == 0 && entry[1] == 0 && entry[2] == 0 {
+    let carrier = rules_entries::carrier_of(entry[2], entry[3]);
+    if entry[0] == 0 && entry[1] == 0 && carrier == 0 {
         io::write_all(STDOUT_FILENO, b"d");
         return;
     }
@@ -154,11 +158,11 @@ fn show_entry(entry: &[u8]) {
     io::write_all(STDOUT_FILENO, b"/");
     show_byte(entry[1]);
     io::write_all(STDOUT_FILENO, b"/");
-    show_byte(entry[2]);
+    show_number(carrier);
 }
 
 fn show_entries(reading: &[u8]) {
-    let count = reading.len() / 3;
+    let count = reading.len() / rules_entries::ENTRY_BYTES;
     let mut number = 0;
     while number < count {
         number += 1;
@@ -199,7 +203,7 @@ fn show_verdict(judgement: Judgement) {
 
 // The first reading, where there is one.
 fn show_reading(words: &[u32]) {
-    let mut reading = [9u8; 669];
+    let mut reading = [9u8; READING_BYTES];
     match verdict::first_reading(words, &mut reading) {
         Filling::Refused(_) => (),
         Filling::Written(n) => {
@@ -505,7 +509,7 @@ fn set_byte(reading: &mut [u8], at: usize, byte: u8) {
 
 // The entry of a weekly rest, from this byte on.
 fn set_weekly(reading: &mut [u8], at: usize, week: u8, carrier: u8) {
-    if at < 669 {
+    if at < READING_BYTES {
         set_byte(reading, at, 1);
         set_byte(reading, at + 1, week);
         set_byte(reading, at + 2, carrier);
@@ -529,13 +533,13 @@ fn show_tested(name: &[u8], tested: Tested) {
 
 // A reading of figure 2 in which the third week pays the first one's hour, and this rest the third one's.
 fn show_attempt(name: &[u8], words: &[u32], carrier: u8) {
-    let mut reading = [0u8; 111];
+    let mut reading = [0u8; 148];
     set_weekly(&mut reading, 0, 0, 13);
-    set_weekly(&mut reading, 18, 1, 0);
-    set_weekly(&mut reading, 36, 2, carrier);
-    set_weekly(&mut reading, 54, 3, 0);
-    set_weekly(&mut reading, 72, 4, 0);
-    set_weekly(&mut reading, 93, 5, 0);
+    set_weekly(&mut reading, 24, 1, 0);
+    set_weekly(&mut reading, 48, 2, carrier);
+    set_weekly(&mut reading, 72, 3, 0);
+    set_weekly(&mut reading, 96, 4, 0);
+    set_weekly(&mut reading, 124, 5, 0);
     show_tested(name, rules_reading::reading_test(words, &reading));
 }
 
@@ -613,7 +617,7 @@ fn show_due() {
     show(b"a carrier that ends a minute late", &words, late);
 }
 
-fn show_nine(bytes: &[u8; 9]) {
+fn show_twelve(bytes: &[u8; 12]) {
     show_entries(bytes);
     io::write_all(STDOUT_FILENO, b"\n");
 }
@@ -633,12 +637,12 @@ fn show_filling(answer: Filling) {
     }
 }
 
-// Nine bytes, of which so many are lent for the first reading; all are shown after its answer.
+// Twelve bytes, of which so many are lent for the first reading; all are shown after its answer.
 fn show_lent(shorthand: &[u8], lent: usize) {
     let mut words = [0u32; 16];
     let count = runs(&mut words, 0, shorthand);
-    let mut bytes = [9u8; 9];
-    if lent <= 9 {
+    let mut bytes = [9u8; 12];
+    if lent <= 12 {
         let recording = first_words(&words, count);
         let answer = verdict::first_reading(recording, &mut bytes[0..lent]);
         io::write_all(STDOUT_FILENO, shorthand);
@@ -647,24 +651,24 @@ fn show_lent(shorthand: &[u8], lent: usize) {
         show_verdict(verdict::verdict(recording));
         show_filling(answer);
         io::write_all(STDOUT_FILENO, b",");
-        show_nine(&bytes);
+        show_twelve(&bytes);
     }
 }
 
 // What the verdict and the first reading turn away, each in its order, and what is left in the buffer.
 fn show_refusals() {
     show_runs(b"w5 r0");
-    show_runs(b"r0 w120961");
-    show_runs(b"r60000 w60960");
-    show_runs(b"r60000 w60961 r0");
-    show_lent(b"w10 r600 w10 r600 w1", 5);
-    show_lent(b"w10 r600 w10 r600 w1", 6);
-    show_lent(b"w10 r600 w10 r600 w1", 9);
-    show_lent(b"w10 r600 w901", 2);
+    show_runs(b"r0 w534241");
+    show_runs(b"r60000 w474240");
+    show_runs(b"r60000 w474241 r0");
+    show_lent(b"w10 r600 w10 r600 w1", 7);
+    show_lent(b"w10 r600 w10 r600 w1", 8);
+    show_lent(b"w10 r600 w10 r600 w1", 12);
     show_lent(b"w10 r600 w901", 3);
-    show_lent(b"w10 r600 w901", 9);
+    show_lent(b"w10 r600 w901", 4);
+    show_lent(b"w10 r600 w901", 12);
     show_lent(b"r15 d270 r30 d1", 0);
-    show_lent(b"w10 r600 w0", 2);
+    show_lent(b"w10 r600 w0", 3);
     show_lent(b"w900", 0);
 }
 
@@ -767,7 +771,7 @@ fn show_all_spans() {
     show_runs_spans(b"w901", 0);
     show_runs_spans(b"w901", 1);
     show_runs_spans(b"w901 r0", 0);
-    show_runs_spans(b"r60000 w60961", 0);
+    show_runs_spans(b"r60000 w474241", 0);
 }
 
 fn main() {

@@ -13,7 +13,7 @@ use Rattle.recording.specs.declared.Span.{Span}
 use Rattle.recording.specs.declared.Place.{Place}
 use Rattle.recording.proofs.LongRests.{few-rests}
 use Rattle.recording.proofs.Scanning.{scan-total, scan-end, scan-count, scan-written}
-use Rattle.rules.specs.Reading.{entryBytes, readingSize}
+use Rattle.rules.specs.Reading.{entryBytes, readingSize, carrierOf}
 use Rattle.rules.specs.Verdict.{Verdict, pass, breach}
 use Rattle.text.specs.Passes.{Put, places}
 use Rattle.text.proofs.Puts.{put-then}
@@ -39,7 +39,7 @@ unfolding restsOf
 rests-short [] ends reading = omega arith
 rests-short (s ∷ starts) ends reading =
     rw length-append
-    (omega (arith, rest-short s (getD ends 0 0) (getD reading 0 0) (getD reading 1 0) (getD reading 2 0), rests-short starts (drop 1 ends) (drop entryBytes reading)))
+    (omega (arith, rest-short s (getD ends 0 0) (getD reading 0 0) (getD reading 1 0) (carrierOf (getD reading 2 0) (getD reading 3 0)), rests-short starts (drop 1 ends) (drop entryBytes reading)))
 
 regroup : (v m j r l c : List ℕ) → v ++ m ++ j ++ r ++ l ++ (c ++ c) ≡ v ++ (m ++ (j ++ r ++ l ++ c)) ++ c
 regroup v m j r l c = simp append-assoc

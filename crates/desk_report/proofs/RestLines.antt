@@ -7,7 +7,7 @@ use native.Mathlib.Omega.{arith}
 use lib.ListN.{length, drop, getD, length-append}
 use lib.Seq.{sets, drop-cons, drop-length, drop-drop, getD-drop}
 use Rattle.recording.specs.declared.Span.{Span}
-use Rattle.rules.specs.Reading.{entryBytes}
+use Rattle.rules.specs.Reading.{entryBytes, carrierOf}
 use Rattle.text.specs.Passes.{Put, roomy}
 use Rattle.recording.proofs.Slices.{sets-append}
 use Rattle.text.proofs.Puts.{put-same-length}
@@ -20,14 +20,16 @@ pub rests-lines : (rs : List Span) (reading : List ℕ) → restsOf (map (λ (s 
 unfolding restsOf restsText
 rests-lines [] reading = refl
 rests-lines (r ∷ rs) reading =
-    ap (λ (l : List ℕ). restText (r .start) (r .end) (getD reading 0 0) (getD reading 1 0) (getD reading 2 0) ++ l) (rests-lines rs (drop entryBytes reading))
+    ap (λ (l : List ℕ). restText (r .start) (r .end) (getD reading 0 0) (getD reading 1 0) (carrierOf (getD reading 2 0) (getD reading 3 0)) ++ l) (rests-lines rs (drop entryBytes reading))
 
 -- the lines from the rest i on
 abbrev pub linesOn : List ℕ → List ℕ → List ℕ → ℕ → List ℕ
 linesOn starts ends reading i = restsOf (drop i starts) (drop i ends) (drop (entryBytes * i) reading)
 
 abbrev lineAt : List ℕ → List ℕ → List ℕ → ℕ → List ℕ
-lineAt starts ends reading i = restText (getD starts i 0) (getD ends i 0) (getD reading (entryBytes * i) 0) (getD reading (entryBytes * i + 1) 0) (getD reading (entryBytes * i + 2) 0)
+lineAt starts ends reading i =
+    restText (getD starts i 0) (getD ends i 0) (getD reading (entryBytes * i) 0) (getD reading (entryBytes * i + 1) 0)
+    (carrierOf (getD reading (entryBytes * i + 2) 0) (getD reading (entryBytes * i + 3) 0))
 
 lines-next : (starts ends reading : List ℕ) (i : ℕ) → i < length starts → linesOn starts ends reading i ≡ lineAt starts ends reading i ++ linesOn starts ends reading (i + 1)
 unfolding restsOf
@@ -39,10 +41,11 @@ lines-next starts ends reading i h =
     let k : getD (drop (entryBytes * i) reading) 0 0 ≡ getD reading (entryBytes * i) 0 = getD-drop (entryBytes * i) reading 0 0 ∙ ap (λ (n : ℕ). getD reading n 0) b in
     let w : getD (drop (entryBytes * i) reading) 1 0 ≡ getD reading (entryBytes * i + 1) 0 = getD-drop (entryBytes * i) reading 1 0 in
     let v : getD (drop (entryBytes * i) reading) 2 0 ≡ getD reading (entryBytes * i + 2) 0 = getD-drop (entryBytes * i) reading 2 0 in
+    let x : getD (drop (entryBytes * i) reading) 3 0 ≡ getD reading (entryBytes * i + 3) 0 = getD-drop (entryBytes * i) reading 3 0 in
     let f : drop 1 (drop i ends) ≡ drop (i + 1) ends = drop-drop 1 i ends in
     let g : drop entryBytes (drop (entryBytes * i) reading) ≡ drop (entryBytes * (i + 1)) reading = drop-drop entryBytes (entryBytes * i) reading ∙ ap (λ (n : ℕ). drop n reading) c in
     let d : drop i starts ≡ getD starts i 0 ∷ drop (i + 1) starts = drop-cons starts i 0 h ∙ ap (λ (n : ℕ). getD starts i 0 ∷ drop n starts) (sym (add-one i)) in
-    rw (d, e, k, w, v, f, g)
+    rw (d, e, k, w, v, x, f, g)
 
 -- where the rest i comes next: what is left, put from here on, makes what the whole makes
 pub record Going (old : List ℕ) (at : ℕ) (starts ends reading : List ℕ) (out : List ℕ) (next i : ℕ) : Type 0 where
@@ -56,7 +59,7 @@ going-first r = record { within = omega arith; room = omega (arith, r .room); by
 
 module _ {old : List ℕ} {at : ℕ} {starts ends reading out : List ℕ} {next i : ℕ} (g : Going old at starts ends reading out next i) where
   pub going-on : {out′ : List ℕ} {next′ kind week carrier : ℕ} → i < length starts
-      → kind ≡ getD reading (entryBytes * i) 0 → week ≡ getD reading (entryBytes * i + 1) 0 → carrier ≡ getD reading (entryBytes * i + 2) 0
+      → kind ≡ getD reading (entryBytes * i) 0 → week ≡ getD reading (entryBytes * i + 1) 0 → carrier ≡ carrierOf (getD reading (entryBytes * i + 2) 0) (getD reading (entryBytes * i + 3) 0)
       → Put out next (restText (getD starts i 0) (getD ends i 0) kind week carrier) next′ out′ → Going old at starts ends reading out′ next′ (i + 1)
   going-on {out′} {next′} {kind} {week} {carrier} h a b c p =
       let l : List ℕ = restText (getD starts i 0) (getD ends i 0) kind week carrier in

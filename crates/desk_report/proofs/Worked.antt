@@ -17,7 +17,7 @@ use Rattle.rules.specs.Spans.{spansFrom, breachSpans}
 use Rattle.rules.proofs.Spans.{span}
 use Rattle.rules.proofs.Breach.{verdict-pass}
 use Rattle.rules.proofs.OnlyDaily.{allDaily, daily-first}
-use Rattle.rules.proofs.Cases.{Case, passes, Says, AllSay, starred, worked, ordered, asked, alone, on-the-edge, d, w, r, times, daily, weekly}
+use Rattle.rules.proofs.Cases.{Case, passes, Says, AllSay, starred, worked, ordered, asked, alone, year, on-the-edge, d, w, r, times, daily, weekly, weeklyBy}
 use Rattle.text_lines.specs.Form.{runName, digitAt, decimal, lineText, textOfLines, runsThen, weeksThenEnd, textOf}
 use Rattle.text_lines.specs.Reading.{same, numberFrom, numberAfter, runOr, lineOf, linesFrom, stageAfter, stageFrom, isText, wordsOf, textRead}
 use Rattle.card.specs.Reading as card
@@ -44,7 +44,7 @@ weighed : (ws : List ℕ) {n : ℕ} → totalFrom 0 ws ≡ answered n → measur
 unfolding measured
 weighed ws q = rw q refl
 
-paper-pass : verdict (minutesOf paperWords) ≡ pass (0 ∷ 0 ∷ 0 ∷ [])
+paper-pass : verdict (minutesOf paperWords) ≡ pass (0 ∷ 0 ∷ 0 ∷ 0 ∷ [])
 unfolding recording.opened rules.opened
 paper-pass = verdict-pass (minutesOf paperWords) (allDaily (minutesOf paperWords)) (daily-first (minutesOf paperWords) refl)
 
@@ -66,7 +66,7 @@ card-taken : cardInputRead cardBytes ≡ answered cardWords
 unfolding recording.opened cardInputRead card.changesIn card.isUnknown card.follows card.allFollow card.inOrder card.isEven card.isDayRecord card.endBefore card.wordsOf card.cardRead
 card-taken = refl
 
-card-pass : verdict (minutesOf cardWords) ≡ pass (0 ∷ 0 ∷ 0 ∷ [])
+card-pass : verdict (minutesOf cardWords) ≡ pass (0 ∷ 0 ∷ 0 ∷ 0 ∷ [])
 unfolding recording.opened rules.opened
 card-pass = verdict-pass (minutesOf cardWords) (allDaily (minutesOf cardWords)) (daily-first (minutesOf cardWords) refl)
 
@@ -88,8 +88,8 @@ say-at [] t i = on-the-edge .0
 say-at (c ∷ cs) t zero = t .0
 say-at (c ∷ cs) t (suc i) = say-at cs (t .1) i
 
-edge : (i : ℕ) → Says (caseAt (starred ++ worked ++ ordered ++ asked ++ alone) i)
-edge = say-at (starred ++ worked ++ ordered ++ asked ++ alone) on-the-edge
+edge : (i : ℕ) → Says (caseAt (starred ++ worked ++ ordered ++ asked ++ alone ++ year) i)
+edge = say-at (starred ++ worked ++ ordered ++ asked ++ alone ++ year) on-the-edge
 
 breach-printed : (ws : List ℕ) {n m a : ℕ} → totalFrom 0 ws ≡ answered n → verdict (minutesOf ws) ≡ breach m a
     → verdictText ws ≡ bracketed (numbered minutesName (totalBy ws) ++ breachText m a)
@@ -131,15 +131,15 @@ pub record Forms : Type 0 where
   -- `(minutes 5761)`, `(breach 5761 8)`
   article-8 : verdictText (times 4 (w 840 ∷ r 600 ∷ []) (w 1 ∷ []))
       ≡ breachPage (53 ∷ 55 ∷ 54 ∷ 49 ∷ []) (53 ∷ 55 ∷ 54 ∷ 49 ∷ []) (56 ∷ [])
-  -- `(judged 13741)`, `(reading`, `(weekly 6650 10380 0 0)`, `(weekly 10440 11880 1 3)`, `(daily 11940 13740)`, `)`
-  weekly-rests : findingText (minutesOf (w 6650 ∷ r 3730 ∷ w 60 ∷ r 1440 ∷ w 60 ∷ r 1800 ∷ w 1 ∷ [])) (pass (weekly 0 0 (weekly 1 3 (daily 1 []))))
+  -- `(judged 13741)`, `(reading`, `(weekly 6650 10380 0 0)`, `(weekly 10440 11880 1 259)`, `(daily 11940 13740)`, `)`
+  weekly-rests : findingText (minutesOf (w 6650 ∷ r 3730 ∷ w 60 ∷ r 1440 ∷ w 60 ∷ r 1800 ∷ w 1 ∷ [])) (pass (weekly 0 0 (weeklyBy 1 3 1 (daily 1 []))))
       ≡ (judgedName ++ 32 ∷ 49 ∷ 51 ∷ 55 ∷ 52 ∷ 49 ∷ closed) ++ asLine readingName
       ++ (weeklyName ++ 32 ∷ 54 ∷ 54 ∷ 53 ∷ 48 ∷ 32 ∷ 49 ∷ 48 ∷ 51 ∷ 56 ∷ 48 ∷ 32 ∷ 48 ∷ 32 ∷ 48 ∷ closed)
-      ++ (weeklyName ++ 32 ∷ 49 ∷ 48 ∷ 52 ∷ 52 ∷ 48 ∷ 32 ∷ 49 ∷ 49 ∷ 56 ∷ 56 ∷ 48 ∷ 32 ∷ 49 ∷ 32 ∷ 51 ∷ closed)
+      ++ (weeklyName ++ 32 ∷ 49 ∷ 48 ∷ 52 ∷ 52 ∷ 48 ∷ 32 ∷ 49 ∷ 49 ∷ 56 ∷ 56 ∷ 48 ∷ 32 ∷ 49 ∷ 32 ∷ 50 ∷ 53 ∷ 57 ∷ closed)
       ++ (dailyName ++ 32 ∷ 49 ∷ 49 ∷ 57 ∷ 52 ∷ 48 ∷ 32 ∷ 49 ∷ 51 ∷ 55 ∷ 52 ∷ 48 ∷ closed) ++ closed
   -- a word of no minutes; a minute too many
   no-minutes : verdictText (w 60 ∷ r 0 ∷ []) ≡ refusedPage 49
-  too-long : verdictText (r 120960 ∷ w 1 ∷ []) ≡ refusedPage 50
+  too-long : verdictText (r 534240 ∷ w 1 ∷ []) ≡ refusedPage 50
   -- a text of no bytes, and one of 65,537, whatever they are
   no-text : deskText [] ≡ refusedPage 56
   long-text : (byte : ℕ) → deskText (replicate 65537 byte) ≡ refusedPage 57

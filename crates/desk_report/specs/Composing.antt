@@ -8,7 +8,7 @@ use lib.ListN.{length, take, drop, getD}
 use Rattle.recording.specs.Words.{minutesOf}
 use Rattle.recording.specs.Rests.{longRestsAtMost}
 use Rattle.recording.specs.Operations.{totalAtMost}
-use Rattle.rules.specs.Reading.{entryBytes, readingSize}
+use Rattle.rules.specs.Reading.{entryBytes, readingSize, carrierOf}
 use Rattle.rules.specs.Verdict.{Verdict}
 use Rattle.text.specs.Passes.{roomy}
 use Rattle.recording.specs.Answers.{Answer, refused, answered}
@@ -17,12 +17,15 @@ use Rattle.recording.specs.declared.Filling.the-variants as filling
 use Rattle.desk_report.specs.Printed.{verdictText, spansText, deskText, cardText, deskSpansText, cardSpansText, asLine, verdictName, minutesName, judgedName, readingName, refusedName}
 use Rattle.desk_report.specs.Printed.{numbered, restText, findingText, bracketed}
 
--- the bytes that are enough for whatever is printed, and for a line
-abbrev pub pageAtMost : ℕ
-pageAtMost = 8320
-
+-- the bytes that are enough for a line, for what stands around the lines of the rests, and for whatever is printed
 abbrev pub lineAtMost : ℕ
 lineAtMost = 37
+
+abbrev pub aroundAtMost : ℕ
+aroundAtMost = 55
+
+abbrev pub pageAtMost : ℕ
+pageAtMost = lineAtMost * longRestsAtMost + aroundAtMost
 
 -- the bytes of the shortest run line, with its end
 abbrev pub runLineBytes : ℕ
@@ -46,7 +49,7 @@ readingRoom = entryBytes * longRestsAtMost
 unfoldable pub restsOf : List ℕ → List ℕ → List ℕ → List ℕ
 restsOf [] ends reading = []
 restsOf (s ∷ starts) ends reading =
-    restText s (getD ends 0 0) (getD reading 0 0) (getD reading 1 0) (getD reading 2 0) ++ restsOf starts (drop 1 ends) (drop entryBytes reading)
+    restText s (getD ends 0 0) (getD reading 0 0) (getD reading 1 0) (carrierOf (getD reading 2 0) (getD reading 3 0)) ++ restsOf starts (drop 1 ends) (drop entryBytes reading)
 
 pub record Readable (at : ℕ) (starts ends reading : List ℕ) : Type 0 where
   pub room : at + lineAtMost * length starts ≤ roomy

@@ -11,7 +11,7 @@ use Rattle.recording.specs.Words.{minutesOf}
 use Rattle.recording.specs.Rests.{judgedEnd, longRests}
 use Rattle.recording.specs.Operations.{measured}
 use Rattle.recording.specs.declared.Span.{Span}
-use Rattle.rules.specs.Reading.{weeklyKind, entryBytes}
+use Rattle.rules.specs.Reading.{weeklyKind, entryBytes, carrierOf}
 use Rattle.rules.specs.Verdict.{Verdict, pass, breach, verdict}
 use Rattle.rules.specs.Spans.{breachSpans}
 use Rattle.rules.specs.declared.Weeks.{Weeks}
@@ -78,11 +78,11 @@ weeklyText start end week carrier = spanText weeklyName start end ++ spaced week
 unfoldable pub restText : ℕ → ℕ → ℕ → ℕ → ℕ → List ℕ
 restText start end kind week carrier = pick (eqb kind weeklyKind) (weeklyText start end week carrier) (dailyText start end)
 
--- the long rests in order, with three bytes of the reading for each
+-- the long rests in order, with four bytes of the reading for each; the carrier prints as a number
 unfoldable pub restsText : List Span → List ℕ → List ℕ
 restsText [] reading = []
 restsText (r ∷ rs) reading =
-    restText (r .start) (r .end) (getD reading 0 0) (getD reading 1 0) (getD reading 2 0) ++ restsText rs (drop entryBytes reading)
+    restText (r .start) (r .end) (getD reading 0 0) (getD reading 1 0) (carrierOf (getD reading 2 0) (getD reading 3 0)) ++ restsText rs (drop entryBytes reading)
 
 -- "a being 7, 6.1, 6.2, 6.3, 8.2 or 8 for 1 to 6"
 unfoldable pub articleText : ℕ → List ℕ

@@ -19,8 +19,13 @@ ghost use Rattle.desk_report.specs.Printed.{spaced, numbered, spanText, 
 ghost use Rattle.desk_report.specs.Printed.{weeksText, weeksLines, spansPage, spansText, deskSpansText, cardSpansText};
 ghost use Rattle.desk_report.specs.Composing.{pageAtMost, lineAtMost, readingRoom, restsOf, Readable, refusalPage, pageOf, passHead, Read, Within, wordsText, readText, inputText};
 
+// The most bytes of a line, and of what stands around the lines of the rests.
+const LINE_BYTES: usize = 37;
+
+const AROUND_BYTES: usize = 55;
+
 // Bytes enough for whatever is printed.
-pub const PAGE_BYTES: usize = 8320;
+pub const PAGE_BYTES: usize = LINE_BYTES * recording::LONG_RESTS + AROUND_BYTES;
 
 // The most bytes of an input that are read.
 pub const INPUT_BYTES: usize = 65536;
@@ -31,8 +36,8 @@ const TEXT_WORDS: usize = 7282;
 // Words enough for any day record of that size: a change has two bytes.
 const CARD_WORDS: usize = 32768;
 
-// Bytes enough for any reading: three for each long rest.
-const READING_BYTES: usize = 3 * recording::LONG_RESTS;
+// Bytes enough for any reading: an entry for each long rest.
+const READING_BYTES: usize = rules_entries::ENTRY_BYTES * recording::LONG_RESTS;
 
 // ---- lines
 
@@ -112,9 +117,10 @@ fn put_rests(out: &mut [u8], at: usize, starts: &[u32], ends: &[u32], reading: &
     let mut next = at;
     let mut i = 0;
     while i < starts.len() {
-        let kind = recording::wide(reading[3 * i]);
-        let week = recording::wide(reading[3 * i + 1]);
-        let carrier = recording::wide(reading[3 * i + 2]);
+        let entry = rules_entries::ENTRY_BYTES * i;
+        let kind = recording::wide(reading[entry]);
+        let week = recording::wide(reading[entry + 1]);
+        let carrier = rules_entries::carrier_of(reading[entry + 2], reading[entry + 3]);
         next = put_rest(out, next, starts[i], ends[i], kind, week, carrier);
         i += 1;
     }

@@ -19,9 +19,10 @@ use Rattle.recording.proofs.Walks.{judged-within}
 use Rattle.recording.proofs.Listing.{Measured, measured-is}
 use Rattle.rules.specs.declared.Breaches.{Breaches}
 use Rattle.rules.specs.Fixed.{breaches, smallestRule, fixedTest, firstArticle}
-use Rattle.rules.specs.Reading.{entryBytes}
+use Rattle.rules.specs.Reading.{entryBytes, fieldsIn, bytesOf}
 use Rattle.rules.specs.Verdict.{prefix, firstLawful, breachMinute, articleBy, article, Verdict, pass, breach, verdictBy, verdict}
 use Rattle.rules.specs.Spans.{breachSpans, spansGiven}
+use Rattle.rules_moves.specs.Moves.{storedBytes, tooLarge, readingWidened, readingNarrowed}
 use Rattle.rules.specs.Operations.{Finding, passed, breached, findingOf, verdictGiven, readingOf, firstReadingGiven, breachesTested, fixedTested, articleTested, readingTested, entryAt}
 use Rattle.rules.proofs.ArticleOrder.{rule-most}
 use Rattle.text_lines.specs.Reading.{linesIn, wordsOf, isText, textRead}
@@ -143,7 +144,7 @@ read-card-back bytes room =
     (told-if (ltb totalAtMost (length (minutesOf (card.wordsOf (changesIn bytes))))) (omega arith)
     (told-if (ltb room (length (card.wordsOf (changesIn bytes)))) (omega arith) (by-value _))))))
 
--- ---- the entry of a reading: the three bytes from its place on
+-- ---- the entry of a reading: the four bytes from its place on
 module _ (reading : List ℕ) (number : ℕ) where
   abbrev bytesFrom : ℕ → List ℕ
   bytesFrom place = take entryBytes (drop place reading)
@@ -171,6 +172,18 @@ told-reading (breach m a) = by-number {n = 13} (omega arith)
 pub first-reading-back : (ws : List ℕ) (room : ℕ) → answerIn itself (codeOf itself (counted (firstReadingGiven ws room))) ≡ counted (firstReadingGiven ws room)
 unfolding firstReadingGiven
 first-reading-back ws room = count-back (told-counted (told-then (told-measured ws) (λ k. told-if (ltb room (entryBytes * k .count)) (omega arith) (told-reading (verdict (minutesOf ws))))))
+
+-- ---- the moves of stored readings
+pub widen-back : (old : List ℕ) (room : ℕ) → answerIn itself (codeOf itself (counted (readingWidened old room))) ≡ counted (readingWidened old room)
+unfolding readingWidened
+widen-back old room =
+    count-back (told-counted (told-if (not (eqb (length old % storedBytes) 0)) (omega arith) (told-if (ltb room (length (bytesOf old))) (omega arith) (by-value _))))
+
+pub narrow-back : (wide : List ℕ) (room : ℕ) → answerIn itself (codeOf itself (counted (readingNarrowed wide room))) ≡ counted (readingNarrowed wide room)
+unfolding readingNarrowed
+narrow-back wide room =
+    count-back (told-counted (told-if (not (eqb (length wide % entryBytes) 0)) (omega arith) (told-if (ltb room (length (fieldsIn wide))) (omega arith)
+    (told-if (tooLarge (fieldsIn wide)) (omega arith) (by-value _)))))
 
 -- ---- the spans of weeks
 pub spans-back : (ws : List ℕ) (room : ℕ) → answerIn itself (codeOf itself (counted (spansGiven ws room))) ≡ counted (spansGiven ws room)

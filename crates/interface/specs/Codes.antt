@@ -12,7 +12,11 @@ use Rattle.rules.specs.Operations.{Finding, passed, breached, entryAt}
 -- "The result itself says whether its number is a refusal or an answer, since both start at 1." A refusal is its own number, an answer one unit
 -- and its value.
 abbrev pub answerUnit : ℕ
-answerUnit = 281474976710656
+answerUnit = 72057594037927936
+
+-- a lent slice has fewer bytes than this
+abbrev pub sliceBytes : ℕ
+sliceBytes = 9223372036854775808
 
 abbrev pub codeOf : {A : Type 0} → (A → ℕ) → Answer A → ℕ
 codeOf value (refused n) = n
@@ -24,10 +28,10 @@ itself n = n
 
 -- "Weighing gives N, S and k."
 abbrev pub judgedUnit : ℕ
-judgedUnit = 131072
+judgedUnit = 1048576
 
 abbrev pub countUnit : ℕ
-countUnit = 17179869184
+countUnit = 1099511627776
 
 abbrev pub measureValue : Measure → ℕ
 measureValue m = m .total + judgedUnit * m .judged + countUnit * m .count
@@ -40,7 +44,7 @@ abbrev pub findingValue : Finding → ℕ
 findingValue passed = 0
 findingValue (breached m a) = answerUnit + articleUnit * m + a
 
--- "The answer is the three bytes themselves in the caller's reading": the place of the first of them there.
+-- The answer is the four bytes "themselves in the caller's reading": the place of the first of them there.
 abbrev pub entryPlace : ℕ → ℕ
 entryPlace number = entryBytes * (number - 1)
 

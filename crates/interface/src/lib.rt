@@ -4,28 +4,32 @@ use recording::Span;
 use recording::Weighing;
 use rules::Weeks;
 use rules_fixed::Tested;
+use rules_moves::Moved;
 use verdict::Judgement;
 ghost use mathlib.Core.Path.{_≡_};
+ghost use Prim.Native.Nat.{ℕ, _<_};
 ghost use lib.ListN.{length};
-ghost use Rattle.recording.specs.Answers.{counted, filled};
+ghost use Rattle.recording.specs.Answers.{answered, counted, filled};
 ghost use Rattle.recording.specs.Operations.{measured, listed, written};
 ghost use Rattle.rules_fixed.specs.Tested.{tested};
 ghost use Rattle.rules.specs.Operations.{fixedTested, articleTested, readingTested, entryAt, entryRefusal, verdictGiven, firstReadingGiven};
 ghost use Rattle.rules.specs.Spans.{spansGiven};
+ghost use Rattle.rules_moves.specs.Moves.{readingWidened, readingNarrowed};
+ghost use Rattle.rules_moves.specs.Moved.{moved};
 ghost use Rattle.text_lines.specs.Reading.{textRead};
 ghost use Rattle.text.specs.Writing.{textWritten};
 ghost use Rattle.card.specs.Reading.{cardRead};
 ghost use Rattle.card.specs.Writing.{cardWritten};
 ghost use Rattle.verdict.specs.Judgements.{findingBy};
-ghost use Rattle.interface.specs.Codes.{codeOf, itself, measureValue, findingValue, entryCode};
+ghost use Rattle.interface.specs.Codes.{sliceBytes, codeOf, itself, measureValue, findingValue, entryCode};
 
 // An answer is this and its value; less is a refusal.
-const ANSWER: u64 = 281474976710656;
+const ANSWER: u64 = 72057594037927936;
 
 // Units of S and of k in what weighing answers.
-const JUDGED: u64 = 131072;
+const JUDGED: u64 = 1048576;
 
-const COUNT: u64 = 17179869184;
+const COUNT: u64 = 1099511627776;
 
 // A unit of a breach's minute.
 const ARTICLES: u64 = 8;
@@ -37,6 +41,17 @@ pub fn count_code(f: Filling) -> u64
     match f {
         Filling::Refused(n) => n as u64,
         Filling::Written(n) => ANSWER + (n as u64),
+    }
+}
+
+// A refusal's number; or ANSWER and the count, which is not over the bytes of a lent slice.
+fn moved_code(m: Moved) -> u64
+    requires { ⌜ ((n : ℕ) → moved m ≡ answered n → n < sliceBytes) ⌝ }
+    ensures { λ r. ⌜ r ≡ codeOf itself (moved m) ⌝ }
+{
+    match m {
+        Moved::Refused(n) => n as u64,
+        Moved::Written(n) => ANSWER + (n as u64),
     }
 }
 
@@ -62,7 +77,7 @@ pub fn verdict_code(j: Judgement) -> u64
     }
 }
 
-// Weighing: a refusal's number; or ANSWER, N, 2^17 × S and 2^34 × k.
+// Weighing: a refusal's number; or ANSWER, N, 2^20 × S and 2^40 × k.
 #[no_mangle]
 pub extern "C" fn desk_weigh(words: &[u32]) -> u64
     ensures { λ r. ⌜ r ≡ codeOf measureValue (measured (now (words .entry))) ⌝ }
@@ -108,7 +123,7 @@ pub extern "C" fn desk_reading_test(words: &[u32], reading: &[u8]) -> u64
     rule_code(rules_reading::reading_test(words, reading))
 }
 
-// Entry of a reading: a refusal's number; or ANSWER and the place of its three bytes in the reading.
+// Entry of a reading: a refusal's number; or ANSWER and the place of its four bytes in the reading.
 #[no_mangle]
 pub extern "C" fn desk_entry(reading: &[u8], number: usize) -> u64
     ensures { λ r. ⌜ r ≡ entryCode (now (reading .entry)) number ⌝ }
@@ -179,6 +194,24 @@ pub extern "C" fn desk_first_reading(words: &[u32], reading: &mut [u8]) -> u64
     ensures { λ r. ⌜ now (reading .exit) ≡ filled (firstReadingGiven (now (words .entry)) (length (now (reading .entry)))) (now (reading .entry)) ⌝ }
 {
     count_code(verdict::first_reading(words, reading))
+}
+
+// A stored reading of three bytes an entry carried over to four: a refusal's number; or ANSWER and the count of bytes.
+#[no_mangle]
+pub extern "C" fn desk_widen_reading(old: &[u8], wide: &mut [u8]) -> u64
+    ensures { λ r. ⌜ r ≡ codeOf itself (counted (readingWidened (now (old .entry)) (length (now (wide .entry))))) ⌝ }
+    ensures { λ r. ⌜ now (wide .exit) ≡ filled (readingWidened (now (old .entry)) (length (now (wide .entry)))) (now (wide .entry)) ⌝ }
+{
+    moved_code(rules_moves::widen_reading(old, wide))
+}
+
+// The same back: a refusal's number; or ANSWER and the count of bytes.
+#[no_mangle]
+pub extern "C" fn desk_narrow_reading(wide: &[u8], old: &mut [u8]) -> u64
+    ensures { λ r. ⌜ r ≡ codeOf itself (counted (readingNarrowed (now (wide .entry)) (length (now (old .entry))))) ⌝ }
+    ensures { λ r. ⌜ now (old .exit) ≡ filled (readingNarrowed (now (wide .entry)) (length (now (old .entry)))) (now (old .entry)) ⌝ }
+{
+    moved_code(rules_moves::narrow_reading(wide, old))
 }
 
 // The spans of weeks that are a breach while no shorter span inside them is one: a refusal's number; or ANSWER and their count.

@@ -10,6 +10,7 @@ use lib.Dec.{leb, ltb}
 use lib.ListN.{length}
 use borrow.Author.Tests.{leb-true, le-leb, lt-leb, ltb-false}
 use Rattle.recording.specs.Tests.{pick, keep}
+use Rattle.recording.specs.Scan.{shortTotal, shortRests}
 use Rattle.recording.specs.Rests.{lengthOf, withRest, endFrom, judgedEnd, closedFrom, closedRests, longRestMinutes, isLong, longFrom, longRests, longRestsAtMost}
 use Rattle.recording.specs.Operations.{totalAtMost}
 use Rattle.recording.specs.declared.Span.{Span}
@@ -100,6 +101,10 @@ ordered-count (next l n e o) h = omega (arith, ordered-count o e)
 pub rests-within : (ms : List ℕ) → suc longRestMinutes * length (longRests ms) ≤ length ms
 rests-within ms = omega (arith, ordered-count (rests-ordered ms) zero-le, judged-within ms)
 
--- "k at most 223"
+-- "long rests to 987": k is at most so many
 pub few-rests : (ms : List ℕ) → length ms ≤ totalAtMost → length (longRests ms) ≤ longRestsAtMost
 few-rests ms h = omega (arith, rests-within ms)
+
+-- and of a short recording
+pub few-short : (ms : List ℕ) → length ms ≤ shortTotal → length (longRests ms) ≤ shortRests
+few-short ms h = omega (arith, rests-within ms)

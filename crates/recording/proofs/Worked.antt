@@ -30,11 +30,11 @@ pub record Worked : Type 0 where
   short : measured (w 900 ∷ r 539 ∷ w 1 ∷ []) ≡ measure 1440 1440 0
   open-rest : measured (w 60 ∷ r 500 ∷ r 500 ∷ []) ≡ measure 1060 60 0
   empty : measured [] ≡ measure 0 0 0
-  -- 120,960, and the first word at fault
-  full : totalFrom 0 (r 60000 ∷ w 60960 ∷ []) ≡ answered 120960
-  over : totalFrom 0 (r 60000 ∷ w 60961 ∷ []) ≡ refused 2
-  none-first : totalFrom 0 (r 60000 ∷ w 0 ∷ r 60961 ∷ []) ≡ refused 1
-  over-first : totalFrom 0 (r 60000 ∷ w 60961 ∷ r 0 ∷ []) ≡ refused 2
+  -- 534,240, and the first word at fault
+  full : totalFrom 0 (r 60000 ∷ w 474240 ∷ []) ≡ answered 534240
+  over : totalFrom 0 (r 60000 ∷ w 474241 ∷ []) ≡ refused 2
+  none-first : totalFrom 0 (r 60000 ∷ w 0 ∷ r 474241 ∷ []) ≡ refused 1
+  over-first : totalFrom 0 (r 60000 ∷ w 474241 ∷ r 0 ∷ []) ≡ refused 2
   -- P and days
   latest : latestEnd (minutesOf (w 60 ∷ r 540 ∷ w 60 ∷ r 600 ∷ w 60 ∷ [])) 1259 ≡ 600
   latest-at : latestEnd (minutesOf (w 60 ∷ r 540 ∷ w 60 ∷ r 600 ∷ w 60 ∷ [])) 1260 ≡ 1260

@@ -15,11 +15,11 @@ use Rattle.recording.specs.declared.Weighing.the-variants as weighing
 use Rattle.recording.specs.declared.Filling.{Filling}
 use Rattle.recording.specs.declared.Filling.the-variants as filling
 
--- "The total N is 0 to 120,960."
+-- Document 02, request 7: "The total rises to 534,240 minutes", from 0.
 abbrev pub totalAtMost : ℕ
-totalAtMost = 120960
+totalAtMost = 534240
 
--- "1, its minutes are 0; else 2, the total passes 120,960": the fault of a word after so many minutes, or 0
+-- "1, its minutes are 0; else 2, the total passes" the limit: the fault of a word after so many minutes, or 0
 unfoldable pub faultOf : ℕ → ℕ → ℕ
 faultOf total w = pick (eqb (minutesIn w) 0) 1 (pick (ltb totalAtMost (total + minutesIn w)) 2 0)
 

@@ -56,6 +56,7 @@ longFrom from now ms = keep isLong (closedFrom from now ms)
 unfoldable pub longRests : List ℕ → List Span
 longRests ms = longFrom 0 0 ms
 
--- "There are k, numbered from 1, k at most 223."
+-- "There are k, numbered from 1"; document 02, request 7: "The total rises to 534,240 minutes, long rests to 987". That k is at most so many is a law
+-- (proofs/LongRests.antt).
 abbrev pub longRestsAtMost : ℕ
-longRestsAtMost = 223
+longRestsAtMost = 987

@@ -18,6 +18,13 @@ use Rattle.recording.specs.declared.Weighing.the-variants as weighing
 use Rattle.recording.specs.declared.Place.{Place}
 use Rattle.recording.specs.declared.Span.{Span}
 
+-- a short recording, of twelve weeks or less, and the most long rests that it can have
+abbrev pub shortTotal : ℕ
+shortTotal = 120960
+
+abbrev pub shortRests : ℕ
+shortRests = 223
+
 abbrev pub totalled : Total → Answer ℕ
 totalled (total.Refused n) = refused n
 totalled (total.Minutes n) = answered n

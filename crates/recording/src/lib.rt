@@ -48,14 +48,19 @@ pub struct Place {
     pub count: u32,
 }
 
-pub const TOTAL_AT_MOST: u32 = 120960;
+pub const TOTAL_AT_MOST: u32 = 534240;
 
 pub const LONG_REST: u32 = 540;
 
 pub const WEEK_MINUTES: u32 = 10080;
 
 // The most long rests that a recording can have.
-pub const LONG_RESTS: usize = 223;
+pub const LONG_RESTS: usize = 987;
+
+// The same of a short recording, one of twelve weeks or less. Arrays of so many serve it, so that it does not bear the cost of what a year needs.
+pub const SHORT_TOTAL: u32 = 120960;
+
+pub const SHORT_RESTS: usize = 223;
 
 // A byte as a wider number.
 pub fn wide(b: u8) -> u32

@@ -1,6 +1,6 @@
 -- Lawful readings and the breach minute: no stretch has a lawful reading once a shorter one has none, so a minute without, after one with, is
 -- the only such and the least. Assumes nothing.
-use mathlib.Core.Path.{_≡_, refl}
+use mathlib.Core.Path.{_≡_, refl, ap, _∙_}
 use mathlib.Core.Logic.{_⊎_, inl, inr}
 use mathlib.Core.Bool.{Bool, true, false}
 use mathlib.Core.List.{List, []}
@@ -12,42 +12,96 @@ use lib.ListN.{length}
 use lib.Seq.{take-take, take-length}
 use Rattle.recording.specs.Tests.{pick}
 use Rattle.recording.specs.Rests.{longRests}
-use Rattle.rules.specs.Reading.{readingSize, restricted}
-use Rattle.rules.specs.Order.{Bytes, NotAfter}
-use Rattle.rules.specs.Verdict.{lawful, firstLawful, isNone, prefix, leastFrom, breachMinute, article, pass, breach, verdict}
+use Rattle.rules.specs.Reading.{readingSize, fieldsIn, bytesOf, restricted}
+use Rattle.rules.specs.ReadingRules.{readingTest}
+use Rattle.rules.specs.Order.{Bytes, Fields, NotAfter}
+use Rattle.rules.specs.Verdict.{lawful, lawfulFields, firstFields, asBytes, firstLawful, isNone, prefix, leastFrom, breachMinute, article, pass, breach, verdict}
 use Rattle.rules.specs.Opened.{opened}
-use Rattle.rules.proofs.FirstLaws.{law-at, first-is}
-use Rattle.rules.proofs.Prefix.{lawful-prefix, restricted-bytes}
+use Rattle.rules.proofs.FirstLaws.{law-at, first-is, fields-length}
+use Rattle.rules.proofs.FieldLaws.{fields-back, fields-bounded, bytes-bounded}
+use Rattle.rules.proofs.Prefix.{lawful-prefix, restricted-bounded}
 use Rattle.recording.proofs.TestLaws.{clash}
 
--- a lawful reading of a recording, of its size
-pub record Lawful (ms reading : List ℕ) : Type 0 where
+-- the fields of a lawful reading of a recording, and a lawful reading in its bytes
+pub record Lawful (ms fields : List ℕ) : Type 0 where
+  pub bounded : Fields (length (longRests ms)) fields
+  pub keeps : lawfulFields ms fields ≡ true
+
+abbrev pub HasLawful : List ℕ → Type 0
+HasLawful ms = (fields : List ℕ) × Lawful ms fields
+
+pub record LawfulReading (ms reading : List ℕ) : Type 0 where
   pub bytes : Bytes (readingSize ms) reading
   pub keeps : lawful ms reading ≡ true
 
-abbrev pub HasLawful : List ℕ → Type 0
-HasLawful ms = (reading : List ℕ) × Lawful ms reading
+module _ (ms : List ℕ) where
+  -- each is the other's
+  pub lawful-bytes : {fields : List ℕ} → Lawful ms fields → LawfulReading ms (bytesOf fields)
+  unfolding lawful lawfulFields readingTest readingSize
+  lawful-bytes {fields} l = record {
+    bytes = bytes-bounded (length (longRests ms)) fields (l .bounded);
+    keeps =
+        ap (λ (f : List ℕ). lawfulFields ms f) (fields-back (length (longRests ms)) fields (fields-length (length (longRests ms)) fields (l .bounded))) ∙ l .keeps;
+  }
 
--- ---- the first lawful reading is sound, complete and least, and whatever is so is it
-pub first-sound : (ms : List ℕ) {r : List ℕ} → firstLawful ms ≡ some r → Lawful ms r
-unfolding firstLawful
-first-sound ms e = let f = law-at _ (lawful ms) e in record { bytes = f .0; keeps = f .1 }
+  pub lawful-fields : {reading : List ℕ} → LawfulReading ms reading → Lawful ms (fieldsIn reading)
+  unfolding lawful lawfulFields readingTest readingSize
+  lawful-fields {reading} l = record { bounded = fields-bounded (length (longRests ms)) reading (l .bytes); keeps = l .keeps }
 
-pub first-least : (ms : List ℕ) {r : List ℕ} → firstLawful ms ≡ some r → {s : List ℕ} → Lawful ms s → NotAfter r s
-unfolding firstLawful
-first-least ms e {s} l = let f = law-at _ (lawful ms) e in f .2 s (l .bytes) (l .keeps)
+-- ---- the first lawful reading is sound, complete and least, and whatever is so is it: by its fields
+pub record First (ms fields : List ℕ) : Type 0 where
+  pub sound : Lawful ms fields
+  pub least : (s : List ℕ) → Lawful ms s → NotAfter fields s
 
-pub first-none : (ms : List ℕ) → firstLawful ms ≡ none → HasLawful ms → ⊥
-unfolding firstLawful
-first-none ms e (s, l) = law-at _ (lawful ms) e s (l .bytes) (l .keeps)
+module _ (ms : List ℕ) where
+  pub first-fields : {r : List ℕ} → firstFields ms ≡ some r → First ms r
+  unfolding firstFields
+  first-fields e =
+      let f = law-at _ (lawfulFields ms) e in
+      record { sound = record { bounded = f .0; keeps = f .1 }; least = λ s l. f .2 s (l .bounded) (l .keeps) }
 
-pub is-first : (ms : List ℕ) {r : List ℕ} → Lawful ms r → ((s : List ℕ) → Lawful ms s → NotAfter r s) → firstLawful ms ≡ some r
-unfolding firstLawful
-is-first ms {r} l h = first-is _ (lawful ms) (some r) (l .bytes, l .keeps, λ s b t. h s (record { bytes = b; keeps = t }))
+  none-fields : firstFields ms ≡ none → HasLawful ms → ⊥
+  unfolding firstFields
+  none-fields e (s, l) = law-at _ (lawfulFields ms) e s (l .bounded) (l .keeps)
 
-pub is-none : (ms : List ℕ) → (HasLawful ms → ⊥) → firstLawful ms ≡ none
-unfolding firstLawful
-is-none ms h = first-is _ (lawful ms) none (λ s b t. h (s, record { bytes = b; keeps = t }))
+  -- what was found as bytes has fields that were found
+  pub found-fields : {r : List ℕ} → firstLawful ms ≡ some r → (f : List ℕ) × (firstFields ms ≡ some f) × (r ≡ bytesOf f)
+  unfolding firstLawful
+  found-fields {r} = at (firstFields ms) refl
+    where
+      at : (o : Option (List ℕ)) → firstFields ms ≡ o → asBytes o ≡ some r → (f : List ℕ) × (firstFields ms ≡ some f) × (r ≡ bytesOf f)
+      at none q e = let z : _≡_ {A = ℕ} 0 1 = cc in absurd (omega arith)
+      at (some f) q e = (f, q, cc)
+
+  pub first-none : firstLawful ms ≡ none → HasLawful ms → ⊥
+  unfolding firstLawful
+  first-none e h = at (firstFields ms) refl e
+    where
+      at : (o : Option (List ℕ)) → firstFields ms ≡ o → asBytes o ≡ none → ⊥
+      at none q e = none-fields q h
+      at (some f) q e = let z : _≡_ {A = ℕ} 0 1 = cc in omega arith
+
+  pub is-first : {r : List ℕ} → First ms r → firstLawful ms ≡ some (bytesOf r)
+  unfolding firstLawful firstFields
+  is-first {r} f = ap asBytes (first-is _ (lawfulFields ms) (some r) (f .sound .bounded, f .sound .keeps, λ s b t. f .least s (record { bounded = b; keeps = t })))
+
+  pub is-none : (HasLawful ms → ⊥) → firstLawful ms ≡ none
+  unfolding firstLawful firstFields
+  is-none h = ap asBytes (first-is _ (lawfulFields ms) none (λ s b t. h (s, record { bounded = b; keeps = t })))
+
+  -- ---- and by its bytes: THE LAW of the first lawful reading
+  pub first-sound : {r : List ℕ} → firstLawful ms ≡ some r → LawfulReading ms r
+  first-sound e = let (f, q, b) = found-fields e in rw b (lawful-bytes ms (first-fields q .sound))
+
+  pub first-least : {r s : List ℕ} → firstLawful ms ≡ some r → LawfulReading ms s → NotAfter (fieldsIn r) (fieldsIn s)
+  first-least {s = s} e l =
+      let (f, q, b) = found-fields e in
+      let g = first-fields q in
+      let k = length (longRests ms) in
+      rw (b, fields-back k f (fields-length k f (g .sound .bounded))) (g .least (fieldsIn s) (lawful-fields ms l))
+
+  pub first-complete : firstLawful ms ≡ none → (s : List ℕ) → LawfulReading ms s → ⊥
+  first-complete e s l = first-none e (fieldsIn s, lawful-fields ms l)
 
 pub some-first : (ms : List ℕ) → HasLawful ms → isNone (firstLawful ms) ≡ false
 some-first ms h = at (firstLawful ms) refl
@@ -61,12 +115,17 @@ has-first ms f = at (firstLawful ms) refl f
   where
     at : (o : Option (List ℕ)) → firstLawful ms ≡ o → isNone o ≡ false → HasLawful ms
     at none e g = clash true refl g
-    at (some r) e g = (r, first-sound ms e)
+    at (some r) e g = let (f, q, b) = found-fields ms e in (f, first-fields ms q .sound)
 
 -- ---- stretches
 pub prefix-lawful : (m : ℕ) (ms : List ℕ) → HasLawful ms → HasLawful (prefix m ms)
-prefix-lawful m ms (r, l) =
-    (restricted (length (longRests (prefix m ms))) r, record { bytes = restricted-bytes (prefix m ms) r (readingSize ms) (l .bytes); keeps = lawful-prefix m ms r (l .keeps) })
+prefix-lawful m ms (r, l) = (
+  restricted (length (longRests (prefix m ms))) r,
+  record {
+    bounded = restricted-bounded (length (longRests (prefix m ms))) (length (longRests ms)) r (l .bounded);
+    keeps = lawful-prefix m ms r (l .keeps);
+  },
+)
 
 pub shorter-lawful : (ms : List ℕ) (m n : ℕ) → m ≤ n → HasLawful (prefix n ms) → HasLawful (prefix m ms)
 shorter-lawful ms m n h l = rw (take-take m n ms h) at (prefix-lawful m (prefix n ms) l)
@@ -106,7 +165,7 @@ pub record Breach (ms : List ℕ) (m : ℕ) : Type 0 where
 
 empty-lawful : HasLawful []
 unfolding opened
-empty-lawful = ([], record { bytes = tt; keeps = refl })
+empty-lawful = ([], record { bounded = tt; keeps = refl })
 
 module _ (ms : List ℕ) where
   found : (c b : ℕ) → b + c ≡ length ms → (HasLawful ms → ⊥) → ((n : ℕ) → n < b → HasLawful (prefix n ms)) → Breach ms (leastFrom ms c b)

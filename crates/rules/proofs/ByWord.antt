@@ -19,7 +19,7 @@ use Rattle.rules.specs.declared.Accumulated.{Accumulated}
 use Rattle.rules.specs.declared.Breaches.{Breaches}
 use Rattle.rules.specs.Fixed.{cleared, rested, drove, accumulatedAtMost, keepsAccumulated, rule1, breachesBy, breaches, smallestRule, fixedTest}
 use Rattle.rules.specs.Reading.{entries}
-use Rattle.rules.specs.ReadingRules.{shortened, laterTest, readingTest}
+use Rattle.rules.specs.ReadingRules.{shortened, laterTest, fieldsTest}
 use Rattle.rules.proofs.RestWeekLaws.{insideRest, reading-by-rests}
 
 -- ---- rule 1: n minutes of an activity that is not rest
@@ -110,7 +110,7 @@ abbrev pub fixedBy : List ℕ → ℕ
 fixedBy ws = smallestRule (breachesByWord ws)
 
 abbrev pub readingBy : List ℕ → List ℕ → ℕ
-readingBy ws bytes = ifNone (fixedBy ws) (laterTest (insideRest (longRestsBy ws)) (shortened (closedBy 0 0 ws)) (judgedEndBy ws) (longRestsBy ws) (entries (longRestsBy ws) bytes))
+readingBy ws fields = ifNone (fixedBy ws) (laterTest (insideRest (longRestsBy ws)) (shortened (closedBy 0 0 ws)) (judgedEndBy ws) (longRestsBy ws) (entries (longRestsBy ws) fields))
 
 pub breaches-by : (ws : List ℕ) → breaches (minutesOf ws) ≡ breachesByWord ws
 unfolding breaches rule1 days
@@ -121,7 +121,7 @@ pub fixed-by : (ws : List ℕ) → fixedTest (minutesOf ws) ≡ fixedBy ws
 unfolding fixedTest
 fixed-by ws = ap smallestRule (breaches-by ws)
 
-pub reading-by : (ws bytes : List ℕ) → readingTest (minutesOf ws) bytes ≡ readingBy ws bytes
-reading-by ws bytes =
-    reading-by-rests (minutesOf ws) bytes
+pub reading-by : (ws fields : List ℕ) → fieldsTest (minutesOf ws) fields ≡ readingBy ws fields
+reading-by ws fields =
+    reading-by-rests (minutesOf ws) fields
     ∙ rw (fixed-by ws, judged-by ws, rests-by ws, closed-rests-by ws)

@@ -1,5 +1,5 @@
 -- The starred cases of document 01, "On the edge", a worked case at each edge of a number, cases of several fixed rules that break at one minute, cases
--- of the verdict beside the first reading, and cases of the spans of weeks, under one law and one test that is computed.
+-- of the verdict beside the first reading, cases of the spans of weeks, and cases of a year, under one law and one test that is computed.
 -- Assumes nothing.
 use mathlib.Core.Path.{_≡_, refl, sym, ap, ap₂, _∙_}
 use mathlib.Core.Logic.{_⊎_, inl, inr}
@@ -24,16 +24,16 @@ use Rattle.recording.proofs.ByWord.{longRestsBy, rests-by, totalBy, total-by, c
 use Rattle.recording.specs.Scan.{cutAt}
 use Rattle.rules.specs.declared.Breaches.{Breaches}
 use Rattle.rules.specs.Fixed.{breaches, smallestRule, fixedTest, byArticle, firstArticle}
-use Rattle.rules.specs.Reading.{Entry, dailyKind, weeklyKind, entryBytes, readingSize}
+use Rattle.rules.specs.Reading.{Entry, dailyKind, weeklyKind, entryBytes, readingSize, byteValues, fieldsIn}
 use Rattle.rules.specs.ReadingRules.{shortened, readingTest}
-use Rattle.rules.specs.Order.{byteValues, Bytes}
+use Rattle.rules.specs.Order.{Bytes}
 use Rattle.rules.specs.Verdict.{lawful, firstLawful, prefix, article, articleBy, Verdict, pass, breach, verdict}
 use Rattle.rules.specs.Operations.{breachesTested, fixedTested, articleTested, passed, breached, findingOf, verdictGiven, readingInto, firstReadingGiven}
 use Rattle.rules.specs.Spans.{weeksBegun, spansBeginning, spansFrom, spanMinutes, isBreach, breaching, shorterInside, leastBreach, breachSpans, listInto, spansGiven}
 use Rattle.rules.specs.declared.Weeks.{Weeks}
 use Rattle.rules.specs.Opened.{opened}
 use Rattle.rules.proofs.RuleLaws.{lawful-rules}
-use Rattle.rules.proofs.Breach.{Lawful, first-none, is-none, verdict-breach, verdict-pass}
+use Rattle.rules.proofs.Breach.{LawfulReading, lawful-fields, first-none, is-none, verdict-breach, verdict-pass}
 use Rattle.rules.proofs.Spans.{span, lawful-passes, none-breaches, span-is}
 use Rattle.rules.proofs.ByWord.{breachesByWord, breaches-by, fixedBy, fixed-by, readingBy, reading-by, keepsAccumulatedBy}
 use Rattle.rules.proofs.OnlyDaily.{neverWeekly, allDaily, daily-first, daily-none}
@@ -165,15 +165,15 @@ abbrev dailyBy : List ℕ → List ℕ
 dailyBy ws = replicate (entryBytes * length (longRestsBy ws)) 0
 
 abbrev lawfulBy : List ℕ → List ℕ → Bool
-lawfulBy ws reading = eqb (readingBy ws reading) 0
+lawfulBy ws reading = eqb (readingBy ws (fieldsIn reading)) 0
 
 abbrev noneBy : List ℕ → Bool
 noneBy ws = not (eqb (fixedBy ws) 0) or (allOf neverWeekly (longRestsBy ws) and not (lawfulBy ws (dailyBy ws)))
 
 module _ (ws : List ℕ) where
   lawful-by : (reading : List ℕ) → lawful (minutesOf ws) reading ≡ lawfulBy ws reading
-  unfolding lawful
-  lawful-by reading = ap (λ (n : ℕ). eqb n 0) (reading-by ws reading)
+  unfolding lawful readingTest
+  lawful-by reading = ap (λ (n : ℕ). eqb n 0) (reading-by ws (fieldsIn reading))
 
   daily-by : allDaily (minutesOf ws) ≡ dailyBy ws
   unfolding readingSize
@@ -272,11 +272,11 @@ breaks-by own reading t = at (noneBy own) refl (or-cases _ _ t)
     at false e (inl k) = absurd (false≢true (sym e ∙ k))
     at false e (inr k) =
         lawful-passes (minutesOf own) (
-          reading,
-          record {
+          fieldsIn reading,
+          lawful-fields (minutesOf own) (record {
             bytes = bytes-test (readingSize (minutesOf own)) reading (ap (λ (n : ℕ). bytesTest n reading) (size-by own) ∙ and-left _ _ k);
             keeps = lawful-by own reading ∙ and-right _ _ k;
-          },
+          }),
         )
 
 each-by : (ws : List ℕ) (ss : List Weeks) (rs : List (List ℕ)) → eachReadable ws ss rs ≡ true → (s : Weeks) → In s ss → breaching (minutesOf ws) s ≡ spanBy ws s
@@ -373,13 +373,13 @@ holds (together ws m broken rule place) =
     sameNumbers (places (breachesByWord (cutAt m ws))) broken and
     eqb (smallestRule (breachesByWord (cutAt m ws))) rule and
     eqb (firstArticle (breachesByWord (cutAt m ws))) place
-holds (tests ws reading n) = eqb (readingBy ws reading) n
+holds (tests ws reading n) = eqb (readingBy ws (fieldsIn reading)) n
 holds (counts closed p start end load b) = pick b (shortened closed (dailyRest p start end load)) (not (shortened closed (dailyRest p start end load)))
 
 -- THE LAW
 module _ (ws : List ℕ) (m : ℕ) where
   lawful-there : {reading : List ℕ} → bytesTest (entryBytes * length (longRestsBy (cutAt m ws))) reading ≡ true → lawfulBy (cutAt m ws) reading ≡ true
-      → Lawful (prefix m (minutesOf ws)) reading
+      → LawfulReading (prefix m (minutesOf ws)) reading
   lawful-there {reading} b t = rw (← cut-at m ws) (record {
     bytes = bytes-test (readingSize (minutesOf (cutAt m ws))) reading (rw (size-by (cutAt m ws)) b);
     keeps = rw (lawful-by (cutAt m ws) reading) t;
@@ -402,12 +402,12 @@ breach-there ws reading (suc m) n t =
     let t2 = and-left _ _ t1 in
     let t3 = and-left _ _ t2 in
     let within = leb-true (suc m) (totalBy ws) (and-left _ _ t3) in
-    verdict-breach (minutesOf ws) m (reading, lawful-there ws m (and-right _ _ t3) (and-right _ _ t2)) (none-there ws (suc m) (and-right _ _ t1))
+    verdict-breach (minutesOf ws) m (fieldsIn reading, lawful-fields (prefix m (minutesOf ws)) (lawful-there ws m (and-right _ _ t3) (and-right _ _ t2))) (none-there ws (suc m) (and-right _ _ t1))
     (rw (total-by ws) within)
     ∙ ap (breach (suc m)) (article-there ws (suc m) ∙ eqb-true _ n (and-right _ _ t))
 
 says : (c : Case) → holds c ≡ true → Says c
-unfolding holds fixedTested articleTested
+unfolding holds fixedTested articleTested readingTest
 says (passes ws) t = daily-pass ws t
 says (breaks ws reading m n) t = breach-there ws reading m n t
 says (reads ws room reading) t =
@@ -432,7 +432,7 @@ says (together ws m broken rule place) t =
       ap (λ (x : Answer Breaches). andThen x (λ b. answered (smallestRule b))) there ∙ ap answered (eqb-true _ rule (and-right _ _ t1)),
       ap (λ (x : Answer Breaches). andThen x (λ b. answered (firstArticle b))) there ∙ ap answered (eqb-true _ place (and-right _ _ t)),
     )
-says (tests ws reading n) t = reading-by ws reading ∙ eqb-true _ n t
+says (tests ws reading n) t = reading-by ws (fieldsIn reading) ∙ eqb-true _ n t
 says (counts closed p start end load true) t = t
 says (counts closed p start end load false) t = not-true (shortened closed (dailyRest p start end load)) t
 
@@ -459,10 +459,13 @@ times zero part after = after
 times (suc n) part after = part ++ times n part after
 
 abbrev pub daily : ℕ → List ℕ → List ℕ
-daily k after = times k (dailyKind ∷ 0 ∷ 0 ∷ []) after
+daily k after = times k (dailyKind ∷ 0 ∷ 0 ∷ 0 ∷ []) after
+
+abbrev pub weeklyBy : ℕ → ℕ → ℕ → List ℕ → List ℕ
+weeklyBy week low high after = weeklyKind ∷ week ∷ low ∷ high ∷ after
 
 abbrev pub weekly : ℕ → ℕ → List ℕ → List ℕ
-weekly week carrier after = weeklyKind ∷ week ∷ carrier ∷ after
+weekly week carrier after = weeklyBy week carrier 0 after
 
 abbrev pub restOf : ℕ → ℕ → Span
 restOf start end = record { start = start; end = end }
@@ -643,15 +646,15 @@ abbrev pub asked : List Case
 asked =
     reads [] 0 (answered []) ∷
     reads (w 900 ∷ []) 0 (answered []) ∷
-    reads (w 900 ∷ r 540 ∷ w 1 ∷ []) 2 (refused 4) ∷
-    reads (w 900 ∷ r 540 ∷ w 1 ∷ []) 3 (answered (daily 1 [])) ∷
+    reads (w 900 ∷ r 540 ∷ w 1 ∷ []) 3 (refused 4) ∷
     reads (w 900 ∷ r 540 ∷ w 1 ∷ []) 4 (answered (daily 1 [])) ∷
-    reads (times 3 (w 840 ∷ r 600 ∷ []) (w 1 ∷ [])) 8 (refused 4) ∷
-    reads (times 3 (w 840 ∷ r 600 ∷ []) (w 1 ∷ [])) 9 (answered (daily 3 [])) ∷
+    reads (w 900 ∷ r 540 ∷ w 1 ∷ []) 5 (answered (daily 1 [])) ∷
+    reads (times 3 (w 840 ∷ r 600 ∷ []) (w 1 ∷ [])) 11 (refused 4) ∷
+    reads (times 3 (w 840 ∷ r 600 ∷ []) (w 1 ∷ [])) 12 (answered (daily 3 [])) ∷
     readsNone (r 15 ∷ d 270 ∷ r 30 ∷ d 1 ∷ []) [] 316 1 0 (refused 13) ∷
     readsNone (w 901 ∷ []) [] 901 5 0 (refused 13) ∷
-    readsNone (times 4 (w 840 ∷ r 600 ∷ []) (w 1 ∷ [])) (daily 3 []) 5761 6 11 (refused 4) ∷
-    readsNone (times 4 (w 840 ∷ r 600 ∷ []) (w 1 ∷ [])) (daily 3 []) 5761 6 12 (refused 13) ∷
+    readsNone (times 4 (w 840 ∷ r 600 ∷ []) (w 1 ∷ [])) (daily 3 []) 5761 6 15 (refused 4) ∷
+    readsNone (times 4 (w 840 ∷ r 600 ∷ []) (w 1 ∷ [])) (daily 3 []) 5761 6 16 (refused 13) ∷
     []
 
 -- Request 6: the spans of weeks that are a breach alone, in a list that is short, just enough or longer
@@ -675,8 +678,21 @@ alone =
     spanning (w 900 ∷ r 9300 ∷ w 780 ∷ []) ([] ∷ weekly 0 0 [] ∷ [] ∷ []) 0 (answered []) ∷
     []
 
+-- Request 7: as many minutes as a year has, and a carrier by its two bytes
+abbrev pub year : List Case
+year =
+    passes (r 534240 ∷ []) ∷
+    reads (r 534240 ∷ []) 0 (answered []) ∷
+    breaks (w 900 ∷ r 532439 ∷ w 901 ∷ []) (weekly 0 0 []) 534240 5 ∷
+    -- the second of two rests pays back; 258 and 512 are no rests, and a daily rest has no carrier
+    tests (w 60 ∷ r 1440 ∷ w 60 ∷ r 1800 ∷ w 1 ∷ []) (weeklyBy 0 2 0 (daily 1 [])) 0 ∷
+    tests (w 60 ∷ r 1440 ∷ w 60 ∷ r 1800 ∷ w 1 ∷ []) (weeklyBy 0 2 1 (daily 1 [])) 6 ∷
+    tests (w 60 ∷ r 1440 ∷ w 60 ∷ r 1800 ∷ w 1 ∷ []) (weeklyBy 0 0 2 (daily 1 [])) 6 ∷
+    tests (w 900 ∷ r 540 ∷ w 1 ∷ []) (dailyKind ∷ 0 ∷ 0 ∷ 1 ∷ []) 6 ∷
+    []
+
 -- THE JOINT THEOREM
-pub on-the-edge : AllSay (starred ++ worked ++ ordered ++ asked ++ alone)
+pub on-the-edge : AllSay (starred ++ worked ++ ordered ++ asked ++ alone ++ year)
 unfolding opened endBy closedBy totalBy drivingUpTo cutAt keepsAccumulatedBy breaksBy holds bytesTest sameNumbers sameAnswer fromAt readable eachReadable spansBeginning spansFrom
     shorterInside leastBreach sameSpans sameList
-on-the-edge = all-say (starred ++ worked ++ ordered ++ asked ++ alone) refl
+on-the-edge = all-say (starred ++ worked ++ ordered ++ asked ++ alone ++ year) refl

@@ -17,7 +17,7 @@ use Rattle.recording.specs.Days.{latestEndFrom, latestEnd}
 use Rattle.recording.specs.declared.Span.{Span}
 use Rattle.recording.proofs.TestLaws.{clash, is-false, or-left, or-right}
 use Rattle.recording.proofs.LongRests.{Ordered, none, next, rests-ordered}
-use Rattle.rules.specs.Reading.{Entry, entryBytes, readingSize, entryOf, entriesFrom, entries}
+use Rattle.rules.specs.Reading.{Entry, entryFields, entryBytes, readingSize, entryOf, entriesFrom, entries}
 use Rattle.rules.specs.Verdict.{firstLawful}
 use Rattle.rules.specs.Operations.{entryAt, entryPart, entryRefusal}
 use Rattle.rules.proofs.FirstLaws.{bytes-length}
@@ -25,12 +25,12 @@ use Rattle.rules.proofs.Breach.{first-sound}
 
 -- ---- P at a rest's start
 -- an entry of rests in order: the first of them, or one past it
-module _ (n p : ℕ) (earlier : List Entry) (r : Span) (rs : List Span) (bytes : List ℕ) (e : Entry) where
+module _ (n p : ℕ) (earlier : List Entry) (r : Span) (rs : List Span) (fields : List ℕ) (e : Entry) where
   abbrev this : Entry
-  this = entryOf n p earlier r bytes
+  this = entryOf n p earlier r fields
 
   abbrev Past : Type 0
-  Past = In e (entriesFrom (suc n) (r .end) (entryOf n p earlier r bytes ∷ earlier) rs (drop entryBytes bytes))
+  Past = In e (entriesFrom (suc n) (r .end) (entryOf n p earlier r fields ∷ earlier) rs (drop entryFields fields))
 
   starts-on : {from : ℕ} → from ≤ r .start → r .start ≤ r .end → (e ≡ this) ⊎ Past → (Past → suc (r .end) ≤ e .span .start) → from ≤ e .span .start
   starts-on l m (inl q) later = rw q l
@@ -41,28 +41,28 @@ module _ (n p : ℕ) (earlier : List Entry) (r : Span) (rs : List Span) (bytes :
   before-is m (inl q) later ih = rw (q, lt-leb (r .end) (r .start) m) refl
   before-is m (inr j) later ih = rw (le-leb (r .end) (e .span .start) (omega (arith, later j))) (ih j)
 
-starts-after : (n p : ℕ) (earlier : List Entry) (bytes : List ℕ) {to from : ℕ} {rs : List Span} → Ordered to from rs
-    → (e : Entry) → In e (entriesFrom n p earlier rs bytes) → from ≤ e .span .start
+starts-after : (n p : ℕ) (earlier : List Entry) (fields : List ℕ) {to from : ℕ} {rs : List Span} → Ordered to from rs
+    → (e : Entry) → In e (entriesFrom n p earlier rs fields) → from ≤ e .span .start
 unfolding entriesFrom
-starts-after n p earlier bytes none e i = absurd (List·Memᴰ·not-nil i)
-starts-after n p earlier bytes (next {r = r} {rs = rs} l m d o) e i =
-    starts-on n p earlier r rs bytes e l (omega arith) (List·Memᴰ·cases-cons i)
-    (λ j. starts-after (suc n) (r .end) (entryOf n p earlier r bytes ∷ earlier) (drop entryBytes bytes) o e j)
+starts-after n p earlier fields none e i = absurd (List·Memᴰ·not-nil i)
+starts-after n p earlier fields (next {r = r} {rs = rs} l m d o) e i =
+    starts-on n p earlier r rs fields e l (omega arith) (List·Memᴰ·cases-cons i)
+    (λ j. starts-after (suc n) (r .end) (entryOf n p earlier r fields ∷ earlier) (drop entryFields fields) o e j)
 
-before-from : (n p : ℕ) (earlier : List Entry) (bytes : List ℕ) {to from : ℕ} {rs : List Span} → Ordered to from rs
-    → (e : Entry) → In e (entriesFrom n p earlier rs bytes) → e .before ≡ latestEndFrom p rs (e .span .start)
+before-from : (n p : ℕ) (earlier : List Entry) (fields : List ℕ) {to from : ℕ} {rs : List Span} → Ordered to from rs
+    → (e : Entry) → In e (entriesFrom n p earlier rs fields) → e .before ≡ latestEndFrom p rs (e .span .start)
 unfolding entriesFrom latestEndFrom
-before-from n p earlier bytes none e i = absurd (List·Memᴰ·not-nil i)
-before-from n p earlier bytes (next {r = r} {rs = rs} l m d o) e i =
-    before-is n p earlier r rs bytes e (omega arith) (List·Memᴰ·cases-cons i)
-    (λ j. starts-after (suc n) (r .end) (entryOf n p earlier r bytes ∷ earlier) (drop entryBytes bytes) o e j)
-    (λ j. before-from (suc n) (r .end) (entryOf n p earlier r bytes ∷ earlier) (drop entryBytes bytes) o e j)
+before-from n p earlier fields none e i = absurd (List·Memᴰ·not-nil i)
+before-from n p earlier fields (next {r = r} {rs = rs} l m d o) e i =
+    before-is n p earlier r rs fields e (omega arith) (List·Memᴰ·cases-cons i)
+    (λ j. starts-after (suc n) (r .end) (entryOf n p earlier r fields ∷ earlier) (drop entryFields fields) o e j)
+    (λ j. before-from (suc n) (r .end) (entryOf n p earlier r fields ∷ earlier) (drop entryFields fields) o e j)
 
-pub entry-at-P : (ms bytes : List ℕ) (e : Entry) → In e (entries (longRests ms) bytes) → e .before ≡ latestEnd ms (e .span .start)
+pub entry-at-P : (ms fields : List ℕ) (e : Entry) → In e (entries (longRests ms) fields) → e .before ≡ latestEnd ms (e .span .start)
 unfolding entries latestEnd
-entry-at-P ms bytes e i = before-from 1 0 [] bytes (rests-ordered ms) e i
+entry-at-P ms fields e i = before-from 1 0 [] fields (rests-ordered ms) e i
 
--- ---- "into the first 3 × k bytes": what a pass writes
+-- ---- into the first 4 × k bytes: what a pass writes
 pub first-size : (ms r : List ℕ) → firstLawful ms ≡ some r → length r ≡ readingSize ms
 first-size ms r e = bytes-length (readingSize ms) r (first-sound ms e .bytes)
 

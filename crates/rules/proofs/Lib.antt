@@ -1,4 +1,5 @@
 pub mod FirstLaws
+pub mod FieldLaws
 pub mod ArticleOrder
 pub mod RuleLaws
 pub mod FixedPrefix

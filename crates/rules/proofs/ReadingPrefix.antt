@@ -17,7 +17,7 @@ use Rattle.recording.specs.Weeks.{weekStart, week, isRest, touches, restOnly}
 use Rattle.recording.specs.declared.Span.{Span}
 use Rattle.recording.proofs.TestLaws.{and-left, and-right, and-both, or-cases, or-left, or-right, or-else, is-false, below-at, at-below}
 use Rattle.recording.proofs.LongRests.{Ordered, none, next}
-use Rattle.rules.specs.Reading.{Entry, dailyKind, weeklyKind, asRead, isWeekly, isRegular, reductionOf, compensationOf, entryBytes, entryOf, entriesFrom, upTo, restrictFrom}
+use Rattle.rules.specs.Reading.{Entry, dailyKind, weeklyKind, asRead, isWeekly, isRegular, reductionOf, compensationOf, entryFields, entryOf, entriesFrom, upTo, restrictFrom}
 use Rattle.rules.specs.ReadingRules.{formedDaily, formedWeekly, formed, longEnough, deadline, endOf, byDeadline, settles, compensated, weeklyGap, inGap}
 use Rattle.rules.specs.ReadingRules.{portionUnder, dayBefore, fullPortion, secondPeriod, shortened, shortenedAtMost, rule9From}
 use Rattle.rules.specs.ReadingRules.{rule10From, ofKind, countedIn, enoughIn, rule11}
@@ -49,48 +49,48 @@ compensation-cut k j [] h l = refl
 compensation-cut k j (e ∷ es) h l =
     ap₂ _+_ (ap (λ (b : Bool). pick b (reductionOf (asRead e)) 0) (up-to-same (e .compensatedBy) k j _ refl h l)) (compensation-cut k j es h l)
 
-pub entries-cut : (k n p : ℕ) (earlier : List Entry) (rs : List Span) (bytes : List ℕ) → 1 ≤ n → n + length rs ≤ suc k
-    → entriesFrom n p (map (cut k) earlier) rs (restrictFrom k (length rs) bytes) ≡ map (cut k) (entriesFrom n p earlier rs bytes)
+pub entries-cut : (k n p : ℕ) (earlier : List Entry) (rs : List Span) (fields : List ℕ) → 1 ≤ n → n + length rs ≤ suc k
+    → entriesFrom n p (map (cut k) earlier) rs (restrictFrom k (length rs) fields) ≡ map (cut k) (entriesFrom n p earlier rs fields)
 unfolding entriesFrom restrictFrom
-entries-cut k n p earlier [] bytes h l = refl
-entries-cut k n p earlier (r ∷ rs) bytes h l =
+entries-cut k n p earlier [] fields h l = refl
+entries-cut k n p earlier (r ∷ rs) fields h l =
     let q : compensationOf n (map (cut k) earlier) ≡ compensationOf n earlier = compensation-cut k n earlier h (omega arith) in
     let f : ℕ → Entry = λ z. record {
       number = n;
       before = p;
       span = r;
-      kind = getD bytes 0 0;
-      week = getD bytes 1 0;
-      compensatedBy = upTo k (getD bytes 2 0);
+      kind = getD fields 0 0;
+      week = getD fields 1 0;
+      compensatedBy = upTo k (getD fields 2 0);
       compensation = z;
     } in
-    (λ i. f (q i) ∷ entriesFrom (suc n) (r .end) (f (q i) ∷ map (cut k) earlier) rs (restrictFrom k (length rs) (drop entryBytes bytes)))
+    (λ i. f (q i) ∷ entriesFrom (suc n) (r .end) (f (q i) ∷ map (cut k) earlier) rs (restrictFrom k (length rs) (drop entryFields fields)))
     ∙ ap (λ (es : List Entry). f (compensationOf n earlier) ∷ es)
-    (entries-cut k (suc n) (r .end) (entryOf n p earlier r bytes ∷ earlier) rs (drop entryBytes bytes) (omega arith) (omega arith))
+    (entries-cut k (suc n) (r .end) (entryOf n p earlier r fields ∷ earlier) rs (drop entryFields fields) (omega arith) (omega arith))
 
 -- ---- the entries past the stretch: each starts at s or later
 pub data Starts (s : ℕ) : List Entry → Type 0 where
   nil : Starts s []
   cons : {e : Entry} {es : List Entry} → s ≤ e .span .start → Starts s es → Starts s (e ∷ es)
 
-starts : (s n p : ℕ) (earlier : List Entry) (bytes : List ℕ) {to from : ℕ} {qs : List Span} → s ≤ from → Ordered to from qs → Starts s (entriesFrom n p earlier qs bytes)
+starts : (s n p : ℕ) (earlier : List Entry) (fields : List ℕ) {to from : ℕ} {qs : List Span} → s ≤ from → Ordered to from qs → Starts s (entriesFrom n p earlier qs fields)
 unfolding entriesFrom
-starts s n p earlier bytes h none = nil
-starts s n p earlier bytes h (next {r = r} l m e o) =
-    cons (le-trans h l) (starts s (suc n) (r .end) (entryOf n p earlier r bytes ∷ earlier) (drop entryBytes bytes) (omega arith) o)
+starts s n p earlier fields h none = nil
+starts s n p earlier fields h (next {r = r} l m e o) =
+    cons (le-trans h l) (starts s (suc n) (r .end) (entryOf n p earlier r fields ∷ earlier) (drop entryFields fields) (omega arith) o)
 
-pub record Parts (s n p : ℕ) (earlier : List Entry) (rs qs : List Span) (bytes : List ℕ) : Type 0 where
+pub record Parts (s n p : ℕ) (earlier : List Entry) (rs qs : List Span) (fields : List ℕ) : Type 0 where
   pub later : List Entry
-  pub joined : entriesFrom n p earlier (rs ++ qs) bytes ≡ entriesFrom n p earlier rs bytes ++ later
+  pub joined : entriesFrom n p earlier (rs ++ qs) fields ≡ entriesFrom n p earlier rs fields ++ later
   pub starting : Starts s later
 
-pub parts : (s n p : ℕ) (earlier : List Entry) (rs : List Span) (bytes : List ℕ) {to : ℕ} {qs : List Span} → Ordered to s qs → Parts s n p earlier rs qs bytes
+pub parts : (s n p : ℕ) (earlier : List Entry) (rs : List Span) (fields : List ℕ) {to : ℕ} {qs : List Span} → Ordered to s qs → Parts s n p earlier rs qs fields
 unfolding entriesFrom
-parts s n p earlier [] bytes {qs = qs} o =
-    record { later = entriesFrom n p earlier qs bytes; joined = refl; starting = starts s n p earlier bytes (le-refl _) o }
-parts s n p earlier (r ∷ rs) bytes o =
-    let i = parts s (suc n) (r .end) (entryOf n p earlier r bytes ∷ earlier) rs (drop entryBytes bytes) o in
-    record { later = i .later; joined = ap (λ (es : List Entry). entryOf n p earlier r bytes ∷ es) (i .joined); starting = i .starting }
+parts s n p earlier [] fields {qs = qs} o =
+    record { later = entriesFrom n p earlier qs fields; joined = refl; starting = starts s n p earlier fields (le-refl _) o }
+parts s n p earlier (r ∷ rs) fields o =
+    let i = parts s (suc n) (r .end) (entryOf n p earlier r fields ∷ earlier) rs (drop entryFields fields) o in
+    record { later = i .later; joined = ap (λ (es : List Entry). entryOf n p earlier r fields ∷ es) (i .joined); starting = i .starting }
 
 -- ---- a test at every entry, with another that is known of it
 pub all-cut : (k : ℕ) (f g h : Entry → Bool) → ((e : Entry) → g e ≡ true → h e ≡ true → f (cut k e) ≡ true)

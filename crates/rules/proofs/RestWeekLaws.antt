@@ -15,7 +15,7 @@ use Rattle.recording.proofs.RestWeeks.{rest-week}
 use Rattle.rules.specs.Broken.{ifNone}
 use Rattle.rules.specs.Fixed.{fixedTest}
 use Rattle.rules.specs.Reading.{Entry, entries, isWeekly, isRegular}
-use Rattle.rules.specs.ReadingRules.{shortened, weeklyAtLeast, regularAtLeast, ofKind, countedIn, enoughIn, rule11, laterTest, readingTest}
+use Rattle.rules.specs.ReadingRules.{shortened, weeklyAtLeast, regularAtLeast, ofKind, countedIn, enoughIn, rule11, laterTest, fieldsTest}
 use Rattle.rules.proofs.ReadingPrefix.{pair-enough, pairs-enough}
 use Rattle.rules.specs.declared.Kind.{Kind}
 
@@ -49,8 +49,8 @@ pub later-same : (p q : ℕ → Bool) (counts : Entry → Bool) (s : ℕ) (rs : 
 unfolding laterTest
 later-same p q counts s rs es e = rw (rule11-same p q s es e)
 
-pub reading-by-rests : (ms bytes : List ℕ)
-    → readingTest ms bytes ≡ ifNone (fixedTest ms) (laterTest (insideRest (longRests ms)) (shortened (closedRests ms)) (judgedEnd ms) (longRests ms) (entries (longRests ms) bytes))
-unfolding readingTest
-reading-by-rests ms bytes =
-    ap (ifNone (fixedTest ms)) (later-same (restOnly ms) (insideRest (longRests ms)) _ (judgedEnd ms) (longRests ms) (entries (longRests ms) bytes) (rest-week ms))
+pub reading-by-rests : (ms fields : List ℕ)
+    → fieldsTest ms fields ≡ ifNone (fixedTest ms) (laterTest (insideRest (longRests ms)) (shortened (closedRests ms)) (judgedEnd ms) (longRests ms) (entries (longRests ms) fields))
+unfolding fieldsTest
+reading-by-rests ms fields =
+    ap (ifNone (fixedTest ms)) (later-same (restOnly ms) (insideRest (longRests ms)) _ (judgedEnd ms) (longRests ms) (entries (longRests ms) fields) (rest-week ms))

@@ -17,8 +17,8 @@ use Rattle.rules.specs.Fixed.{rule1, rule2, rule3, rule4, rule5, breache
 use Rattle.rules.proofs.ArticleOrder.{rule-none, none-rule}
 use Rattle.recording.specs.declared.Span.{Span}
 use Rattle.rules.specs.Reading.{Entry, asRead, isWeekly, entries}
-use Rattle.rules.specs.ReadingRules.{rule6, rule7, rule8, shortened, shortenedAtMost, rule9From, rule9, rule10, rule11, laterTest, readingTest}
-use Rattle.rules.specs.Verdict.{lawful}
+use Rattle.rules.specs.ReadingRules.{rule6, rule7, rule8, shortened, shortenedAtMost, rule9From, rule9, rule10, rule11, laterTest, fieldsTest}
+use Rattle.rules.specs.Verdict.{lawfulFields}
 
 holds : (b : Bool) (n later : ℕ) → unless b (suc n) later ≡ 0 → (b ≡ true) × (later ≡ 0)
 holds true n later e = (refl, e)
@@ -101,31 +101,31 @@ pub later-counts : (restWeek : ℕ → Bool) (f g : Entry → Bool) (s : ℕ) (r
 unfolding laterTest rule9
 later-counts restWeek f g s rs es same = rw (rule9-same f g 0 es same)
 
-pub record AllRules (ms bytes : List ℕ) : Type 0 where
+pub record AllRules (ms fields : List ℕ) : Type 0 where
   pub fixed : fixedTest ms ≡ 0
-  pub six : rule6 (length (longRests ms)) (entries (longRests ms) bytes) ≡ true
-  pub seven : rule7 (entries (longRests ms) bytes) ≡ true
-  pub eight : rule8 (judgedEnd ms) (longRests ms) (entries (longRests ms) bytes) ≡ true
-  pub nine : rule9 (shortened (closedRests ms)) (entries (longRests ms) bytes) ≡ true
-  pub ten : rule10 (judgedEnd ms) (entries (longRests ms) bytes) ≡ true
-  pub eleven : rule11 (restOnly ms) (judgedEnd ms) (entries (longRests ms) bytes) ≡ true
+  pub six : rule6 (length (longRests ms)) (entries (longRests ms) fields) ≡ true
+  pub seven : rule7 (entries (longRests ms) fields) ≡ true
+  pub eight : rule8 (judgedEnd ms) (longRests ms) (entries (longRests ms) fields) ≡ true
+  pub nine : rule9 (shortened (closedRests ms)) (entries (longRests ms) fields) ≡ true
+  pub ten : rule10 (judgedEnd ms) (entries (longRests ms) fields) ≡ true
+  pub eleven : rule11 (restOnly ms) (judgedEnd ms) (entries (longRests ms) fields) ≡ true
 
-pub all-rules : (ms bytes : List ℕ) → readingTest ms bytes ≡ 0 → AllRules ms bytes
-unfolding readingTest
-all-rules ms bytes t =
+pub all-rules : (ms fields : List ℕ) → fieldsTest ms fields ≡ 0 → AllRules ms fields
+unfolding fieldsTest
+all-rules ms fields t =
     let f = none-broken _ _ t in
-    let l = later-rules (restOnly ms) (shortened (closedRests ms)) (judgedEnd ms) (longRests ms) (entries (longRests ms) bytes) (f .1) in
+    let l = later-rules (restOnly ms) (shortened (closedRests ms)) (judgedEnd ms) (longRests ms) (entries (longRests ms) fields) (f .1) in
     record { fixed = f .0; six = l .six; seven = l .seven; eight = l .eight; nine = l .nine; ten = l .ten; eleven = l .eleven }
 
-pub rules-all : (ms bytes : List ℕ) → AllRules ms bytes → readingTest ms bytes ≡ 0
-unfolding readingTest laterTest
-rules-all ms bytes a = simp (a .fixed, a .six, a .seven, a .eight, a .nine, a .ten, a .eleven)
+pub rules-all : (ms fields : List ℕ) → AllRules ms fields → fieldsTest ms fields ≡ 0
+unfolding fieldsTest laterTest
+rules-all ms fields a = simp (a .fixed, a .six, a .seven, a .eight, a .nine, a .ten, a .eleven)
 
 -- "A reading is lawful when all eleven hold."
-pub lawful-rules : (ms bytes : List ℕ) → lawful ms bytes ≡ true → AllRules ms bytes
-unfolding lawful
-lawful-rules ms bytes t = all-rules ms bytes (eqb-true (readingTest ms bytes) 0 t)
+pub lawful-rules : (ms fields : List ℕ) → lawfulFields ms fields ≡ true → AllRules ms fields
+unfolding lawfulFields
+lawful-rules ms fields t = all-rules ms fields (eqb-true (fieldsTest ms fields) 0 t)
 
-pub rules-lawful : (ms bytes : List ℕ) → AllRules ms bytes → lawful ms bytes ≡ true
-unfolding lawful
-rules-lawful ms bytes a = eq-eqb (readingTest ms bytes) 0 (rules-all ms bytes a)
+pub rules-lawful : (ms fields : List ℕ) → AllRules ms fields → lawfulFields ms fields ≡ true
+unfolding lawfulFields
+rules-lawful ms fields a = eq-eqb (fieldsTest ms fields) 0 (rules-all ms fields a)

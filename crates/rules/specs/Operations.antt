@@ -1,5 +1,5 @@
--- Public: document 01, "Operations", the tests, the verdict, and the entry of a reading; with the test of document 02, request 4, and the verdict as
--- request 5 splits it.
+-- Public: document 01, "Operations", the tests, the verdict, and the entry of a reading; with the test of document 02, request 4, the verdict as
+-- request 5 splits it, and the counts of request 7: "Counts of 3 × k become 4 × k, the entry shown is four bytes, and 2, 4, 6 and 7 follow."
 -- Assumes nothing.
 use mathlib.Core.Bool.{not}
 use mathlib.Core.Path.{_≡_}
@@ -32,7 +32,7 @@ fixedTested words m = andThen (breachesTested words m) (λ b. answered (smallest
 unfoldable pub articleTested : List ℕ → ℕ → Answer ℕ
 articleTested words m = andThen (breachesTested words m) (λ b. answered (firstArticle b))
 
--- "Testing a reading: 1, 2; then 6, its byte count isn't 3 × k. The answer is 0 or the smallest broken rule."
+-- "Testing a reading: 1, 2; then 6, its byte count isn't" 4 × k. "The answer is 0 or the smallest broken rule."
 unfoldable pub readingTested : List ℕ → List ℕ → Answer ℕ
 readingTested words reading =
     andThen (measured words) (λ k.
@@ -52,7 +52,7 @@ unfoldable pub verdictGiven : List ℕ → Answer Finding
 verdictGiven words = andThen (measured words) (λ _. answered (findingOf (verdict (minutesOf words))))
 
 -- "the second turns away 1, 2 and 4, then 13 when the verdict is a breach." Here for a buffer of `room` bytes; as document 01 has it, 4 is "the reading
--- buffer is under 3 × k bytes", and the reading goes "into the first 3 × k bytes; the rest stays". `counted` and `filled` of it are the result and the bytes.
+-- buffer is under" 4 × k bytes, and the reading goes into the first 4 × k bytes; "the rest stays". `counted` and `filled` of it are the result and the bytes.
 abbrev pub readingOf : Verdict → Answer (List ℕ)
 readingOf (pass reading) = answered reading
 readingOf (breach m a) = refused 13
@@ -63,7 +63,7 @@ readingInto room rests v = refuseIf (ltb room (entryBytes * rests)) 4 (readingOf
 unfoldable pub firstReadingGiven : List ℕ → ℕ → Answer (List ℕ)
 firstReadingGiven words room = andThen (measured words) (λ k. readingInto room (k .count) (verdict (minutesOf words)))
 
--- "Entry of a reading: 6, byte count not a multiple of 3; then 7, number 0 or over a third of the count. The answer is the three bytes themselves
+-- "Entry of a reading: 6, byte count not a multiple of" 4; "then 7, number 0 or over" a fourth "of the count. The answer is the" four "bytes themselves
 -- in the caller's reading."
 unfoldable pub entryAt : List ℕ → ℕ → Answer (List ℕ)
 entryAt reading number =
@@ -81,7 +81,7 @@ abbrev pub entryRefusal : Answer (List ℕ) → ℕ
 entryRefusal (refused n) = n
 entryRefusal (answered part) = 0
 
--- "the three bytes themselves in the caller's reading": in its memory, from 3 × (number − 1) bytes on. A place is a block of memory and an offset in it.
+-- The four bytes "themselves in the caller's reading": in its memory, from 4 × (number − 1) bytes on. A place is a block of memory and an offset in it.
 abbrev pub entryInReading : Answer (List ℕ) → ℕ → ℕ × ℕ → ℕ × ℕ → Type 0
 entryInReading (refused n) number reading part = Unit {0}
 entryInReading (answered bytes) number reading part = (part .0 ≡ reading .0) × (part .1 ≡ reading .1 + entryBytes * (number - 1))

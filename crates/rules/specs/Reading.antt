@@ -1,9 +1,9 @@
--- Public: document 01, "Readings", what a reading says of each long rest.
+-- Public: document 01, "Readings", what a reading says of each long rest; in the bytes of document 02, request 7.
 -- "All differences below are whole numbers and may be negative": none is formed; a term that is taken away stands on the other side instead.
 -- Assumes nothing.
 use mathlib.Core.Bool.{Bool, true, false}
 use mathlib.Core.List.{List, [], _∷_}
-use Prim.Native.Nat.{ℕ, zero, suc, _+_, _-_, _*_}
+use Prim.Native.Nat.{ℕ, zero, suc, _+_, _-_, _*_, _/_, _%_}
 use lib.Dec.{leb, ltb, eqb}
 use lib.ListN.{length, getD, drop}
 use Rattle.recording.specs.Tests.{pick}
@@ -14,7 +14,7 @@ use Rattle.rules.specs.declared.Standing.the-variants.{Regular, Reduced}
 use Rattle.rules.specs.declared.Kind.{Kind}
 use Rattle.rules.specs.declared.Kind.the-variants.{Daily, Weekly}
 
--- A long rest with its entry: its number from 1, P at its start, its minutes, and the entry's three bytes, of which the last is the carrier,
+-- A long rest with its entry: its number from 1, P at its start, its minutes, and the entry's fields, of which the last is the carrier,
 -- the rest that compensates for it; and the compensation that it gives itself, the document's load.
 pub record Entry : Type 0 where
   pub number : ℕ
@@ -74,42 +74,71 @@ unfoldable pub compensationOf : ℕ → List Entry → ℕ
 compensationOf j [] = 0
 compensationOf j (e ∷ es) = pick (eqb (e .compensatedBy) j) (reductionOf (asRead e)) 0 + compensationOf j es
 
--- "A reading has three bytes for each long rest: kind (0 daily, 1 weekly), week, carrier (0, or the number of the long rest that pays back)."
+-- ".. for each long rest: kind (0 daily, 1 weekly), week, carrier (0, or the number of the long rest that pays back)." These are the entry's fields. The
+-- fields of a reading are those of its entries, one after the other; the rules and the order of readings go by them.
+abbrev pub entryFields : ℕ
+entryFields = 3
+
+-- Document 02, request 7: "a reading's entry becomes four bytes: kind, week, carrier low, carrier high. .. Counts of 3 × k become 4 × k"
 abbrev pub entryBytes : ℕ
-entryBytes = 3
+entryBytes = 4
 
 unfoldable pub readingSize : List ℕ → ℕ
 readingSize ms = entryBytes * length (longRests ms)
 
--- The entry of the long rest s, of number n, with P at p, after the entries of the rests before it, where `bytes` is what is left of the reading.
+abbrev pub byteValues : ℕ
+byteValues = 256
+
+abbrev pub carrierOf : ℕ → ℕ → ℕ
+carrierOf low high = low + byteValues * high
+
+-- the fields that the bytes of a reading say, and the bytes that say fields; a part of an entry at the end says nothing
+unfoldable pub fieldsIn : List ℕ → List ℕ
+fieldsIn [] = []
+fieldsIn (kind ∷ []) = []
+fieldsIn (kind ∷ week ∷ []) = []
+fieldsIn (kind ∷ week ∷ low ∷ []) = []
+fieldsIn (kind ∷ week ∷ low ∷ high ∷ bytes) = kind ∷ week ∷ carrierOf low high ∷ fieldsIn bytes
+
+unfoldable pub bytesOf : List ℕ → List ℕ
+bytesOf [] = []
+bytesOf (kind ∷ []) = []
+bytesOf (kind ∷ week ∷ []) = []
+bytesOf (kind ∷ week ∷ carrier ∷ fields) = kind ∷ week ∷ carrier % byteValues ∷ carrier / byteValues ∷ bytesOf fields
+
+-- The entry of the long rest s, of number n, with P at p, after the entries of the rests before it, where `fields` is what is left of the reading.
 -- Rule 6 is read first and lets only a later rest compensate, so a rest compensates for rests that stand before it.
 abbrev pub entryOf : ℕ → ℕ → List Entry → Span → List ℕ → Entry
-entryOf n p earlier s bytes = record {
+entryOf n p earlier s fields = record {
   number = n;
   before = p;
   span = s;
-  kind = getD bytes 0 0;
-  week = getD bytes 1 0;
-  compensatedBy = getD bytes 2 0;
+  kind = getD fields 0 0;
+  week = getD fields 1 0;
+  compensatedBy = getD fields 2 0;
   compensation = compensationOf n earlier;
 }
 
 unfoldable pub entriesFrom : ℕ → ℕ → List Entry → List Span → List ℕ → List Entry
-entriesFrom n p earlier [] bytes = []
-entriesFrom n p earlier (s ∷ ss) bytes =
-    let e = entryOf n p earlier s bytes in
-    e ∷ entriesFrom (suc n) (s .end) (e ∷ earlier) ss (drop entryBytes bytes)
+entriesFrom n p earlier [] fields = []
+entriesFrom n p earlier (s ∷ ss) fields =
+    let e = entryOf n p earlier s fields in
+    e ∷ entriesFrom (suc n) (s .end) (e ∷ earlier) ss (drop entryFields fields)
 
 unfoldable pub entries : List Span → List ℕ → List Entry
-entries rs bytes = entriesFrom 1 0 [] rs bytes
+entries rs fields = entriesFrom 1 0 [] rs fields
 
--- A reading restricted to its first k entries: a carrier past them is set to 0. Of n entries that are left
+-- The fields of a reading restricted to its first k entries: a carrier past them is set to 0. Of n entries that are left
 abbrev pub upTo : ℕ → ℕ → ℕ
 upTo k carrier = pick (leb carrier k) carrier 0
 
 unfoldable pub restrictFrom : ℕ → ℕ → List ℕ → List ℕ
-restrictFrom k zero bytes = []
-restrictFrom k (suc n) bytes = getD bytes 0 0 ∷ getD bytes 1 0 ∷ upTo k (getD bytes 2 0) ∷ restrictFrom k n (drop entryBytes bytes)
+restrictFrom k zero fields = []
+restrictFrom k (suc n) fields = getD fields 0 0 ∷ getD fields 1 0 ∷ upTo k (getD fields 2 0) ∷ restrictFrom k n (drop entryFields fields)
 
 unfoldable pub restricted : ℕ → List ℕ → List ℕ
-restricted k bytes = restrictFrom k k bytes
+restricted k fields = restrictFrom k k fields
+
+-- the reading itself, restricted
+abbrev pub restrictedReading : ℕ → List ℕ → List ℕ
+restrictedReading k reading = bytesOf (restricted k (fieldsIn reading))

@@ -11,7 +11,7 @@ use Rattle.recording.specs.Weeks.{weekStart, weekOf, touches, restOnly, inside}
 use Rattle.recording.specs.declared.Span.{Span}
 use Rattle.rules.specs.Broken.{unless, ifNone}
 use Rattle.rules.specs.Fixed.{fixedTest}
-use Rattle.rules.specs.Reading.{Entry, minutes, dailyKind, weeklyKind, asRead, isWeekly, isRegular, entries}
+use Rattle.rules.specs.Reading.{Entry, minutes, dailyKind, weeklyKind, asRead, isWeekly, isRegular, fieldsIn, entries}
 use Rattle.rules.specs.declared.Kind.{Kind}
 use Rattle.rules.specs.declared.Kind.the-variants.{Daily, Weekly}
 use Rattle.rules.specs.declared.Standing.the-variants.{Regular, Reduced}
@@ -173,7 +173,10 @@ laterTest restWeek counts s rs es =
     unless (rule6 (length rs) es) 6 (unless (rule7 es) 7 (unless (rule8 s rs es) 8
     (unless (rule9 counts es) 9 (unless (rule10 s es) 10 (unless (rule11 restWeek s es) 11 0)))))
 
--- "Later rules are read only when the earlier ones hold." 0, or the smallest broken rule of 1 to 11
+-- "Later rules are read only when the earlier ones hold." 0, or the smallest broken rule of 1 to 11: by the fields of a reading, and of a reading
+unfoldable pub fieldsTest : List ℕ → List ℕ → ℕ
+fieldsTest ms fields =
+    ifNone (fixedTest ms) (laterTest (restOnly ms) (shortened (closedRests ms)) (judgedEnd ms) (longRests ms) (entries (longRests ms) fields))
+
 unfoldable pub readingTest : List ℕ → List ℕ → ℕ
-readingTest ms bytes =
-    ifNone (fixedTest ms) (laterTest (restOnly ms) (shortened (closedRests ms)) (judgedEnd ms) (longRests ms) (entries (longRests ms) bytes))
+readingTest ms reading = fieldsTest ms (fieldsIn reading)

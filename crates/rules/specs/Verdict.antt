@@ -7,18 +7,29 @@ use Prim.Native.Nat.{ℕ, zero, suc}
 use lib.Dec.{eqb}
 use lib.ListN.{length, take}
 use Rattle.recording.specs.Tests.{pick}
+use Rattle.recording.specs.Rests.{longRests}
 use Rattle.rules.specs.Fixed.{fixedTest}
-use Rattle.rules.specs.Reading.{readingSize}
-use Rattle.rules.specs.ReadingRules.{readingTest}
-use Rattle.rules.specs.Order.{first}
+use Rattle.rules.specs.Reading.{bytesOf}
+use Rattle.rules.specs.ReadingRules.{fieldsTest, readingTest}
+use Rattle.rules.specs.Order.{fieldBounds, first}
 
--- "A reading is lawful when all eleven hold."
+-- "A reading is lawful when all eleven hold.": a reading, and one with these fields
 unfoldable pub lawful : List ℕ → List ℕ → Bool
 lawful ms reading = eqb (readingTest ms reading) 0
 
--- "The first lawful reading is the one before every other lawful one of the same recording."
+unfoldable pub lawfulFields : List ℕ → List ℕ → Bool
+lawfulFields ms fields = eqb (fieldsTest ms fields) 0
+
+-- "The first lawful reading is the one before every other lawful one of the same recording.": its fields, and its bytes
+unfoldable pub firstFields : List ℕ → Option (List ℕ)
+firstFields ms = first (fieldBounds (length (longRests ms))) (lawfulFields ms)
+
+abbrev pub asBytes : Option (List ℕ) → Option (List ℕ)
+asBytes none = none
+asBytes (some fields) = some (bytesOf fields)
+
 unfoldable pub firstLawful : List ℕ → Option (List ℕ)
-firstLawful ms = first (readingSize ms) (lawful ms)
+firstLawful ms = asBytes (firstFields ms)
 
 abbrev pub isNone : Option (List ℕ) → Bool
 isNone none = true

@@ -1,15 +1,26 @@
-// The entry of a reading: the three bytes of a long rest, in the caller's own slice.
+// The entry of a reading: the four bytes of a long rest, in the caller's own slice.
 ghost use mathlib.Core.Path.{_≡_};
 ghost use Rattle.rules.specs.Operations.{entryAt, entryInReading, entryPart, entryRefusal};
+ghost use Rattle.rules.specs.Reading.{carrierOf};
 
-pub const ENTRY_BYTES: usize = 3;
+pub const ENTRY_BYTES: usize = 4;
+
+// The values of a byte.
+const BYTE_VALUES: u32 = 256;
 
 // Refusals: a byte count that is not one of entries, and no entry of that number.
 pub const BAD_COUNT: u32 = 6;
 
 const NO_ENTRY: u32 = 7;
 
-// The three bytes of the entry of a number, in the caller's reading; empty on a refusal.
+// The number of the carrier that an entry's last two bytes say.
+pub fn carrier_of(low: u8, high: u8) -> u32
+    ensures { λ r. ⌜ r ≡ carrierOf low high ⌝ }
+{
+    recording::wide(low) + BYTE_VALUES * recording::wide(high)
+}
+
+// The four bytes of the entry of a number, in the caller's reading; empty on a refusal.
 pub fn entry(reading: &[u8], number: usize) -> &[u8]
     ensures { λ r. ⌜ entryInReading (entryAt (now (reading .entry)) number) number (reading .entry .ptr) (r .ptr) ⌝ }
     ensures { λ r. ⌜ now r ≡ entryPart (entryAt (now (reading .entry)) number) ⌝ }
@@ -28,7 +39,7 @@ pub fn entry(reading: &[u8], number: usize) -> &[u8]
     &reading[at..end]
 }
 
-// 0, or why there is no such entry: 6 where the byte count is no multiple of 3, then 7 where the number is 0 or over a third of it.
+// 0, or why there is no such entry: 6 where the byte count is no multiple of 4, then 7 where the number is 0 or over a fourth of it.
 pub fn entry_refusal(reading: &[u8], number: usize) -> u32
     ensures { λ r. ⌜ r ≡ entryRefusal (entryAt (now (reading .entry)) number) ⌝ }
 {

@@ -10,16 +10,16 @@ use lib.Seq.{sets, sets-eq, take-append-seam}
 use borrow.Author.Tests.{leb-true, leb-false, ltb-true, ltb-false, lt-ltb, le-ltb}
 use Rattle.recording.specs.Tests.{_and_, pick}
 use Rattle.recording.specs.Words.{minutesOf}
-use Rattle.recording.specs.Rests.{closedRests, judgedEnd, longRests, longRestsAtMost}
+use Rattle.recording.specs.Rests.{closedRests, judgedEnd, longRests}
 use Rattle.recording.specs.Operations.{totalAtMost}
 use Rattle.recording.specs.declared.Span.{Span}
 use Rattle.recording.proofs.TestLaws.{and-false}
 use Rattle.recording.proofs.Walks.{judged-within}
-use Rattle.recording.proofs.LongRests.{Ordered, none, next, rests-ordered, restsPast, rests-split, few-rests}
+use Rattle.recording.proofs.LongRests.{Ordered, none, next, rests-ordered, restsPast, rests-split}
 use Rattle.rules.specs.Broken.{ifNone}
 use Rattle.rules.specs.Fixed.{fixedTest}
 use Rattle.rules.specs.Reading.{Entry, minutes, asRead, isWeekly, entries}
-use Rattle.rules.specs.ReadingRules.{dailyWindow, portionUnder, dayBefore, splitDay, fullPortion, secondPeriod, shortened, laterTest, readingTest}
+use Rattle.rules.specs.ReadingRules.{dailyWindow, portionUnder, dayBefore, splitDay, fullPortion, secondPeriod, shortened, laterTest, fieldsTest}
 use Rattle.rules.proofs.SplitDays.{split-stretch}
 use Rattle.rules.proofs.EntryPlaces.{entry-at}
 use Rattle.rules.proofs.RuleLaws.{later-counts}
@@ -128,10 +128,10 @@ nets-at closed p (s ∷ ss) (suc i) h = nets-at closed (s .end) ss i (omega arit
 
 -- ---- rules 6 to 11 by the numbers
 module _ (ms nets : List ℕ) (numbered : (i : ℕ) → i < length (longRests ms) → getD nets i 0 ≡ getD (netsOf ms) i 0) where
-  counts-right : (bytes : List ℕ) (e : Entry) → In e (entries (longRests ms) bytes) → isWeekly (asRead e) ≡ false → shortened (closedRests ms) e ≡ countsBy nets e
+  counts-right : (fields : List ℕ) (e : Entry) → In e (entries (longRests ms) fields) → isWeekly (asRead e) ≡ false → shortened (closedRests ms) e ≡ countsBy nets e
   unfolding entries netsOf countsBy
-  counts-right bytes e i daily =
-      let k = entry-at 1 0 [] bytes (rests-ordered ms) e i in
+  counts-right fields e i daily =
+      let k = entry-at 1 0 [] fields (rests-ordered ms) e i in
       let a = k .1 in
       let z : e .number - 1 ≡ k .0 = omega (arith, a .number) in
       let net : getD nets (e .number - 1) 0 ≡ regularNet (splitDay (closedRests ms) (dayBefore e)) (e .before) (e .span .start) (e .span .end) =
@@ -139,11 +139,11 @@ module _ (ms nets : List ℕ) (numbered : (i : ℕ) → i < length (longRests ms
       ∙ rw (← a .before, ← a .start, ← a .end) refl in
       net-says (closedRests ms) e (a .ordered) daily ∙ ap (λ (x : ℕ). ltb (minutes e) (x + e .compensation)) (sym net)
 
-  pub reading-by-numbers : (bytes : List ℕ)
-      → readingTest ms bytes ≡ ifNone (fixedTest ms) (laterTest (insideRest (longRests ms)) (countsBy nets) (judgedEnd ms) (longRests ms) (entries (longRests ms) bytes))
-  reading-by-numbers bytes =
-      reading-by-rests ms bytes
-      ∙ ap (ifNone (fixedTest ms)) (later-counts (insideRest (longRests ms)) _ _ (judgedEnd ms) (longRests ms) (entries (longRests ms) bytes) (counts-right bytes))
+  pub reading-by-numbers : (fields : List ℕ)
+      → fieldsTest ms fields ≡ ifNone (fixedTest ms) (laterTest (insideRest (longRests ms)) (countsBy nets) (judgedEnd ms) (longRests ms) (entries (longRests ms) fields))
+  reading-by-numbers fields =
+      reading-by-rests ms fields
+      ∙ ap (ifNone (fixedTest ms)) (later-counts (insideRest (longRests ms)) _ _ (judgedEnd ms) (longRests ms) (entries (longRests ms) fields) (counts-right fields))
 
 -- ---- a stretch has the first of the numbers
 nets-append : (closed : List Span) (p : ℕ) (rs qs : List Span) → (q : ℕ) × (netsFrom closed p (rs ++ qs) ≡ netsFrom closed p rs ++ netsFrom closed q qs)
@@ -175,8 +175,7 @@ pub front : (vs l : List ℕ) → length vs ≤ length l → take (length vs) (s
 front vs l h = ap (take (length vs)) (sets-eq vs l 0 (omega arith)) ∙ take-append-seam vs _
 
 pub nets-found : {ws starts ends nets starts′ ends′ nets′ : List ℕ} {r : Survey} → Surveyed ws starts ends nets r starts′ ends′ nets′
-    → length (minutesOf ws) ≤ totalAtMost → longRestsAtMost ≤ length nets → take (length (longRests (minutesOf ws))) nets′ ≡ netsOf (minutesOf ws)
-nets-found {ws} {nets = nets} {nets′ = nets′} v within room =
-    let few : length (longRests (minutesOf ws)) ≤ longRestsAtMost = few-rests (minutesOf ws) within in
+    → length (longRests (minutesOf ws)) ≤ length nets → take (length (longRests (minutesOf ws))) nets′ ≡ netsOf (minutesOf ws)
+nets-found {ws} {nets = nets} {nets′ = nets′} v room =
     let size : length (netsOf (minutesOf ws)) ≡ length (longRests (minutesOf ws)) = all-numbered (minutesOf ws) in
     ap (λ (n : ℕ). take n nets′) (sym size) ∙ ap (take (length (netsOf (minutesOf ws)))) (v .numbered) ∙ front (netsOf (minutesOf ws)) nets (omega arith)

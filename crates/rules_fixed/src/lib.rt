@@ -11,7 +11,6 @@ ghost use lib.ListN.{length, take};
 ghost use lib.Seq.{sets};
 ghost use Rattle.recording.specs.Tests.{pick};
 ghost use Rattle.recording.specs.Words.{minutesOf};
-ghost use Rattle.recording.specs.Rests.{longRestsAtMost};
 ghost use Rattle.recording.specs.Operations.{totalAtMost};
 ghost use Rattle.recording.specs.Scan.{restAt};
 ghost use Rattle.rules.specs.Broken.{firstPlace};
@@ -596,7 +595,8 @@ fn put_nets(head: u32, words: &[u32], nets: &mut [u32])
     }
 }
 
-// What the rules ask of a recording: its place at the end, the long rests' starts, ends and numbers by rule 9 in the lent slices, and the account.
+// What the rules ask of a recording: its place at the end, the long rests' starts, ends and numbers by rule 9 in the lent slices, as far as they reach, and the
+// account.
 pub fn survey_from(
     head: u32,
     words: &[u32],
@@ -604,8 +604,7 @@ pub fn survey_from(
     ends: &mut [u32],
     nets: &mut [u32],
 ) -> Survey
-    requires { ⌜ (length (minutesOf (head ∷ now words)) ≤ totalAtMost) × (longRestsAtMost ≤ length (now starts)) × (longRestsAtMost ≤ length (now ends))
-        × (longRestsAtMost ≤ length (now nets)) ⌝ }
+    requires { ⌜ length (minutesOf (head ∷ now words)) ≤ totalAtMost ⌝ }
     ensures { λ r. ⌜ Surveyed (head ∷ now (words .entry)) (now (starts .entry)) (now (ends .entry)) (now (nets .entry)) r (now (starts .exit)) (now (ends .exit))
         (now (nets .exit)) ⌝ }
 {
@@ -617,8 +616,7 @@ pub fn survey_from(
 
 // The same for words alone.
 pub fn survey_of(words: &[u32], starts: &mut [u32], ends: &mut [u32], nets: &mut [u32]) -> Survey
-    requires { ⌜ (length (minutesOf (now words)) ≤ totalAtMost) × (longRestsAtMost ≤ length (now starts)) × (longRestsAtMost ≤ length (now ends))
-        × (longRestsAtMost ≤ length (now nets)) ⌝ }
+    requires { ⌜ length (minutesOf (now words)) ≤ totalAtMost ⌝ }
     ensures { λ r. ⌜ Surveyed (now (words .entry)) (now (starts .entry)) (now (ends .entry)) (now (nets .entry)) r (now (starts .exit)) (now (ends .exit)) (now (nets .exit)) ⌝ }
 {
     survey_from(0, words, starts, ends, nets)

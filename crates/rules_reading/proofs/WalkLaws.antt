@@ -13,10 +13,11 @@ use Rattle.recording.specs.Tests.{_and_, pick, one, allOf, countOf}
 use Rattle.recording.specs.Operations.{totalAtMost}
 use Rattle.recording.specs.declared.Span.{Span}
 use Rattle.recording.proofs.TestLaws.{one-most}
-use Rattle.rules.specs.Reading.{Entry, minutes, regularMinutes, asRead, isWeekly, isRegular, reductionOf, compensationOf, entryBytes, entryOf, entriesFrom, entries}
+use Rattle.rules.specs.Reading.{Entry, minutes, regularMinutes, asRead, isWeekly, isRegular, reductionOf, compensationOf, entryFields, entryBytes, carrierOf, fieldsIn, entryOf, entriesFrom, entries}
 use Rattle.rules.specs.ReadingRules.{formed, formedDaily, formedWeekly, rule6, leastNet, longEnough, rule7, endOf}
 use Rattle.rules.specs.ReadingRules.{ofKind}
 use Rattle.rules.specs.declared.Kind.{Kind}
+use Rattle.rules.proofs.FieldLaws.{entry-fields}
 use Rattle.rules_fixed.specs.Nets.{countsBy}
 use Rattle.rules_reading.specs.declared.LongRest.{LongRest}
 use Rattle.rules_reading.specs.declared.Tally.{Tally}
@@ -26,11 +27,14 @@ use Rattle.rules_reading.specs.Items.{spansFrom, spansIn, Laid, Zeros, t
 
 -- ---- the entries that are left at index i, after those before them
 module _ (starts ends reading : List ℕ) (k : ℕ) where
+  abbrev fieldsLeft : ℕ → List ℕ
+  fieldsLeft i = drop (entryFields * i) (fieldsIn reading)
+
   abbrev pub left : ℕ → List Entry → List Entry
-  left i earlier = entriesFrom (suc i) (endBefore ends i) earlier (spansFrom starts ends i (k - i)) (drop (entryBytes * i) reading)
+  left i earlier = entriesFrom (suc i) (endBefore ends i) earlier (spansFrom starts ends i (k - i)) (drop (entryFields * i) (fieldsIn reading))
 
   abbrev pub thisEntry : ℕ → List Entry → Entry
-  thisEntry i earlier = entryOf (suc i) (endBefore ends i) earlier (spanAt starts ends i) (drop (entryBytes * i) reading)
+  thisEntry i earlier = entryOf (suc i) (endBefore ends i) earlier (spanAt starts ends i) (drop (entryFields * i) (fieldsIn reading))
 
   spans-next : (i : ℕ) → i < k → spansFrom starts ends i (k - i) ≡ spanAt starts ends i ∷ spansFrom starts ends (suc i) (k - suc i)
   unfolding spansFrom
@@ -39,78 +43,92 @@ module _ (starts ends reading : List ℕ) (k : ℕ) where
   pub left-next : (i : ℕ) (earlier : List Entry) → i < k → left i earlier ≡ thisEntry i earlier ∷ left (i + 1) (thisEntry i earlier ∷ earlier)
   unfolding entriesFrom
   left-next i earlier h =
-      let e : entryBytes * i + entryBytes ≡ entryBytes * suc i = omega arith in
-      ap (λ (l : List Span). entriesFrom (suc i) (endBefore ends i) earlier l (drop (entryBytes * i) reading)) (spans-next i h)
+      let e : entryFields * i + entryFields ≡ entryFields * suc i = omega arith in
+      ap (λ (l : List Span). entriesFrom (suc i) (endBefore ends i) earlier l (fieldsLeft i)) (spans-next i h)
       ∙ ap (λ (l : List ℕ). thisEntry i earlier ∷ entriesFrom (suc (suc i)) (getD ends i 0) (thisEntry i earlier ∷ earlier) (spansFrom starts ends (suc i) (k - suc i)) l)
-      (drop-drop entryBytes (entryBytes * i) reading ∙ ap (λ (n : ℕ). drop n reading) e)
+      (drop-drop entryFields (entryFields * i) (fieldsIn reading) ∙ ap (λ (n : ℕ). drop n (fieldsIn reading)) e)
       ∙ ap (λ (n : ℕ). thisEntry i earlier ∷ left n (thisEntry i earlier ∷ earlier)) (sym (add-one i))
 
   pub left-none : (earlier : List Entry) (i : ℕ) → k ≤ i → left i earlier ≡ []
   unfolding entriesFrom spansFrom
   left-none earlier i h = let e : k - i ≡ 0 = omega arith in rw e refl
 
-  pub left-all : entries (spansIn starts ends k) reading ≡ left 0 []
+  pub left-all : entries (spansIn starts ends k) (fieldsIn reading) ≡ left 0 []
   unfolding entries
-  left-all = let e : k ≡ k - 0 = omega arith in ap (λ (n : ℕ). entriesFrom 1 0 [] (spansFrom starts ends 0 n) reading) e
+  left-all = let e : k ≡ k - 0 = omega arith in ap (λ (n : ℕ). entriesFrom 1 0 [] (spansFrom starts ends 0 n) (fieldsIn reading)) e
 
-  byte-at : (i j : ℕ) → getD (drop (entryBytes * i) reading) j 0 ≡ getD reading (3 * i + j) 0
-  byte-at i j = getD-drop (entryBytes * i) reading j 0
+  -- the fields of the entry of index i, from its bytes
+  record Read (i : ℕ) : Type 0 where
+    kind : getD reading (entryBytes * i) 0 ≡ getD (fieldsLeft i) 0 0
+    week : getD reading (entryBytes * i + 1) 0 ≡ getD (fieldsLeft i) 1 0
+    carrier : carrierOf (getD reading (entryBytes * i + 2) 0) (getD reading (entryBytes * i + 3) 0) ≡ getD (fieldsLeft i) 2 0
+
+  read-at : (i : ℕ) → entryBytes * i + 3 < length reading → Read i
+  read-at i h =
+      let e = entry-fields i reading h in
+      let z : entryFields * i ≡ entryFields * i + 0 = omega arith in
+      record {
+        kind = sym (e .kind) ∙ ap (λ (n : ℕ). getD (fieldsIn reading) n 0) z ∙ sym (getD-drop (entryFields * i) (fieldsIn reading) 0 0);
+        week = sym (e .week) ∙ sym (getD-drop (entryFields * i) (fieldsIn reading) 1 0);
+        carrier = sym (e .carrier) ∙ sym (getD-drop (entryFields * i) (fieldsIn reading) 2 0);
+      }
 
   -- the item is that entry, where its compensation is the entry's
-  pub item-entry : (i : ℕ) (earlier : List Entry) (nets compensations : List ℕ) → getD compensations i 0 ≡ compensationOf (suc i) earlier
+  pub item-entry : (i : ℕ) (earlier : List Entry) (nets compensations : List ℕ) → entryBytes * i + 3 < length reading → getD compensations i 0 ≡ compensationOf (suc i) earlier
       → entryBy (itemAt starts ends nets reading compensations i) ≡ thisEntry i earlier
-  item-entry i earlier nets compensations e =
-      let z : 3 * i ≡ 3 * i + 0 = omega arith in
+  item-entry i earlier nets compensations h e =
+      let f = read-at i h in
       λ t. record {
         number = add-one i t;
         before = endBefore ends i;
         span = spanAt starts ends i;
-        kind = (ap (λ (n : ℕ). getD reading n 0) z ∙ sym (byte-at i 0)) t;
-        week = sym (byte-at i 1) t;
-        compensatedBy = sym (byte-at i 2) t;
+        kind = f .kind t;
+        week = f .week t;
+        compensatedBy = f .carrier t;
         compensation = e t;
       }
 
   -- whatever its compensation, it has the same form
-  pub item-formed : (i : ℕ) (earlier : List Entry) (nets compensations : List ℕ) → formed k (entryBy (itemAt starts ends nets reading compensations i)) ≡ formed k (thisEntry i earlier)
+  pub item-formed : (i : ℕ) (earlier : List Entry) (nets compensations : List ℕ) → entryBytes * i + 3 < length reading
+      → formed k (entryBy (itemAt starts ends nets reading compensations i)) ≡ formed k (thisEntry i earlier)
   unfolding formed formedDaily formedWeekly
-  item-formed i earlier nets compensations =
-      let z : 3 * i ≡ 3 * i + 0 = omega arith in
-      let k0 = ap (λ (n : ℕ). getD reading n 0) z ∙ sym (byte-at i 0) in
+  item-formed i earlier nets compensations h =
+      let f = read-at i h in
       λ t. formed k (record {
         number = add-one i t;
         before = endBefore ends i;
         span = spanAt starts ends i;
-        kind = k0 t;
-        week = sym (byte-at i 1) t;
-        compensatedBy = sym (byte-at i 2) t;
+        kind = f .kind t;
+        week = f .week t;
+        compensatedBy = f .carrier t;
         compensation = 0;
       })
 
   -- ---- rule 6
   pub record Forming (i : ℕ) : Type 0 where
     pub earlier : List Entry
-    pub same : rule6 k (entries (spansIn starts ends k) reading) ≡ allOf (formed k) (left i earlier)
+    pub same : rule6 k (entries (spansIn starts ends k) (fieldsIn reading)) ≡ allOf (formed k) (left i earlier)
 
   pub form-start : Forming 0
   unfolding rule6
   form-start = record { earlier = []; same = ap (allOf (formed k)) left-all }
 
-  pub form-on : {i : ℕ} (f : Forming i) (nets compensations : List ℕ) → i < k → formed k (entryBy (itemAt starts ends nets reading compensations i)) ≡ true → Forming (i + 1)
+  pub form-on : {i : ℕ} (f : Forming i) (nets compensations : List ℕ) → entryBytes * i + 3 < length reading → i < k
+      → formed k (entryBy (itemAt starts ends nets reading compensations i)) ≡ true → Forming (i + 1)
   unfolding allOf _and_
-  form-on {i} f nets compensations h t =
+  form-on {i} f nets compensations g h t =
       record {
         earlier = thisEntry i (f .earlier) ∷ f .earlier;
-        same = f .same ∙ ap (allOf (formed k)) (left-next i (f .earlier) h) ∙ rw (sym (item-formed i (f .earlier) nets compensations) ∙ t) refl;
+        same = f .same ∙ ap (allOf (formed k)) (left-next i (f .earlier) h) ∙ rw (sym (item-formed i (f .earlier) nets compensations g) ∙ t) refl;
       }
 
-  pub form-broken : {i : ℕ} (f : Forming i) (nets compensations : List ℕ) → i < k → formed k (entryBy (itemAt starts ends nets reading compensations i)) ≡ false
-      → false ≡ rule6 k (entries (spansIn starts ends k) reading)
+  pub form-broken : {i : ℕ} (f : Forming i) (nets compensations : List ℕ) → entryBytes * i + 3 < length reading → i < k → formed k (entryBy (itemAt starts ends nets reading compensations i)) ≡ false
+      → false ≡ rule6 k (entries (spansIn starts ends k) (fieldsIn reading))
   unfolding allOf _and_
-  form-broken {i} f nets compensations h t =
-      sym (f .same ∙ ap (allOf (formed k)) (left-next i (f .earlier) h) ∙ rw (sym (item-formed i (f .earlier) nets compensations) ∙ t) refl)
+  form-broken {i} f nets compensations g h t =
+      sym (f .same ∙ ap (allOf (formed k)) (left-next i (f .earlier) h) ∙ rw (sym (item-formed i (f .earlier) nets compensations g) ∙ t) refl)
 
-  pub form-done : {i : ℕ} → Forming i → k ≤ i → true ≡ rule6 k (entries (spansIn starts ends k) reading)
+  pub form-done : {i : ℕ} → Forming i → k ≤ i → true ≡ rule6 k (entries (spansIn starts ends k) (fieldsIn reading))
   unfolding allOf
   form-done {i} f h = sym (f .same ∙ ap (allOf (formed k)) (left-none (f .earlier) i h))
 
@@ -126,7 +144,7 @@ sane-item starts ends nets reading compensations k i l b h g = record {
   before = end-before-most ends k (l .limited) i h;
   ordered = l .ordered i h;
   end = l .limited i h;
-  week = omega (arith, b (3 * i + 1));
+  week = omega (arith, b (entryBytes * i + 1));
   compensation = g;
   net = l .numbered i h;
 }
@@ -166,22 +184,22 @@ module _ (starts ends nets reading : List ℕ) (k s : ℕ) where
   rests = spansIn starts ends k
 
   abbrev all : List Entry
-  all = entries (spansIn starts ends k) reading
+  all = entries (spansIn starts ends k) (fieldsIn reading)
 
   pub record Walking (i : ℕ) (t : Tally) (compensations weekly regular : List ℕ) : Type 0 where
     pub earlier : List Entry
     pub laid : Laid starts ends nets reading compensations k
     pub outstanding : (j : ℕ) → i ≤ j → j < k → getD compensations j 0 ≡ compensationOf (suc j) earlier
     pub below : Below (regularMinutes * i) compensations
-    pub seven : rule7 (entries (spansIn starts ends k) reading) ≡ allOf longEnough (left starts ends reading k i earlier)
-    pub tally : testFrom (countsBy nets) s (spansIn starts ends k) freshTally (entries (spansIn starts ends k) reading)
+    pub seven : rule7 (entries (spansIn starts ends k) (fieldsIn reading)) ≡ allOf longEnough (left starts ends reading k i earlier)
+    pub tally : testFrom (countsBy nets) s (spansIn starts ends k) freshTally (entries (spansIn starts ends k) (fieldsIn reading))
         ≡ testFrom (countsBy nets) s (spansIn starts ends k) t (left starts ends reading k i earlier)
     pub short : t .short ≤ i
     pub last : t .last ≤ totalAtMost
     pub weeklies : (w : ℕ) → w < 256
-        → getD weekly w 0 + countOf (ofKind isWeekly w) (left starts ends reading k i earlier) ≡ countOf (ofKind isWeekly w) (entries (spansIn starts ends k) reading)
+        → getD weekly w 0 + countOf (ofKind isWeekly w) (left starts ends reading k i earlier) ≡ countOf (ofKind isWeekly w) (entries (spansIn starts ends k) (fieldsIn reading))
     pub regulars : (w : ℕ) → w < 256
-        → getD regular w 0 + countOf (ofKind isRegular w) (left starts ends reading k i earlier) ≡ countOf (ofKind isRegular w) (entries (spansIn starts ends k) reading)
+        → getD regular w 0 + countOf (ofKind isRegular w) (left starts ends reading k i earlier) ≡ countOf (ofKind isRegular w) (entries (spansIn starts ends k) (fieldsIn reading))
     pub few-weeklies : Below i weekly
     pub few-regulars : Below i regular
     pub weekly-size : length weekly ≡ 256
@@ -214,7 +232,7 @@ module _ (starts ends nets reading : List ℕ) (k s : ℕ) where
 
     -- the item is the entry
     pub here-item : entryBy (itemAt starts ends nets reading compensations i) ≡ thisEntry starts ends reading k i (w .earlier)
-    here-item = item-entry starts ends reading k i (w .earlier) nets compensations (w .outstanding i (le-refl _) h)
+    here-item = item-entry starts ends reading k i (w .earlier) nets compensations (omega (arith, w .laid .reading-in)) (w .outstanding i (le-refl _) h)
 
     pub item-sane : ((j : ℕ) → getD reading j 0 < 256) → Sane (itemAt starts ends nets reading compensations i)
     item-sane b = sane-item starts ends nets reading compensations k i (w .laid) b h (omega (arith, w .below i, w .laid .few))
@@ -227,7 +245,7 @@ module _ (starts ends nets reading : List ℕ) (k s : ℕ) where
     enough-here b e = e ∙ ap (λ (x : Entry). leb (leastNet (asRead x) + x .compensation) (minutes x)) here-item
 
     pub too-short : {r : LongRest} {b : Bool} → r ≡ restBy (itemAt starts ends nets reading compensations i) → b ≡ enoughBy r (getD compensations i 0) → b ≡ false
-        → rule7 (entries (spansIn starts ends k) reading) ≡ false
+        → rule7 (entries (spansIn starts ends k) (fieldsIn reading)) ≡ false
     unfolding allOf _and_
     too-short {r} {b} q e z =
         let f : longEnough this ≡ false = sym (enough-here b (e ∙ ap (λ (x : LongRest). enoughBy x (getD compensations i 0)) q)) ∙ z in
@@ -241,8 +259,8 @@ module _ (starts ends nets reading : List ℕ) (k s : ℕ) where
 
     increment-on : (f : Kind → Bool) (counts counts′ : List ℕ) (m : Kind) (wk v : ℕ) → m ≡ asRead this → wk ≡ this .week → length counts ≡ 256 → v < 256
         → counts′ ≡ incremented (f m) counts wk
-        → getD counts v 0 + countOf (ofKind f v) (left starts ends reading k i (w .earlier)) ≡ countOf (ofKind f v) (entries (spansIn starts ends k) reading)
-        → getD counts′ v 0 + countOf (ofKind f v) (left starts ends reading k (i + 1) (this ∷ w .earlier)) ≡ countOf (ofKind f v) (entries (spansIn starts ends k) reading)
+        → getD counts v 0 + countOf (ofKind f v) (left starts ends reading k i (w .earlier)) ≡ countOf (ofKind f v) (entries (spansIn starts ends k) (fieldsIn reading))
+        → getD counts′ v 0 + countOf (ofKind f v) (left starts ends reading k (i + 1) (this ∷ w .earlier)) ≡ countOf (ofKind f v) (entries (spansIn starts ends k) (fieldsIn reading))
     increment-on f counts counts′ m wk v p q n l e o =
         omega (
           arith,
@@ -313,7 +331,7 @@ module _ (starts ends nets reading : List ℕ) (k s : ℕ) where
         (le-trans (isOutstanding-here this long (qd ∙ ap reductionOf kind)) (omega arith), λ j. omega (arith, w .below j, w .laid .few))
 
   pub walk-through : {i : ℕ} {t : Tally} {compensations weekly regular : List ℕ} → Walking i t compensations weekly regular → k ≤ i → i ≤ k
-      → Through (countsBy nets) s (spansIn starts ends k) (entries (spansIn starts ends k) reading) t weekly regular
+      → Through (countsBy nets) s (spansIn starts ends k) (entries (spansIn starts ends k) (fieldsIn reading)) t weekly regular
   unfolding allOf countOf
   walk-through {i} w h g =
       let none = left-none starts ends reading k (w .earlier) i h in

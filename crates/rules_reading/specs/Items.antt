@@ -5,14 +5,14 @@ use mathlib.Core.Bool.{Bool, true, false, not}
 use mathlib.Core.List.{List, [], _∷_}
 use Prim.Native.Nat.{ℕ, zero, suc, _+_, _-_, _*_, _≤_, _<_}
 use lib.Dec.{leb, ltb, eqb}
-use lib.ListN.{length, getD, set, replicate}
+use lib.ListN.{length, getD, set}
 use Rattle.recording.specs.Tests.{_and_, _or_, pick, one, allOf, anyOf, allBelow, countOf}
 use Rattle.recording.specs.Rests.{longRestsAtMost}
 use Rattle.recording.specs.Operations.{totalAtMost}
 use Rattle.recording.specs.Weeks.{weekStart, week, weekOf, inside}
 use Rattle.recording.specs.declared.Span.{Span}
 use Rattle.rules.specs.Broken.{unless}
-use Rattle.rules.specs.Reading.{Entry, regularMinutes, standingOf, asRead, isWeekly, isRegular, entryBytes, entries}
+use Rattle.rules.specs.Reading.{Entry, regularMinutes, standingOf, asRead, isWeekly, isRegular, entryBytes, carrierOf, fieldsIn, entries}
 use Rattle.rules.specs.ReadingRules.{leastNet, rule7, weeksToCompensate, compensated, shortenedAtMost, rule9From, inGap, rule10From, ofKind, weeklyAtLeast, regularAtLeast, laterTest}
 use Rattle.rules.specs.declared.Kind.{Kind}
 use Rattle.rules.specs.declared.Kind.the-variants.{Daily, Weekly}
@@ -50,15 +50,15 @@ itemAt starts ends nets reading compensations i = record {
   start = getD starts i 0;
   end = getD ends i 0;
   net = getD nets i 0;
-  kind = getD reading (3 * i) 0;
-  week = getD reading (3 * i + 1) 0;
-  carrier = getD reading (3 * i + 2) 0;
+  kind = getD reading (entryBytes * i) 0;
+  week = getD reading (entryBytes * i + 1) 0;
+  carrier = carrierOf (getD reading (entryBytes * i + 2) 0) (getD reading (entryBytes * i + 3) 0);
   compensation = getD compensations i 0;
 }
 
 -- an item whose numbers are in bounds
 abbrev pub compensationAtMost : ℕ
-compensationAtMost = 1000000
+compensationAtMost = 3000000
 
 pub record Sane (x : Item) : Type 0 where
   pub before : x .before ≤ totalAtMost
@@ -200,9 +200,13 @@ abbrev pub restWeeks : List Span → ℕ → Bool
 restWeeks rs w = anyOf (inside (week w)) rs
 
 -- ---- rules 6 to 11 by the rests that stand in three slices
-abbrev pub zeros : List ℕ
-zeros = replicate longRestsAtMost 0
+-- the slices have room for k rests
+pub record Roomy (k : ℕ) (starts ends nets compensations : List ℕ) : Type 0 where
+  pub begun : k ≤ length starts
+  pub ended : k ≤ length ends
+  pub numbered : k ≤ length nets
+  pub compensated : k ≤ length compensations
 
 abbrev pub laterBy : List ℕ → List ℕ → List ℕ → List ℕ → ℕ → ℕ → ℕ
 laterBy starts ends nets reading k s =
-    laterTest (restWeeks (spansIn starts ends k)) (countsBy nets) s (spansIn starts ends k) (entries (spansIn starts ends k) reading)
+    laterTest (restWeeks (spansIn starts ends k)) (countsBy nets) s (spansIn starts ends k) (entries (spansIn starts ends k) (fieldsIn reading))

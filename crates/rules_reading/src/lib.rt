@@ -1,4 +1,5 @@
 // The reading test.
+use recording::Measure;
 use recording::Weighing;
 use rules::Kind;
 use rules::Standing;
@@ -10,19 +11,20 @@ ghost use lib.ListN.{length, getD};
 ghost use lib.Dec.{leb};
 ghost use Rattle.recording.specs.Tests.{pick, _or_};
 ghost use Rattle.recording.specs.Weeks.{weekStart, week, inside};
-ghost use Rattle.recording.specs.Operations.{totalAtMost};
+ghost use Rattle.recording.specs.Answers.{answered};
+ghost use Rattle.recording.specs.Operations.{totalAtMost, measured};
 ghost use Rattle.rules.specs.Broken.{unless};
-ghost use Rattle.rules.specs.Reading.{isWeekly, isRegular, reductionOf, entries};
+ghost use Rattle.rules.specs.Reading.{isWeekly, isRegular, reductionOf, entryBytes, fieldsIn, entries};
 ghost use Rattle.rules.specs.ReadingRules.{formed, rule6, shortenedAtMost, inGap};
 ghost use Rattle.rules.specs.Operations.{readingTested};
 ghost use Rattle.rules_fixed.specs.Nets.{spanOf, countsBy};
 ghost use Rattle.rules_fixed.specs.Tested.{tested};
 ghost use Rattle.rules_reading.specs.Items.{entryBy, endBefore, itemAt, Sane, compensationAtMost, Below, restBy, enoughBy};
 ghost use Rattle.rules_reading.specs.Items.{endAt, timeBy, gapBy, smaller, shortBy, shortAfter, tallyBy, addedTo, incremented, spansIn, Laid};
-ghost use Rattle.rules_reading.specs.Items.{standingFor, Zeros, Walked, enoughWith, rule11With, restWeeks, zeros, laterBy};
+ghost use Rattle.rules_reading.specs.Items.{standingFor, Zeros, Walked, enoughWith, rule11With, restWeeks, laterBy, Roomy};
 
 // A long rest with its entry: its number from 1, the end of the long rest before it or 0, its start and end, the least net length
-// at which it is no shortened daily rest, its three bytes, and the compensation that it gives, the document's load.
+// at which it is no shortened daily rest, its entry's fields, and the compensation that it gives, the document's load.
 pub struct Item {
     pub number: u32,
     pub before: u32,
@@ -105,12 +107,13 @@ fn item_at(
     compensations: &[u32],
     i: usize,
 ) -> Item
-    requires { ⌜ (i < 1000) × (i < length (now starts)) × (i < length (now ends)) × (i < length (now nets)) × (3 * i + 2 < length (now reading)) × (i < length (now compensations)) ⌝ }
+    requires { ⌜ (i < 1000) × (i < length (now starts)) × (i < length (now ends)) × (i < length (now nets)) × (entryBytes * i + 3 < length (now reading)) × (i < length (now compensations)) ⌝ }
     ensures { λ r. ⌜ r ≡ itemAt (now (starts .entry)) (now (ends .entry)) (now (nets .entry)) (now (reading .entry)) (now (compensations .entry)) i ⌝ }
 {
     let at = rules_entries::ENTRY_BYTES * i;
     let week = at + 1;
-    let carrier = at + 2;
+    let low = at + 2;
+    let high = at + 3;
     Item {
         number: (i + 1) as u32,
         before: end_before(ends, i),
@@ -119,7 +122,7 @@ fn item_at(
         net: nets[i],
         kind: recording::wide(reading[at]),
         week: recording::wide(reading[week]),
-        carrier: recording::wide(reading[carrier]),
+        carrier: rules_entries::carrier_of(reading[low], reading[high]),
         compensation: compensations[i],
     }
 }
@@ -406,7 +409,7 @@ fn form_test(
     k: usize,
 ) -> bool
     requires { ⌜ Laid (now starts) (now ends) (now nets) (now reading) (now compensations) k × Zeros (now compensations) ⌝ }
-    ensures { λ r. ⌜ r ≡ rule6 k (entries (spansIn (now (starts .entry)) (now (ends .entry)) k) (now (reading .entry))) ⌝ }
+    ensures { λ r. ⌜ r ≡ rule6 k (entries (spansIn (now (starts .entry)) (now (ends .entry)) k) (fieldsIn (now (reading .entry)))) ⌝ }
 {
     let mut i = 0;
     while i < k {
@@ -435,7 +438,7 @@ fn rest_walk(
     requires { ⌜ Laid (now starts) (now ends) (now nets) (now reading) (now compensations) k × Zeros (now compensations) × Zeros (now weekly) × Zeros (now regular) × (length (now weekly) ≡ 256)
         × (length (now regular) ≡ 256) ⌝ }
     ensures { λ r. ⌜ Walked (countsBy (now (nets .entry))) s (spansIn (now (starts .entry)) (now (ends .entry)) k)
-        (entries (spansIn (now (starts .entry)) (now (ends .entry)) k) (now (reading .entry))) r (now (weekly .exit)) (now (regular .exit)) ⌝ }
+        (entries (spansIn (now (starts .entry)) (now (ends .entry)) k) (fieldsIn (now (reading .entry)))) r (now (weekly .exit)) (now (regular .exit)) ⌝ }
 {
     let mut t = Tally {
         rule: 0,
@@ -575,13 +578,21 @@ fn gap_rule(q: u32, s: u32) -> u32
     10
 }
 
-// Rules 6 to 11 of a reading, where the k long rests stand in `starts`, `ends` and `nets` and S is s: 0 or the smallest broken one.
-fn later_test(starts: &[u32], ends: &[u32], nets: &[u32], reading: &[u8], k: usize, s: u32) -> u32
-    requires { ⌜ Laid (now starts) (now ends) (now nets) (now reading) zeros k × (s ≤ totalAtMost) ⌝ }
+// Rules 6 to 11 of a reading, where the k long rests stand in `starts`, `ends` and `nets` and S is s: 0 or the smallest broken one. The compensations are
+// room to sum them.
+fn later_test(
+    starts: &[u32],
+    ends: &[u32],
+    nets: &[u32],
+    reading: &[u8],
+    compensations: &mut [u32],
+    k: usize,
+    s: u32,
+) -> u32
+    requires { ⌜ Laid (now starts) (now ends) (now nets) (now reading) (now compensations) k × Zeros (now compensations) × (s ≤ totalAtMost) ⌝ }
     ensures { λ r. ⌜ r ≡ laterBy (now (starts .entry)) (now (ends .entry)) (now (nets .entry)) (now (reading .entry)) k s ⌝ }
 {
-    let mut compensations = [0u32; recording::LONG_RESTS];
-    if !form_test(starts, ends, nets, reading, &compensations, k) {
+    if !form_test(starts, ends, nets, reading, compensations, k) {
         return FORM_BROKEN;
     }
     let mut weekly = [0u32; 256];
@@ -591,7 +602,7 @@ fn later_test(starts: &[u32], ends: &[u32], nets: &[u32], reading: &[u8], k: usi
         ends,
         nets,
         reading,
-        &mut compensations,
+        compensations,
         &mut weekly,
         &mut regular,
         k,
@@ -609,7 +620,75 @@ fn later_test(starts: &[u32], ends: &[u32], nets: &[u32], reading: &[u8], k: usi
     PAIRS_BROKEN
 }
 
-// Testing a reading: refusals 1 and 2, then 6 where its byte count is not 3 for each long rest; else 0 or the smallest broken rule.
+// The rules of a recording with this measure and of a reading with an entry for each long rest: 0 or the smallest broken one. The slices are room for the
+// long rests and for what each compensates.
+fn tested_among(
+    words: &[u32],
+    measure: Measure,
+    reading: &[u8],
+    starts: &mut [u32],
+    ends: &mut [u32],
+    nets: &mut [u32],
+    compensations: &mut [u32],
+) -> u32
+    requires { ⌜ (measured (now words) ≡ answered measure) × (length (now reading) ≡ entryBytes * measure .count)
+        × Roomy (measure .count) (now starts) (now ends) (now nets) (now compensations) × Zeros (now compensations) ⌝ }
+    ensures { λ r. ⌜ answered r ≡ readingTested (now (words .entry)) (now (reading .entry)) ⌝ }
+{
+    let found = rules_fixed::survey_of(words, starts, ends, nets);
+    let account = found.account;
+    let rule = rules_fixed::smallest_rule(account.broken);
+    if rule != 0 {
+        return rule;
+    }
+    let count = measure.count as usize;
+    later_test(
+        starts,
+        ends,
+        nets,
+        reading,
+        compensations,
+        count,
+        measure.judged,
+    )
+}
+
+// The same with room of its own, by the recording's length.
+fn tested_in_room(words: &[u32], measure: Measure, reading: &[u8]) -> u32
+    requires { ⌜ (measured (now words) ≡ answered measure) × (length (now reading) ≡ entryBytes * measure .count) ⌝ }
+    ensures { λ r. ⌜ answered r ≡ readingTested (now (words .entry)) (now (reading .entry)) ⌝ }
+{
+    if measure.total <= recording::SHORT_TOTAL {
+        let mut starts = [0u32; recording::SHORT_RESTS];
+        let mut ends = [0u32; recording::SHORT_RESTS];
+        let mut nets = [0u32; recording::SHORT_RESTS];
+        let mut compensations = [0u32; recording::SHORT_RESTS];
+        return tested_among(
+            words,
+            measure,
+            reading,
+            &mut starts,
+            &mut ends,
+            &mut nets,
+            &mut compensations,
+        );
+    }
+    let mut starts = [0u32; recording::LONG_RESTS];
+    let mut ends = [0u32; recording::LONG_RESTS];
+    let mut nets = [0u32; recording::LONG_RESTS];
+    let mut compensations = [0u32; recording::LONG_RESTS];
+    tested_among(
+        words,
+        measure,
+        reading,
+        &mut starts,
+        &mut ends,
+        &mut nets,
+        &mut compensations,
+    )
+}
+
+// Testing a reading: refusals 1 and 2, then 6 where its byte count is not 4 for each long rest; else 0 or the smallest broken rule.
 pub fn reading_test(words: &[u32], reading: &[u8]) -> Tested
     ensures { λ r. ⌜ tested r ≡ readingTested (now (words .entry)) (now (reading .entry)) ⌝ }
 {
@@ -618,18 +697,8 @@ pub fn reading_test(words: &[u32], reading: &[u8]) -> Tested
         return Tested::Refused(recording::refusal_of(weighing));
     };
     let count = measure.count as usize;
-    let judged = measure.judged;
     if reading.len() != rules_entries::ENTRY_BYTES * count {
         return Tested::Refused(rules_entries::BAD_COUNT);
     }
-    let mut starts = [0u32; recording::LONG_RESTS];
-    let mut ends = [0u32; recording::LONG_RESTS];
-    let mut nets = [0u32; recording::LONG_RESTS];
-    let found = rules_fixed::survey_of(words, &mut starts, &mut ends, &mut nets);
-    let account = found.account;
-    let rule = rules_fixed::smallest_rule(account.broken);
-    if rule != 0 {
-        return Tested::Answer(rule);
-    }
-    Tested::Answer(later_test(&starts, &ends, &nets, reading, count, judged))
+    Tested::Answer(tested_in_room(words, measure, reading))
 }

@@ -189,7 +189,7 @@ weeks-few (suc k) (a ∷ ms) =
     go (inl x) d i f = omega (arith, f x)
     go (inr x) d i f = omega arith
 
--- "0 to 12 weeks": the weeks of a recording within the limit are allowed
+-- "0 to" 53 "weeks": the weeks of a recording within the limit are allowed
 pub weeks-allowed : {ms : List ℕ} → Coded ms → length ms ≤ totalAtMost → Allowed (weeksJoined ms)
 unfolding weeksJoined
 weeks-allowed {ms} c h = record { few = omega (arith, weeks-few (length ms) ms); each = weeks-each (length ms) c }

@@ -278,6 +278,6 @@ weeks-few form.none = omega arith
 weeks-few (form.last {ws} k) = rw (length-append ws []) (omega (arith, runs-few (k .runs), k .within))
 weeks-few (form.next {ws} {vs} {weeks} k e r) = rw (length-append ws (allRuns (vs ∷ weeks))) (omega (arith, runs-few (k .runs), k .within, weeks-few r))
 
--- a text has no more run lines than twelve weeks have minutes
+-- a text has no more run lines than its weeks have minutes
 pub allowed-few : {weeks : List (List ℕ)} → Allowed weeks → length (allRuns weeks) ≤ weekMinutes * weeksAtMost
 allowed-few a = omega (arith, weeks-few (a .each), a .few)

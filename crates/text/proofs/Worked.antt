@@ -38,11 +38,11 @@ pub record Worked : Type 0 where
   full-week : counted (textRead (textOf ((r 10079 ∷ w 1 ∷ []) ∷ (w 1 ∷ []) ∷ [])) 9) ≡ answered 3
   long-week : textRead (textOf ((r 10079 ∷ w 2 ∷ []) ∷ [])) 9 ≡ refused 8
   short-week : textRead (textOf ((r 10078 ∷ w 1 ∷ []) ∷ (w 1 ∷ []) ∷ [])) 9 ≡ refused 8
-  -- 0 to 12 weeks
-  twelve : counted (textRead (textOf (replicate 12 (r 10080 ∷ []))) 12) ≡ answered 12
-  thirteen : textRead (textOf (replicate 13 (r 10080 ∷ []))) 13 ≡ refused 8
+  -- 0 to 53 weeks
+  year : counted (textRead (textOf (replicate 53 (r 10080 ∷ []))) 53) ≡ answered 53
+  more-weeks : textRead (textOf (replicate 54 (r 10080 ∷ []))) 54 ≡ refused 8
   -- words lent: too few, and more than are needed
-  few : textRead (textOf (replicate 12 (r 10080 ∷ []))) 11 ≡ refused 9
+  few : textRead (textOf (replicate 53 (r 10080 ∷ []))) 52 ≡ refused 9
   more : filled (textRead (textOf ((w 5 ∷ []) ∷ [])) 2) (7 ∷ 8 ∷ []) ≡ w 5 ∷ 8 ∷ []
   -- writing: joined, cut at the week's end, no week after a full last one
   joins : textWritten (w 4 ∷ w 5 ∷ r 1 ∷ []) 99 ≡ answered (textOf ((w 9 ∷ r 1 ∷ []) ∷ []))
@@ -68,8 +68,8 @@ worked = record {
   full-week = refl;
   long-week = refl;
   short-week = refl;
-  twelve = refl;
-  thirteen = refl;
+  year = refl;
+  more-weeks = refl;
   few = refl;
   more = refl;
   joins = refl;

@@ -71,7 +71,7 @@ unfoldable pub runsThen : List ℕ → List Line → List Line
 runsThen [] later = line.Closing ∷ later
 runsThen (w ∷ ws) later = line.Run w ∷ runsThen ws later
 
--- "`(recording`, then 0 to 12 weeks, then `)`."
+-- "`(recording`, then 0 to" 53 "weeks, then `)`." Document 02, request 7: "text to 53 weeks".
 unfoldable pub weeksThenEnd : List (List ℕ) → List Line
 weeksThenEnd [] = line.Closing ∷ []
 weeksThenEnd (ws ∷ weeks) = line.Week ∷ runsThen ws (weeksThenEnd weeks)
@@ -84,7 +84,7 @@ textOf weeks = textOfLines (linesOf weeks)
 
 -- ---- which lists are allowed
 abbrev pub weeksAtMost : ℕ
-weeksAtMost = 12
+weeksAtMost = 53
 
 unfoldable pub sumOf : List ℕ → ℕ
 sumOf [] = 0

@@ -75,7 +75,7 @@ linesIn text = linesFrom [] text
 -- ---- line after line. A stage is where the reader stands: before the text, between two weeks, within a week, over, or at something wrong. Between
 -- and within, `left` is how many minutes the week that was read last can still take, and `more` how many weeks may still follow.
 
--- "`(recording`, then 0 to 12 weeks": no week before lacks a minute
+-- "`(recording`, then 0 to" 53 "weeks": no week before lacks a minute
 abbrev pub onRecording : Stage → Stage
 onRecording stage.Before = stage.Between 0 weeksAtMost
 onRecording (stage.Between left more) = stage.Wrong
@@ -99,7 +99,7 @@ onRun n (stage.Within left more) = pick (leb n left) (stage.Within (left - n) mo
 onRun n stage.Over = stage.Wrong
 onRun n stage.Wrong = stage.Wrong
 
--- "one or more runs, `)`"; "then 0 to 12 weeks, then `)`"
+-- "one or more runs, `)`"; "then 0 to" 53 "weeks, then `)`"
 abbrev pub onClosing : Stage → Stage
 onClosing stage.Before = stage.Wrong
 onClosing (stage.Between left more) = stage.Over

@@ -45,7 +45,7 @@ pub struct Progress {
     pub runs: usize,
 }
 
-const WEEKS_AT_MOST: u32 = 12;
+const WEEKS_AT_MOST: u32 = 53;
 
 const RUN_AT_MOST: u32 = 10080;
 

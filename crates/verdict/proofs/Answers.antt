@@ -16,10 +16,10 @@ use Rattle.recording.specs.declared.Measure.{Measure}
 use Rattle.recording.proofs.TestLaws.{clash}
 use Rattle.recording.proofs.LongRests.{few-rests}
 use Rattle.recording.proofs.Listing.{measured-is}
-use Rattle.rules.specs.Reading.{entryBytes, readingSize}
-use Rattle.rules.specs.Verdict.{prefix, isNone, firstLawful, breachMinute, article, Verdict, breach, verdictBy, verdict}
+use Rattle.rules.specs.Reading.{entryBytes, readingSize, bytesOf}
+use Rattle.rules.specs.Verdict.{prefix, isNone, firstFields, firstLawful, breachMinute, article, Verdict, breach, verdictBy, verdict}
 use Rattle.rules.specs.Operations.{Finding, passed, findingOf, verdictGiven, readingOf, firstReadingGiven}
-use Rattle.rules.proofs.Breach.{verdict-pass, some-first}
+use Rattle.rules.proofs.Breach.{verdict-pass, some-first, found-fields}
 use Rattle.rules.proofs.EntryLaws.{first-size}
 use Rattle.verdict_completion.specs.Completable.{Course, Lies}
 use Rattle.verdict_first_reading.specs.First.{Least, restsOnly}
@@ -92,7 +92,7 @@ module _ {ws : List ℕ} {k : Measure} {r : Rests} {starts ends nets : List ℕ}
       → t ≡ not (isNone (firstLawful (minutesOf ws)))
   asked-there = whole-lawful (rests .whole) (within ws q)
 
-  pub least-there : {f : List ℕ} → firstLawful (minutesOf ws) ≡ some f → Least (restsOnly (take (r .count) starts) (take (r .count) ends) (take (r .count) nets) (r .judged)) f
+  pub least-there : {f : List ℕ} → firstFields (minutesOf ws) ≡ some f → Least (restsOnly (take (r .count) starts) (take (r .count) ends) (take (r .count) nets) (r .judged)) f
   least-there = whole-least (rests .whole) (within ws q)
 
 -- ---- the first reading and its buffer
@@ -135,18 +135,20 @@ module _ (ws old : List ℕ) where
           (ap (λ (l : List ℕ). l ++ drop (entryBytes * k .count) old) left ∙ take-append-drop (entryBytes * k .count) old)
 
       pub told-pass : {new : List ℕ} → true ≡ not (isNone (firstLawful (minutesOf ws)))
-          → ((f : List ℕ) → firstLawful (minutesOf ws) ≡ some f → new ≡ f)
+          → ((f : List ℕ) → firstFields (minutesOf ws) ≡ some f → new ≡ bytesOf f)
           → Told (answered (entryBytes * k .count)) (new ++ drop (entryBytes * k .count) old)
       told-pass {new} e w =
           let f = first-is (minutesOf ws) e in
+          let g = found-fields (minutesOf ws) (f .1) in
+          let same : new ≡ f .0 = w (g .0) (g .1) ∙ sym (g .2) in
           let n : length (f .0) ≡ entryBytes * k .count = first-size (minutesOf ws) (f .0) (f .1) ∙ sym size-is in
           told (reading-is (verdict-pass (minutesOf ws) (f .0) (f .1)))
           (ap answered (sym n))
-          (ap (λ (l : List ℕ). l ++ drop (entryBytes * k .count) old) (w (f .0) (f .1)) ∙ ap (λ (x : ℕ). f .0 ++ drop x old) (sym n))
+          (ap (λ (l : List ℕ). l ++ drop (entryBytes * k .count) old) same ∙ ap (λ (x : ℕ). f .0 ++ drop x old) (sym n))
 
 -- ---- the reading is written where it is wanted, and only there
 module _ {wanted : Bool} {c : Course} {old new : List ℕ} where
-  pub wrote : wanted ≡ true → ((f : List ℕ) → Least c f → new ≡ f) → WrittenIf wanted c old new
+  pub wrote : wanted ≡ true → ((f : List ℕ) → Least c f → new ≡ bytesOf f) → WrittenIf wanted c old new
   wrote t w = record { written = λ _. w; left = λ f. clash wanted t f }
 
   pub let-be : wanted ≡ false → new ≡ old → WrittenIf wanted c old new

@@ -99,11 +99,11 @@ module _ (s t : ℕ) (week : weekOf t ≤ weekOf s) where
   eight-too rs es h = at-all (compensated t rs) es (λ e i. compensated-too rs e (all-at (compensated s rs) i h))
 
   -- ---- the ends of the entries are those of the rests
-  each-reaches : (starts ends : List ℕ) → ((i : ℕ) → Reaches (at ends i)) → (m j n p : ℕ) (past : List Entry) (bytes : List ℕ)
-      → EachReaches (entriesFrom n p past (spansFrom starts ends j m) bytes)
+  each-reaches : (starts ends : List ℕ) → ((i : ℕ) → Reaches (at ends i)) → (m j n p : ℕ) (past : List Entry) (fields : List ℕ)
+      → EachReaches (entriesFrom n p past (spansFrom starts ends j m) fields)
   unfolding entriesFrom spansFrom
-  each-reaches starts ends r zero j n p past bytes = tt
-  each-reaches starts ends r (suc m) j n p past bytes = (r j, each-reaches starts ends r m (suc j) _ _ _ _)
+  each-reaches starts ends r zero j n p past fields = tt
+  each-reaches starts ends r (suc m) j n p past fields = (r j, each-reaches starts ends r m (suc j) _ _ _ _)
 
 -- ---- all of them
 module _ (starts nets : List ℕ) {ends : List ℕ} {s t : ℕ} (a : AsksNoMore ends s t) where
@@ -111,15 +111,15 @@ module _ (starts nets : List ℕ) {ends : List ℕ} {s t : ℕ} (a : AsksNoMore 
   reaches i (inl l) = a .from-rest i l
   reaches i (inr l) = let e : at ends i ≡ 0 = List·getD-eq-default ends 0 {n = i} l in λ h. omega (arith, a .from-start (omega arith))
 
-  pub kept-too : (bytes : List ℕ) → KeptBy (restsOnly starts ends nets s) bytes → KeptBy (restsOnly starts ends nets t) bytes
+  pub kept-too : (fields : List ℕ) → KeptBy (restsOnly starts ends nets s) fields → KeptBy (restsOnly starts ends nets t) fields
   unfolding entries
-  kept-too bytes k =
+  kept-too fields k =
       let c = restsOnly starts ends nets s in
       record {
         six = k .six;
         seven = k .seven;
-        eight = eight-too s t (a .week) (spansOf c) (entries (spansOf c) bytes) (k .eight);
-        runs = runs-too s t (a .week) (restWeek c) (counts c) (entries (spansOf c) bytes)
+        eight = eight-too s t (a .week) (spansOf c) (entries (spansOf c) fields) (k .eight);
+        runs = runs-too s t (a .week) (restWeek c) (counts c) (entries (spansOf c) fields)
             (each-reaches s t (a .week) starts ends (λ i. reaches i (less-or-not i (length ends))) _ _ _ _ _ _) _ (a .from-start) (k .runs);
       }
 

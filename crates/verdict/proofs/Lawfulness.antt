@@ -16,10 +16,10 @@ use Rattle.recording.proofs.LongRests.{Ordered, none as no-rest, next, rests-or
 use Rattle.rules.specs.Broken.{ifNone}
 use Rattle.rules.specs.Fixed.{fixedTest}
 use Rattle.rules.specs.Reading.{entryBytes, readingSize, compensationOf, entries}
-use Rattle.rules.specs.ReadingRules.{readingTest}
-use Rattle.rules.specs.Order.{Bytes}
-use Rattle.rules.specs.Verdict.{lawful, isNone, firstLawful}
-use Rattle.rules.proofs.Breach.{HasLawful, first-sound, first-least, is-none, some-first}
+use Rattle.rules.specs.ReadingRules.{fieldsTest}
+use Rattle.rules.specs.Order.{Fields}
+use Rattle.rules.specs.Verdict.{lawfulFields, isNone, firstFields, firstLawful}
+use Rattle.rules.proofs.Breach.{HasLawful, first-fields, is-none, some-first}
 use Rattle.rules_reading.specs.Items.{spansFrom, spansIn, restWeeks, Zeros}
 use Rattle.rules_reading.proofs.LaterLaws.{nowhere, map-at, spans-are, if-zero}
 use Rattle.verdict_completion.specs.States.{startState}
@@ -76,8 +76,8 @@ module _ (starts ends nets compensations outstanding : List ℕ) (s : ℕ) (lies
   some-reading a =
       record {
         yes = λ t. extend (courseOf starts ends nets compensations s) lies-too (omega arith) bound (length starts) 0 _ outstanding [] all size none-outstanding (λ i h. no-compensation i) (a .yes t);
-        no = λ t bytes k. a .no t (extended (courseOf starts ends nets compensations s) lies-too (omega arith) bound (length starts) 0 _ outstanding [] all size none-outstanding
-            (λ i h. no-compensation i) bytes k);
+        no = λ t fields k. a .no t (extended (courseOf starts ends nets compensations s) lies-too (omega arith) bound (length starts) 0 _ outstanding [] all size none-outstanding
+            (λ i h. no-compensation i) fields k);
       }
 
 -- ---- the long rests of a recording, with their numbers
@@ -144,51 +144,50 @@ lies-in ms within =
 -- ---- lawful, and kept
 module _ (ms : List ℕ) where
   abbrev KeptThere : List Span → List ℕ → Type 0
-  KeptThere rs bytes = Kept (restWeeks rs) (countsBy (netsOf ms)) (judgedEnd ms) rs (startState (restWeeks rs 0)) (entries rs bytes)
+  KeptThere rs fields = Kept (restWeeks rs) (countsBy (netsOf ms)) (judgedEnd ms) rs (startState (restWeeks rs 0)) (entries rs fields)
 
-  pub lawful-kept : (bytes : List ℕ) → lawful ms bytes ≡ true → KeptBy (restsIn ms) bytes
-  unfolding lawful
-  lawful-kept bytes t =
-      let z : readingTest ms bytes ≡ 0 = eqb-true (readingTest ms bytes) 0 t in
-      let k : KeptThere (longRests ms) bytes =
-      later-kept (restWeeks (longRests ms)) (countsBy (netsOf ms)) (judgedEnd ms) (longRests ms) bytes (rests-ordered ms)
-      (later-none (fixedTest ms) _ (sym (reading-by-numbers ms (netsOf ms) (λ i h. refl) bytes) ∙ z)) in
-      subst (λ (rs : List Span). KeptThere rs bytes) (sym (spans-back (longRests ms))) k
+  pub lawful-kept : (fields : List ℕ) → lawfulFields ms fields ≡ true → KeptBy (restsIn ms) fields
+  unfolding lawfulFields
+  lawful-kept fields t =
+      let z : fieldsTest ms fields ≡ 0 = eqb-true (fieldsTest ms fields) 0 t in
+      let k : KeptThere (longRests ms) fields =
+      later-kept (restWeeks (longRests ms)) (countsBy (netsOf ms)) (judgedEnd ms) (longRests ms) fields (rests-ordered ms)
+      (later-none (fixedTest ms) _ (sym (reading-by-numbers ms (netsOf ms) (λ i h. refl) fields) ∙ z)) in
+      subst (λ (rs : List Span). KeptThere rs fields) (sym (spans-back (longRests ms))) k
     where
       later-none : (n x : ℕ) → ifNone n x ≡ 0 → x ≡ 0
       later-none zero x e = e
       later-none (suc n) x e = absurd (omega arith)
 
-  pub kept-lawful : fixedTest ms ≡ 0 → (bytes : List ℕ) → KeptBy (restsIn ms) bytes → lawful ms bytes ≡ true
-  unfolding lawful
-  kept-lawful f bytes k =
-      let k′ : KeptThere (longRests ms) bytes = subst (λ (rs : List Span). KeptThere rs bytes) (spans-back (longRests ms)) k in
-      let z = kept-later (restWeeks (longRests ms)) (countsBy (netsOf ms)) (judgedEnd ms) (longRests ms) bytes (rests-ordered ms) k′ in
-      eq-eqb (readingTest ms bytes) 0 (reading-by-numbers ms (netsOf ms) (λ i h. refl) bytes ∙ if-zero (fixedTest ms) _ f ∙ z)
+  pub kept-lawful : fixedTest ms ≡ 0 → (fields : List ℕ) → KeptBy (restsIn ms) fields → lawfulFields ms fields ≡ true
+  unfolding lawfulFields
+  kept-lawful f fields k =
+      let k′ : KeptThere (longRests ms) fields = subst (λ (rs : List Span). KeptThere rs fields) (spans-back (longRests ms)) k in
+      let z = kept-later (restWeeks (longRests ms)) (countsBy (netsOf ms)) (judgedEnd ms) (longRests ms) fields (rests-ordered ms) k′ in
+      eq-eqb (fieldsTest ms fields) 0 (reading-by-numbers ms (netsOf ms) (λ i h. refl) fields ∙ if-zero (fixedTest ms) _ f ∙ z)
 
-  pub fixed-first : (bytes : List ℕ) → lawful ms bytes ≡ true → fixedTest ms ≡ 0
-  unfolding lawful readingTest
-  fixed-first bytes t = fixed-none (fixedTest ms) _ (eqb-true (readingTest ms bytes) 0 t)
+  pub fixed-first : (fields : List ℕ) → lawfulFields ms fields ≡ true → fixedTest ms ≡ 0
+  unfolding lawfulFields fieldsTest
+  fixed-first fields t = fixed-none (fixedTest ms) _ (eqb-true (fieldsTest ms fields) 0 t)
     where
       fixed-none : (n x : ℕ) → ifNone n x ≡ 0 → n ≡ 0
       fixed-none zero x e = refl
       fixed-none (suc n) x e = absurd (omega arith)
 
-  as-many : (bytes : List ℕ) → Bytes (readingSize ms) bytes → Bytes (entryBytes * count (restsIn ms)) bytes
-  unfolding readingSize
-  as-many bytes b = subst (λ (n : ℕ). Bytes (entryBytes * n) bytes) (sym (size (longRests ms))) b
+  as-many : (fields : List ℕ) → Fields (length (longRests ms)) fields → Fields (count (restsIn ms)) fields
+  as-many fields b = subst (λ (n : ℕ). Fields n fields) (sym (size (longRests ms))) b
 
-  as-few : (bytes : List ℕ) → Bytes (entryBytes * count (restsIn ms)) bytes → Bytes (readingSize ms) bytes
-  unfolding readingSize
-  as-few bytes b = subst (λ (n : ℕ). Bytes (entryBytes * n) bytes) (size (longRests ms)) b
+  as-few : (fields : List ℕ) → Fields (count (restsIn ms)) fields → Fields (length (longRests ms)) fields
+  as-few fields b = subst (λ (n : ℕ). Fields n fields) (size (longRests ms)) b
 
-  pub least : {f : List ℕ} → firstLawful ms ≡ some f → Least (restsIn ms) f
+  pub least : {f : List ℕ} → firstFields ms ≡ some f → Least (restsIn ms) f
   least {f} e =
-      let l = first-sound ms e in
+      let first = first-fields ms e in
+      let l = first .sound in
       record {
-        bytes = as-many f (l .bytes);
+        bounded = as-many f (l .bounded);
         keeps = lawful-kept f (l .keeps);
-        first = λ t b k. first-least ms e (record { bytes = as-few t b; keeps = kept-lawful (fixed-first f (l .keeps)) t k });
+        first = λ t b k. first .least t (record { bounded = as-few t b; keeps = kept-lawful (fixed-first f (l .keeps)) t k });
       }
 
   pub has-kept : HasReading ms → HasKept (restsIn ms)
@@ -202,10 +201,10 @@ module _ (ms : List ℕ) where
 
 -- ---- the answer whether there is a lawful reading
 pub to-has : {ms : List ℕ} → HasReading ms → HasLawful ms
-to-has (r, b, k) = (r, record { bytes = b; keeps = k })
+to-has (r, b, k) = (r, record { bounded = b; keeps = k })
 
 pub from-has : {ms : List ℕ} → HasLawful ms → HasReading ms
-from-has (r, l) = (r, l .bytes, l .keeps)
+from-has (r, l) = (r, l .bounded, l .keeps)
 
 pub has-none : (ms : List ℕ) → (fixedTest ms ≡ 0 → ⊥) → false ≡ not (isNone (firstLawful ms))
 has-none ms f = sym (ap (λ (o : Option (List ℕ)). not (isNone o)) (is-none ms (λ h. f (fixed-first ms (h .0) (h .1 .keeps)))))
@@ -262,5 +261,5 @@ module _ {ms starts ends nets : List ℕ} {r : Rests} (q : Whole ms starts ends 
       by-fixed ms (r .rule) (sym (q .fixed))
       (subst (λ (c : Course). ByRule c (r .rule) t) (course-there (q .rests) within (r .judged) (q .judged)) a)
 
-  pub whole-least : {f : List ℕ} → firstLawful ms ≡ some f → Least (restsOnly starts ends nets (r .judged)) f
+  pub whole-least : {f : List ℕ} → firstFields ms ≡ some f → Least (restsOnly starts ends nets (r .judged)) f
   whole-least {f} e = subst (λ (c : Course). Least c f) (sym (course-there (q .rests) within (r .judged) (q .judged))) (least ms e)

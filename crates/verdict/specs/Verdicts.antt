@@ -14,9 +14,9 @@ use Rattle.recording.specs.Weeks.{weekStart, weekOf}
 use Rattle.recording.specs.declared.Span.{Span}
 use Rattle.rules.specs.Fixed.{fixedTest}
 use Rattle.rules_fixed.specs.Account.{accountFrom, opening}
-use Rattle.rules.specs.Verdict.{lawful, prefix}
-use Rattle.rules.specs.Order.{Bytes}
-use Rattle.rules.specs.Reading.{entryBytes, readingSize}
+use Rattle.rules.specs.Verdict.{lawfulFields, prefix}
+use Rattle.rules.specs.Order.{Fields}
+use Rattle.rules.specs.Reading.{bytesOf}
 use Rattle.rules.specs.ReadingRules.{weeklyGap}
 use Rattle.verdict_completion.specs.Completable.{Course, at, count}
 use Rattle.rules_fixed.specs.Nets.{netsOf}
@@ -25,16 +25,16 @@ use Rattle.verdict.specs.declared.Rests.{Rests}
 
 -- where it is wanted the first reading of these rests that keeps rules 6 to 11 is written, and only there
 pub record WrittenIf (wanted : Bool) (c : Course) (old new : List ℕ) : Type 0 where
-  pub written : wanted ≡ true → (f : List ℕ) → Least c f → new ≡ f
+  pub written : wanted ≡ true → (f : List ℕ) → Least c f → new ≡ bytesOf f
   pub left : wanted ≡ false → new ≡ old
 
--- ---- a reading of long rests that keeps rules 6 to 11, and whether there is one
+-- ---- a reading of long rests, by its fields, that keeps rules 6 to 11, and whether there is one
 abbrev pub HasKept : Course → Type 0
-HasKept c = (bytes : List ℕ) × Bytes (entryBytes * count c) bytes × KeptBy c bytes
+HasKept c = (fields : List ℕ) × Fields (count c) fields × KeptBy c fields
 
 pub record Some (c : Course) (r : Bool) : Type 0 where
   pub yes : r ≡ true → HasKept c
-  pub no : r ≡ false → (bytes : List ℕ) → KeptBy c bytes → ⊥
+  pub no : r ≡ false → (fields : List ℕ) → KeptBy c fields → ⊥
 
 -- the same, where the fixed rules hold; where one is broken the answer is no
 pub record ByRule (c : Course) (rule : ℕ) (r : Bool) : Type 0 where
@@ -43,7 +43,7 @@ pub record ByRule (c : Course) (rule : ℕ) (r : Bool) : Type 0 where
 
 -- a lawful reading; and whether there is one, where the fixed rules hold
 abbrev pub HasReading : List ℕ → Type 0
-HasReading ms = (reading : List ℕ) × Bytes (readingSize ms) reading × (lawful ms reading ≡ true)
+HasReading ms = (fields : List ℕ) × Fields (length (longRests ms)) fields × (lawfulFields ms fields ≡ true)
 
 pub record Readable (ms : List ℕ) (r : Bool) : Type 0 where
   pub yes : r ≡ true → fixedTest ms ≡ 0 → HasReading ms
@@ -86,6 +86,12 @@ pub record Whole (ms starts ends nets : List ℕ) (r : Rests) : Type 0 where
   pub judged : r .judged ≡ judgedEnd ms
   pub fixed : r .rule ≡ fixedTest ms
   pub first : r .first ≡ accountFrom opening ms .first
+
+-- three slices have room for them
+pub record Roomy (words starts ends nets : List ℕ) : Type 0 where
+  pub begun : length (longRests (minutesOf words)) ≤ length starts
+  pub ended : length (longRests (minutesOf words)) ≤ length ends
+  pub numbered : length (longRests (minutesOf words)) ≤ length nets
 
 -- the same in front of three slices, with their count
 pub record InFront (words : List ℕ) (r : Rests) (starts ends nets : List ℕ) : Type 0 where

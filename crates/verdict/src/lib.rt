@@ -8,6 +8,7 @@ ghost use mathlib.Core.Path.{_≡_};
 ghost use mathlib.Core.List.{_∷_};
 ghost use Prim.Native.Nat.{ℕ, _+_, _*_, _≤_, _<_};
 ghost use lib.ListN.{length};
+ghost use Rattle.recording.specs.Scan.{shortRests};
 ghost use Rattle.recording.specs.Words.{minutesOf};
 ghost use Rattle.recording.specs.Answers.{answered, counted, filled};
 ghost use Rattle.recording.specs.Operations.{totalAtMost, measured, written};
@@ -19,7 +20,7 @@ ghost use Rattle.rules.specs.Reading.{entryBytes};
 ghost use Rattle.verdict_completion.specs.Completable.{at, count, Lies};
 ghost use Rattle.verdict_first_reading.specs.First.{restsOnly};
 ghost use Rattle.verdict.specs.Judgements.{findingBy};
-ghost use Rattle.verdict.specs.Verdicts.{InFront, Some, ByRule, HasReading, Bound, AllRests, Whole, dayStart, DayReadable};
+ghost use Rattle.verdict.specs.Verdicts.{Roomy, InFront, Some, ByRule, HasReading, Bound, AllRests, Whole, dayStart, DayReadable};
 ghost use Rattle.verdict.specs.Verdicts.{LastDay, DayTop, Sooner, NextDemand, FirstWithout, laterOf, activeIn, NextActive, WrittenIf};
 
 // A breach: the length of the shortest stretch without a lawful reading, and its article, 1 to 6.
@@ -46,7 +47,7 @@ pub struct Rests {
 // The article of a breach where all fixed rules hold.
 const NO_FIXED_RULE: u32 = 6;
 
-// How many long rests are few, some or many; for so many there is a level of nogoods each, and room for some states in a front.
+// How many long rests are few, some, many or plenty; for so many there is a level of nogoods each, and room for some states in a front.
 pub const FEW: u32 = 8;
 
 pub const FEW_NOGOODS: usize = FEW as usize * verdict_nogoods::LEVEL_WORDS;
@@ -65,7 +66,15 @@ pub const MANY_NOGOODS: usize = MANY as usize * verdict_nogoods::LEVEL_WORDS;
 
 pub const MANY_STATES: usize = 256 * verdict_nogoods::ENTRY_WORDS;
 
-// Any number of long rests.
+pub const PLENTY: u32 = 224;
+
+pub const PLENTY_NOGOODS: usize = PLENTY as usize * verdict_nogoods::LEVEL_WORDS;
+
+pub const PLENTY_STATES: usize = 1024 * verdict_nogoods::ENTRY_WORDS;
+
+// Any number of long rests: what is lent, four fronts and the nogoods, comes to 1 MiB at most.
+pub const MOST_NOGOODS: usize = verdict_nogoods::TABLE_WORDS;
+
 pub const MOST_STATES: usize = 1024 * verdict_nogoods::ENTRY_WORDS;
 
 // The long rests of a recording into three slices: where each starts and ends, and its number. The recording is a first word, also one of no minutes,
@@ -77,8 +86,7 @@ fn rests_of(
     ends: &mut [u32],
     nets: &mut [u32],
 ) -> Rests
-    requires { ⌜ (length (minutesOf (head ∷ now words)) ≤ totalAtMost) × (longRestsAtMost ≤ length (now starts)) × (longRestsAtMost ≤ length (now ends))
-        × (longRestsAtMost ≤ length (now nets)) ⌝ }
+    requires { ⌜ (length (minutesOf (head ∷ now words)) ≤ totalAtMost) × Roomy (head ∷ now words) (now starts) (now ends) (now nets) ⌝ }
     ensures { λ r. ⌜ InFront (head ∷ now (words .entry)) r (now (starts .exit)) (now (ends .exit)) (now (nets .exit)) ⌝ }
 {
     let found = rules_fixed::survey_from(head, words, starts, ends, nets);
@@ -94,8 +102,37 @@ fn rests_of(
     }
 }
 
-// Whether long rests have a reading that keeps rules 6 to 11.
-fn some_reading(
+// Whether long rests have a reading that keeps rules 6 to 11: no more of them than a short recording has.
+fn some_short(
+    starts: &[u32],
+    ends: &[u32],
+    nets: &[u32],
+    s: u32,
+    nogoods: &mut [u32],
+    front: &mut [u32],
+    other: &mut [u32],
+) -> Swept
+    requires { ⌜ (Lies (restsOnly (now starts) (now ends) (now nets) s)) × (length (now starts) ≤ longRestsAtMost) × (s ≤ totalAtMost) × (length (now starts) ≤ shortRests) ⌝ }
+    ensures { λ r. ⌜ Some (restsOnly (now (starts .entry)) (now (ends .entry)) (now (nets .entry)) s) (r .yes) ⌝ }
+{
+    let k = starts.len();
+    let compensations = [0u32; recording::SHORT_RESTS];
+    let mut outstanding = [0u32; recording::SHORT_RESTS];
+    verdict_sweep::possible(
+        starts,
+        ends,
+        nets,
+        &compensations[..k],
+        s,
+        &mut outstanding[..k],
+        nogoods,
+        front,
+        other,
+    )
+}
+
+// The same of any number.
+fn some_long(
     starts: &[u32],
     ends: &[u32],
     nets: &[u32],
@@ -121,6 +158,25 @@ fn some_reading(
         front,
         other,
     )
+}
+
+// The same by their number.
+fn some_reading(
+    starts: &[u32],
+    ends: &[u32],
+    nets: &[u32],
+    s: u32,
+    nogoods: &mut [u32],
+    front: &mut [u32],
+    other: &mut [u32],
+) -> Swept
+    requires { ⌜ (Lies (restsOnly (now starts) (now ends) (now nets) s)) × (length (now starts) ≤ longRestsAtMost) × (s ≤ totalAtMost) ⌝ }
+    ensures { λ r. ⌜ Some (restsOnly (now (starts .entry)) (now (ends .entry)) (now (nets .entry)) s) (r .yes) ⌝ }
+{
+    if starts.len() <= recording::SHORT_RESTS {
+        return some_short(starts, ends, nets, s, nogoods, front, other);
+    }
+    some_long(starts, ends, nets, s, nogoods, front, other)
 }
 
 // Whether the long rests of a stretch have a lawful reading, by the smallest fixed rule that it breaks, or 0.
@@ -524,7 +580,40 @@ fn judged_by(
 
 // ---- the verdict
 
-// The verdict on a recording of so many minutes, no more than there may be. The nogoods and the fronts are room for the search, of any length.
+// The verdict on a recording of so many minutes, no more than there may be, with room for its long rests. The nogoods and the fronts are room for the search,
+// of any length.
+fn verdict_among(
+    head: u32,
+    words: &[u32],
+    total: u32,
+    starts: &mut [u32],
+    ends: &mut [u32],
+    nets: &mut [u32],
+    nogoods: &mut [u32],
+    front: &mut [u32],
+    other: &mut [u32],
+) -> Judgement
+    requires { ⌜ (length (minutesOf (head ∷ now words)) ≤ totalAtMost) × (total ≡ length (minutesOf (head ∷ now words)))
+        × Roomy (head ∷ now words) (now starts) (now ends) (now nets) ⌝ }
+    ensures { λ r. ⌜ findingBy r ≡ answered (findingOf (verdict (minutesOf (head ∷ now (words .entry))))) ⌝ }
+{
+    let whole = rests_of(head, words, starts, ends, nets);
+    let k = whole.count;
+    judged_by(
+        head,
+        words,
+        &starts[..k],
+        &ends[..k],
+        &nets[..k],
+        total,
+        whole,
+        nogoods,
+        front,
+        other,
+    )
+}
+
+// The same with room of its own, by the recording's length.
 pub fn verdict_from(
     head: u32,
     words: &[u32],
@@ -536,19 +625,32 @@ pub fn verdict_from(
     requires { ⌜ (length (minutesOf (head ∷ now words)) ≤ totalAtMost) × (total ≡ length (minutesOf (head ∷ now words))) ⌝ }
     ensures { λ r. ⌜ findingBy r ≡ answered (findingOf (verdict (minutesOf (head ∷ now (words .entry))))) ⌝ }
 {
+    if total <= recording::SHORT_TOTAL {
+        let mut starts = [0u32; recording::SHORT_RESTS];
+        let mut ends = [0u32; recording::SHORT_RESTS];
+        let mut nets = [0u32; recording::SHORT_RESTS];
+        return verdict_among(
+            head,
+            words,
+            total,
+            &mut starts,
+            &mut ends,
+            &mut nets,
+            nogoods,
+            front,
+            other,
+        );
+    }
     let mut starts = [0u32; recording::LONG_RESTS];
     let mut ends = [0u32; recording::LONG_RESTS];
     let mut nets = [0u32; recording::LONG_RESTS];
-    let whole = rests_of(head, words, &mut starts, &mut ends, &mut nets);
-    let k = whole.count;
-    judged_by(
+    verdict_among(
         head,
         words,
-        &starts[..k],
-        &ends[..k],
-        &nets[..k],
         total,
-        whole,
+        &mut starts,
+        &mut ends,
+        &mut nets,
         nogoods,
         front,
         other,
@@ -602,12 +704,23 @@ fn verdict_of_many(words: &[u32], measure: Measure) -> Judgement
     verdict_within(words, measure, &mut nogoods, &mut front, &mut other)
 }
 
+// The same with room for plenty of long rests.
+fn verdict_of_plenty(words: &[u32], measure: Measure) -> Judgement
+    requires { ⌜ measured (now words) ≡ answered measure ⌝ }
+    ensures { λ r. ⌜ findingBy r ≡ verdictGiven (now (words .entry)) ⌝ }
+{
+    let mut nogoods = [0u32; PLENTY_NOGOODS];
+    let mut front = [0u32; PLENTY_STATES];
+    let mut other = [0u32; PLENTY_STATES];
+    verdict_within(words, measure, &mut nogoods, &mut front, &mut other)
+}
+
 // The same with room for as many long rests as there can be.
 fn verdict_of_most(words: &[u32], measure: Measure) -> Judgement
     requires { ⌜ measured (now words) ≡ answered measure ⌝ }
     ensures { λ r. ⌜ findingBy r ≡ verdictGiven (now (words .entry)) ⌝ }
 {
-    let mut nogoods = [0u32; verdict_nogoods::TABLE_WORDS];
+    let mut nogoods = [0u32; MOST_NOGOODS];
     let mut front = [0u32; MOST_STATES];
     let mut other = [0u32; MOST_STATES];
     verdict_within(words, measure, &mut nogoods, &mut front, &mut other)
@@ -627,6 +740,9 @@ fn verdict_in_room(words: &[u32], measure: Measure) -> Judgement
     }
     if count <= MANY {
         return verdict_of_many(words, measure);
+    }
+    if count <= PLENTY {
+        return verdict_of_plenty(words, measure);
     }
     verdict_of_most(words, measure)
 }
@@ -694,18 +810,22 @@ fn write_if(
     }
 }
 
-// The first lawful reading of a recording with this measure: refusal 4, then 13. The nogoods and the four fronts are room for the search, of any length.
-fn reading_within(
+// The first lawful reading of a recording with this measure, with room for its long rests: refusal 4, then 13. The nogoods and the four fronts are room for the
+// search, of any length.
+fn reading_among(
     words: &[u32],
     measure: Measure,
     reading: &mut [u8],
+    starts: &mut [u32],
+    ends: &mut [u32],
+    nets: &mut [u32],
     nogoods: &mut [u32],
     front: &mut [u32],
     other: &mut [u32],
     known: &mut [u32],
     beside: &mut [u32],
 ) -> Filling
-    requires { ⌜ measured (now words) ≡ answered measure ⌝ }
+    requires { ⌜ (measured (now words) ≡ answered measure) × Roomy (now words) (now starts) (now ends) (now nets) ⌝ }
     ensures { λ r. ⌜ written r ≡ counted (firstReadingGiven (now (words .entry)) (length (now (reading .entry)))) ⌝ }
     ensures { λ r. ⌜ now (reading .exit) ≡ filled (firstReadingGiven (now (words .entry)) (length (now (reading .entry)))) (now (reading .entry)) ⌝ }
 {
@@ -714,10 +834,7 @@ fn reading_within(
     if reading.len() < size {
         return Filling::Refused(4);
     }
-    let mut starts = [0u32; recording::LONG_RESTS];
-    let mut ends = [0u32; recording::LONG_RESTS];
-    let mut nets = [0u32; recording::LONG_RESTS];
-    let whole = rests_of(0, words, &mut starts, &mut ends, &mut nets);
+    let whole = rests_of(0, words, starts, ends, nets);
     let k = whole.count;
     let asked = lawful_by(
         &starts[..k],
@@ -747,6 +864,57 @@ fn reading_within(
         return Filling::Written(size as u32);
     }
     Filling::Refused(13)
+}
+
+// The same with room of its own, by the recording's length.
+fn reading_within(
+    words: &[u32],
+    measure: Measure,
+    reading: &mut [u8],
+    nogoods: &mut [u32],
+    front: &mut [u32],
+    other: &mut [u32],
+    known: &mut [u32],
+    beside: &mut [u32],
+) -> Filling
+    requires { ⌜ measured (now words) ≡ answered measure ⌝ }
+    ensures { λ r. ⌜ written r ≡ counted (firstReadingGiven (now (words .entry)) (length (now (reading .entry)))) ⌝ }
+    ensures { λ r. ⌜ now (reading .exit) ≡ filled (firstReadingGiven (now (words .entry)) (length (now (reading .entry)))) (now (reading .entry)) ⌝ }
+{
+    if measure.total <= recording::SHORT_TOTAL {
+        let mut starts = [0u32; recording::SHORT_RESTS];
+        let mut ends = [0u32; recording::SHORT_RESTS];
+        let mut nets = [0u32; recording::SHORT_RESTS];
+        return reading_among(
+            words,
+            measure,
+            reading,
+            &mut starts,
+            &mut ends,
+            &mut nets,
+            nogoods,
+            front,
+            other,
+            known,
+            beside,
+        );
+    }
+    let mut starts = [0u32; recording::LONG_RESTS];
+    let mut ends = [0u32; recording::LONG_RESTS];
+    let mut nets = [0u32; recording::LONG_RESTS];
+    reading_among(
+        words,
+        measure,
+        reading,
+        &mut starts,
+        &mut ends,
+        &mut nets,
+        nogoods,
+        front,
+        other,
+        known,
+        beside,
+    )
 }
 
 // The same with room for few long rests.
@@ -818,13 +986,36 @@ fn reading_of_many(words: &[u32], measure: Measure, reading: &mut [u8]) -> Filli
     )
 }
 
+// The same with room for plenty of long rests.
+fn reading_of_plenty(words: &[u32], measure: Measure, reading: &mut [u8]) -> Filling
+    requires { ⌜ measured (now words) ≡ answered measure ⌝ }
+    ensures { λ r. ⌜ written r ≡ counted (firstReadingGiven (now (words .entry)) (length (now (reading .entry)))) ⌝ }
+    ensures { λ r. ⌜ now (reading .exit) ≡ filled (firstReadingGiven (now (words .entry)) (length (now (reading .entry)))) (now (reading .entry)) ⌝ }
+{
+    let mut nogoods = [0u32; PLENTY_NOGOODS];
+    let mut front = [0u32; PLENTY_STATES];
+    let mut other = [0u32; PLENTY_STATES];
+    let mut known = [0u32; PLENTY_STATES];
+    let mut beside = [0u32; PLENTY_STATES];
+    reading_within(
+        words,
+        measure,
+        reading,
+        &mut nogoods,
+        &mut front,
+        &mut other,
+        &mut known,
+        &mut beside,
+    )
+}
+
 // The same with room for as many long rests as there can be.
 fn reading_of_most(words: &[u32], measure: Measure, reading: &mut [u8]) -> Filling
     requires { ⌜ measured (now words) ≡ answered measure ⌝ }
     ensures { λ r. ⌜ written r ≡ counted (firstReadingGiven (now (words .entry)) (length (now (reading .entry)))) ⌝ }
     ensures { λ r. ⌜ now (reading .exit) ≡ filled (firstReadingGiven (now (words .entry)) (length (now (reading .entry)))) (now (reading .entry)) ⌝ }
 {
-    let mut nogoods = [0u32; verdict_nogoods::TABLE_WORDS];
+    let mut nogoods = [0u32; MOST_NOGOODS];
     let mut front = [0u32; MOST_STATES];
     let mut other = [0u32; MOST_STATES];
     let mut known = [0u32; MOST_STATES];
@@ -856,6 +1047,9 @@ fn reading_in_room(words: &[u32], measure: Measure, reading: &mut [u8]) -> Filli
     }
     if count <= MANY {
         return reading_of_many(words, measure, reading);
+    }
+    if count <= PLENTY {
+        return reading_of_plenty(words, measure, reading);
     }
     reading_of_most(words, measure, reading)
 }

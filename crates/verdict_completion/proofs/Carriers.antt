@@ -1,4 +1,4 @@
--- Carriers decided late and carriers decided at once come to the same: the rests from one on can be completed exactly where some bytes for them
+-- Carriers decided late and carriers decided at once come to the same: the rests from one on can be completed exactly where some fields for them
 -- keep rules 6 to 11. Assumes nothing.
 use mathlib.Core.Path.{_≡_, refl, sym, ap, ap₂, subst, _∙_}
 use mathlib.Core.Logic.{_⊎_, inl, inr, ⊎-elim}
@@ -15,12 +15,11 @@ use Rattle.recording.specs.Tests.{pick, one, allOf}
 use Rattle.recording.specs.Weeks.{weekStart, weekOf}
 use Rattle.recording.specs.Operations.{totalAtMost}
 use Rattle.recording.proofs.TestLaws.{less-or-not}
-use Rattle.rules.specs.Reading.{Entry, minutes, dailyKind, weeklyKind, regularMinutes, asRead, isRegular, reductionOf, compensationOf, entryBytes, entryOf, entriesFrom}
+use Rattle.rules.specs.Reading.{Entry, minutes, dailyKind, weeklyKind, regularMinutes, asRead, isRegular, reductionOf, compensationOf, entryFields, byteValues, entryOf, entriesFrom}
 use Rattle.rules.specs.ReadingRules.{rule6, rule7, rule8, leastNet, deadline, endOf, shortenedAtMost, weeklyGap}
-use Rattle.rules.specs.Order.{byteValues, Bytes}
+use Rattle.rules.specs.Order.{carrierValues, Fields}
 use Rattle.rules.specs.declared.Kind.the-variants.{Daily, Weekly}
 use Rattle.rules.specs.declared.Standing.the-variants.{Regular}
-use Rattle.rules.proofs.Prefix.{entry-more}
 use Rattle.rules_fixed.specs.Nets.{countsBy}
 use Rattle.rules_reading.specs.Items.{endBefore, spanAt, spansFrom, Zeros}
 use Rattle.rules_reading.proofs.TallyLaws.{end-of-spans}
@@ -60,15 +59,15 @@ module _ (c : Course) where
   Compensations j past carrier outstanding = (i : ℕ) → j ≤ i → compensationOf (suc i) past ≡ at (c .compensations) i + brought (suc i) carrier outstanding j 0
 
   abbrev entryAt : ℕ → List Entry → List ℕ → Entry
-  entryAt j past bytes = entryOf (suc j) (endBefore (c .ends) j) past (spanAt (c .starts) (c .ends) j) bytes
+  entryAt j past fields = entryOf (suc j) (endBefore (c .ends) j) past (spanAt (c .starts) (c .ends) j) fields
 
   abbrev entriesAt : ℕ → ℕ → List Entry → List ℕ → List Entry
-  entriesAt n j past bytes = entriesFrom (suc j) (endBefore (c .ends) j) past (spansFrom (c .starts) (c .ends) j n) bytes
+  entriesAt n j past fields = entriesFrom (suc j) (endBefore (c .ends) j) past (spansFrom (c .starts) (c .ends) j n) fields
 
   -- rule 9 sees of a daily rest its number
-  pub shortened-at : (j : ℕ) (past : List Entry) (bytes : List ℕ) → counts c (entryAt j past bytes) ≡ shortens c j (compensationOf (suc j) past)
+  pub shortened-at : (j : ℕ) (past : List Entry) (fields : List ℕ) → counts c (entryAt j past fields) ≡ shortens c j (compensationOf (suc j) past)
   unfolding countsBy
-  shortened-at j past bytes =
+  shortened-at j past fields =
       let z : suc j - 1 ≡ j = omega arith in
       ap (λ (i : ℕ). ltb (lengthAt c j) (at (c .nets) i + compensationOf (suc j) past)) z
 
@@ -127,10 +126,10 @@ module _ (c : Course) where
   carrier-some : (reduction carrier : ℕ) → 0 < reduction → carrierOf reduction carrier ≡ carrier
   carrier-some reduction carrier h = rw (ne-eqb reduction 0 (λ z. omega arith)) refl
 
-  carrier-byte : count c < byteValues → {j carrier reduction : ℕ} → Way j carrier reduction → carrierOf reduction carrier < byteValues
-  carrier-byte few {j} {carrier} {reduction} w = ⊎-elim (λ z. rw z (omega arith)) (λ h. rw (carrier-some reduction carrier h) (by h w)) (eq-zero-or-pos reduction)
+  carrier-value : count c < carrierValues → {j carrier reduction : ℕ} → Way j carrier reduction → carrierOf reduction carrier < carrierValues
+  carrier-value few {j} {carrier} {reduction} w = ⊎-elim (λ z. rw z (omega arith)) (λ h. rw (carrier-some reduction carrier h) (by h w)) (eq-zero-or-pos reduction)
     where
-      by : 0 < reduction → Way j carrier reduction → carrier < byteValues
+      by : 0 < reduction → Way j carrier reduction → carrier < carrierValues
       by h (Way.none z) = absurd (omega arith)
       by h (Way.late z l) = omega arith
       by h (Way.there i z l m d) = omega arith
@@ -175,21 +174,21 @@ module _ (c : Course) where
           let v : deadlineOf (reductionAfter e) ≡ deadline e = reduction-deadline (minutes e) (e .compensation) (e .week) n r in
           Way.there i y (omega arith) m (subst (λ (x : ℕ). at (c .ends) i ≤ x) (sym v) (subst (λ (x : ℕ). x ≤ deadline e) u d))
 
-  -- ---- from a completion to bytes: carriers for what is outstanding, and bytes that are right after every past that compensates as the carriers say
+  -- ---- from a completion to fields: carriers for what is outstanding, and fields that are right after every past that compensates as the carriers say
   record Answer (n j : ℕ) (st : State) (outstanding : List ℕ) : Type 0 where
     carrier : ℕ → ℕ
-    bytes : List ℕ
+    fields : List ℕ
     settled : (x : ℕ) → x < j → Way j (carrier x) (at outstanding x)
-    are-bytes : Bytes (entryBytes * n) bytes
-    kept : (past : List Entry) → Compensations j past carrier outstanding → Keeps st (entriesAt n j past bytes)
+    bounded : Fields n fields
+    kept : (past : List Entry) → Compensations j past carrier outstanding → Keeps st (entriesAt n j past fields)
 
   answer-end : (j : ℕ) (st : State) (outstanding : List ℕ) → Completable c 0 j st outstanding → Answer 0 j st outstanding
   unfolding Completable Overdue entriesFrom spansFrom rule6 rule7 rule8 allOf Runs
   answer-end j st outstanding h = record {
     carrier = λ x. 0;
-    bytes = [];
+    fields = [];
     settled = λ x l. ⊎-elim Way.none (λ p. Way.late refl (uncompensated x p)) (eq-zero-or-pos (at outstanding x));
-    are-bytes = tt;
+    bounded = tt;
     kept = λ past g. record { six = refl; seven = refl; eight = refl; runs = h .0 };
   }
     where
@@ -245,24 +244,24 @@ module _ (c : Course) where
     compensation-now past h =
         h j (le-refl _) ∙ sym (p .sum (suc j) (a .carrier) (λ x _ r s. not-now s (way-left x (omega arith))))
 
-    module _ (few : count c < byteValues) {st here : State} (gap : at (c .starts) j ≤ st .ended + weeklyGap)
+    module _ (few : count c < carrierValues) {st here : State} (gap : at (c .starts) j ≤ st .ended + weeklyGap)
         (reached : advance (restWeek c) (weekOf (at (c .starts) j) - st .week) st ≡ To here) where
       answer-daily : leastNet Daily + p .total ≤ lengthAt c j → here .short + one (shortens c j (p .total)) ≤ shortenedAtMost
           → st′ ≡ afterDaily (shortens c j (p .total)) here → at next j ≡ 0 → Answer (suc n) j st outstanding
       unfolding entriesFrom spansFrom
       answer-daily net short to nothing = record {
         carrier = by-now;
-        bytes = dailyKind ∷ 0 ∷ 0 ∷ a .bytes;
+        fields = dailyKind ∷ 0 ∷ 0 ∷ a .fields;
         settled = settled-now;
-        are-bytes = rw (entry-more n) (omega arith, (omega arith, (omega arith, a .are-bytes)));
+        bounded = (omega arith, (omega arith, (omega arith, a .bounded)));
         kept = λ past h.
-            let e : Entry = entryAt j past (dailyKind ∷ 0 ∷ 0 ∷ a .bytes) in
+            let e : Entry = entryAt j past (dailyKind ∷ 0 ∷ 0 ∷ a .fields) in
             let l : compensationOf (suc j) past ≡ p .total = compensation-now past h in
-            let b : counts c e ≡ shortens c j (p .total) = shortened-at j past (dailyKind ∷ 0 ∷ 0 ∷ a .bytes) ∙ ap (shortens c j) l in
-            let k : Keeps st′ (entriesAt n (suc j) (e ∷ past) (a .bytes)) =
+            let b : counts c e ≡ shortens c j (p .total) = shortened-at j past (dailyKind ∷ 0 ∷ 0 ∷ a .fields) ∙ ap (shortens c j) l in
+            let k : Keeps st′ (entriesAt n (suc j) (e ∷ past) (a .fields)) =
             a .kept (e ∷ past) (compensations-next j past e by-now (a .carrier) outstanding next h moves-now
             (own-share e (a .carrier j) (at next j) (reduction-daily e refl ∙ ap amountOf (sym nothing)) (λ s. absurd (omega arith)))) in
-            kept-daily (restWeek c) (counts c) (c .judged) (spansOf c) st e (entriesAt n (suc j) (e ∷ past) (a .bytes)) (record {
+            kept-daily (restWeek c) (counts c) (c .judged) (spansOf c) st e (entriesAt n (suc j) (e ∷ past) (a .fields)) (record {
               here = here;
               head = record {
                 kind = refl;
@@ -273,7 +272,7 @@ module _ (c : Course) where
               };
               gap = gap;
               reached = reached;
-              then = subst (λ (x : State). Keeps x (entriesAt n (suc j) (e ∷ past) (a .bytes))) (to ∙ ap (λ (x : Bool). afterDaily x here) (sym b)) k;
+              then = subst (λ (x : State). Keeps x (entriesAt n (suc j) (e ∷ past) (a .fields))) (to ∙ ap (λ (x : Bool). afterDaily x here) (sym b)) k;
             });
       }
 
@@ -286,25 +285,25 @@ module _ (c : Course) where
           let way : Way (suc j) (a .carrier j) (outstandingOf (lengthAt c j) (p .total) w) =
           subst (λ (d : ℕ). Way (suc j) (a .carrier j) d) isOutstanding (a .settled j (omega arith)) in
           let carrier : ℕ = carrierOf (outstandingOf (lengthAt c j) (p .total) w) (a .carrier j) in
-          let bytes : List ℕ = weeklyKind ∷ w ∷ carrier ∷ a .bytes in
+          let fields : List ℕ = weeklyKind ∷ w ∷ carrier ∷ a .fields in
           record {
             carrier = by-now;
-            bytes = bytes;
+            fields = fields;
             settled = settled-now;
-            are-bytes = rw (entry-more n) (omega arith, (small, (carrier-byte few way, a .are-bytes)));
+            bounded = (omega arith, (small, (carrier-value few way, a .bounded)));
             kept = λ past h.
-                let e : Entry = entryAt j past bytes in
+                let e : Entry = entryAt j past fields in
                 let l : compensationOf (suc j) past ≡ p .total = compensation-now past h in
                 let m : leastNet (Weekly Regular) + e .compensation ≤ minutes e = omega (arith, net, l) in
                 let o : reductionAfter e ≡ outstandingOf (lengthAt c j) (p .total) w = ap (λ (x : ℕ). outstandingOf (lengthAt c j) x w) l in
                 let r : isRegular (asRead e) ≡ leb (regularMinutes + p .total) (lengthAt c j) =
                 regular-weekly e refl ∙ ap (λ (x : ℕ). leb (regularMinutes + x) (lengthAt c j)) l in
                 let q : e .compensatedBy ≡ carrierOf (reductionAfter e) (a .carrier j) = ap (λ (x : ℕ). carrierOf x (a .carrier j)) (sym o) in
-                let k : Keeps st′ (entriesAt n (suc j) (e ∷ past) (a .bytes)) =
+                let k : Keeps st′ (entriesAt n (suc j) (e ∷ past) (a .fields)) =
                 a .kept (e ∷ past) (compensations-next j past e by-now (a .carrier) outstanding next h moves-now
                 (own-share e (a .carrier j) (at next j) (reduction-weekly e refl ∙ sym (reduction-amount (minutes e) (e .compensation) (e .week) m) ∙ ap amountOf (o ∙ sym isOutstanding))
                 (λ s. ap (λ (x : ℕ). carrierOf x (a .carrier j)) (sym isOutstanding) ∙ carrier-some (at next j) (a .carrier j) s))) in
-                kept-weekly (restWeek c) (counts c) (c .judged) (spansOf c) st e (entriesAt n (suc j) (e ∷ past) (a .bytes)) (record {
+                kept-weekly (restWeek c) (counts c) (c .judged) (spansOf c) st e (entriesAt n (suc j) (e ∷ past) (a .fields)) (record {
                   here = here;
                   there = there;
                   head = record {
@@ -318,12 +317,12 @@ module _ (c : Course) where
                   reached = reached;
                   counted = counted;
                   then =
-                      subst (λ (x : State). Keeps x (entriesAt n (suc j) (e ∷ past) (a .bytes)))
+                      subst (λ (x : State). Keeps x (entriesAt n (suc j) (e ∷ past) (a .fields)))
                       (to ∙ ap (λ (x : Bool). afterWeekly (restWeek c w) x (at (c .ends) j) there) (sym r)) k;
                 });
           }
 
-  module _ (lies : Lies c) (few : count c < byteValues) (bound : c .judged ≤ totalAtMost) where
+  module _ (lies : Lies c) (few : count c < carrierValues) (bound : c .judged ≤ totalAtMost) where
     module _ (n j : ℕ) (st here : State) (outstanding : List ℕ) (inside : j < count c) (size : length outstanding ≡ count c) (fresh : (x : ℕ) → j ≤ x → at outstanding x ≡ 0)
         (gap : at (c .starts) j ≤ st .ended + weeklyGap) (on-time : Overdue outstanding (at (c .ends) j) → ⊥)
         (reached : advance (restWeek c) (weekOf (at (c .starts) j) - st .week) st ≡ To here)
@@ -357,7 +356,7 @@ module _ (c : Course) where
         answer-read n j st (t .state) outstanding (omega arith) size fresh (h .0) (h .1) (t .reached)
         (λ st′ next s f g. answer n (suc j) st′ next (omega arith) s f g) p (p .asked)
 
-  -- ---- from bytes to a completion: each rest compensates for the reductions whose carrier it is
+  -- ---- from fields to a completion: each rest compensates for the reductions whose carrier it is
   module _ (lies : Lies c) where
     -- where every outstanding reduction has a carrier, none is overdue
     not-overdue : (j : ℕ) (outstanding : List ℕ) (carrier : ℕ → ℕ) → j < count c → ((x : ℕ) → j ≤ x → at outstanding x ≡ 0)
@@ -405,33 +404,33 @@ module _ (c : Course) where
 
   abbrev Complete : ℕ → ℕ → Type 0
   Complete n j =
-      (st : State) (outstanding : List ℕ) (carrier : ℕ → ℕ) (past : List Entry) (bytes : List ℕ) → length outstanding ≡ count c
+      (st : State) (outstanding : List ℕ) (carrier : ℕ → ℕ) (past : List Entry) (fields : List ℕ) → length outstanding ≡ count c
       → ((x : ℕ) → j ≤ x → at outstanding x ≡ 0) → ((x : ℕ) → x < j → Way j (carrier x) (at outstanding x)) → Compensations j past carrier outstanding
-      → Keeps st (entriesAt n j past bytes) → Completable c n j st outstanding
+      → Keeps st (entriesAt n j past fields) → Completable c n j st outstanding
 
   complete-end : (j : ℕ) → j ≡ count c → Complete 0 j
   unfolding Completable entriesFrom spansFrom Runs
-  complete-end j k st outstanding carrier past bytes size fresh settled h g = (g .runs, none-left j outstanding carrier k fresh settled)
+  complete-end j k st outstanding carrier past fields size fresh settled h g = (g .runs, none-left j outstanding carrier k fresh settled)
 
-  module _ (lies : Lies c) (n j : ℕ) (inside : j < count c) (ih : Complete n (suc j)) (st : State) (outstanding : List ℕ) (carrier : ℕ → ℕ) (past : List Entry) (bytes : List ℕ)
+  module _ (lies : Lies c) (n j : ℕ) (inside : j < count c) (ih : Complete n (suc j)) (st : State) (outstanding : List ℕ) (carrier : ℕ → ℕ) (past : List Entry) (fields : List ℕ)
       (size : length outstanding ≡ count c) (fresh : (x : ℕ) → j ≤ x → at outstanding x ≡ 0) (settled : (x : ℕ) → x < j → Way j (carrier x) (at outstanding x))
       (compensations : Compensations j past carrier outstanding) where
     abbrev this : Entry
-    this = entryAt j past bytes
+    this = entryAt j past fields
 
     abbrev rest : List Entry
-    rest = entriesAt n (suc j) (entryAt j past bytes ∷ past) (drop entryBytes bytes)
+    rest = entriesAt n (suc j) (entryAt j past fields ∷ past) (drop entryFields fields)
 
     step-daily : (d : DailyStep (restWeek c) (counts c) (c .judged) (spansOf c) st this rest) (left : List ℕ) → Left (suc j) carrier j 0 outstanding left
         → ReadDaily c (Completable c n (suc j)) j (d .here) (this .compensation) left
     step-daily d left l =
-        let b = shortened-at j past bytes in
+        let b = shortened-at j past fields in
         let z : at left j ≡ 0 = l .beyond j (omega arith) ∙ fresh j (le-refl _) in
         record {
           net = d .head .net;
           few = subst (λ (x : Bool). d .here .short + one x ≤ shortenedAtMost) b (d .head .few);
           then =
-              ih _ left carrier (this ∷ past) (drop entryBytes bytes) (l .size ∙ size) (λ x r. l .beyond x (omega arith) ∙ fresh x (omega arith))
+              ih _ left carrier (this ∷ past) (drop entryFields fields) (l .size ∙ size) (λ x r. l .beyond x (omega arith) ∙ fresh x (omega arith))
               (settled-then l settled left carrier (λ x r. refl) (λ x r. refl) (Way.none z))
               (compensations-next j past this carrier carrier outstanding left compensations (moves-then l settled left carrier (λ x r. refl) (λ x r. refl))
               (own-share this (carrier j) (at left j) (reduction-daily this (d .head .kind) ∙ ap amountOf (sym z)) (λ s. absurd (omega arith))))
@@ -458,7 +457,7 @@ module _ (c : Course) where
           upto = d .head .upto;
           then =
               after _ (d .counted)
-              (ih _ next later (this ∷ past) (drop entryBytes bytes) (length-set left j reduction ∙ l .size ∙ size)
+              (ih _ next later (this ∷ past) (drop entryFields fields) (length-set left j reduction ∙ l .size ∙ size)
               (λ x r. set-other left j x reduction (λ q. omega arith) ∙ l .beyond x (omega arith) ∙ fresh x (omega arith))
               (settled-then l settled next later same below way)
               (compensations-next j past this carrier later outstanding next compensations (moves-then l settled next later same below)
@@ -468,7 +467,7 @@ module _ (c : Course) where
               (subst (λ (x : Bool). Keeps (afterWeekly (restWeek c (this .week)) x (at (c .ends) j) (d .there)) rest) (regular-weekly this (d .head .kind)) (d .then)));
         }
 
-    complete-next : Keeps st (entriesAt (suc n) j past bytes) → Completable c (suc n) j st outstanding
+    complete-next : Keeps st (entriesAt (suc n) j past fields) → Completable c (suc n) j st outstanding
     unfolding Completable entriesFrom spansFrom
     complete-next g = by (kept-head (restWeek c) (counts c) (c .judged) (spansOf c) st this rest g)
       where
@@ -497,19 +496,19 @@ module _ (c : Course) where
 no-more : (p number : ℕ) (carrier : ℕ → ℕ) (outstanding : List ℕ) (m : ℕ) → Zeros outstanding → p ≡ p + brought number carrier outstanding m 0
 no-more p number carrier outstanding m z = let b : brought number carrier outstanding m 0 ≡ 0 = brought-nothing number carrier outstanding m 0 z in omega arith
 
-module _ (c : Course) (lies : Lies c) (few : count c < byteValues) (bound : c .judged ≤ totalAtMost) where
+module _ (c : Course) (lies : Lies c) (few : count c < carrierValues) (bound : c .judged ≤ totalAtMost) where
   pub extend : (n j : ℕ) (st : State) (outstanding : List ℕ) (past : List Entry) → n + j ≡ count c → length outstanding ≡ count c → Zeros outstanding
       → ((i : ℕ) → j ≤ i → at (c .compensations) i ≡ compensationOf (suc i) past) → Completable c n j st outstanding
-      → (bytes : List ℕ) × Bytes (entryBytes * n) bytes
-      × Kept (restWeek c) (counts c) (c .judged) (spansOf c) st (entriesFrom (suc j) (endBefore (c .ends) j) past (spansFrom (c .starts) (c .ends) j n) bytes)
+      → (fields : List ℕ) × Fields n fields
+      × Kept (restWeek c) (counts c) (c .judged) (spansOf c) st (entriesFrom (suc j) (endBefore (c .ends) j) past (spansFrom (c .starts) (c .ends) j n) fields)
   extend n j st outstanding past k size z h g =
       let a = answer c lies few bound n j st outstanding k size (λ x l. z x) g in
-      (a .bytes, a .are-bytes, a .kept past (λ i l. sym (h i l) ∙ no-more (at (c .compensations) i) (suc i) (a .carrier) outstanding j z))
+      (a .fields, a .bounded, a .kept past (λ i l. sym (h i l) ∙ no-more (at (c .compensations) i) (suc i) (a .carrier) outstanding j z))
 
   pub extended : (n j : ℕ) (st : State) (outstanding : List ℕ) (past : List Entry) → n + j ≡ count c → length outstanding ≡ count c → Zeros outstanding
-      → ((i : ℕ) → j ≤ i → at (c .compensations) i ≡ compensationOf (suc i) past) → (bytes : List ℕ)
-      → Kept (restWeek c) (counts c) (c .judged) (spansOf c) st (entriesFrom (suc j) (endBefore (c .ends) j) past (spansFrom (c .starts) (c .ends) j n) bytes)
+      → ((i : ℕ) → j ≤ i → at (c .compensations) i ≡ compensationOf (suc i) past) → (fields : List ℕ)
+      → Kept (restWeek c) (counts c) (c .judged) (spansOf c) st (entriesFrom (suc j) (endBefore (c .ends) j) past (spansFrom (c .starts) (c .ends) j n) fields)
       → Completable c n j st outstanding
-  extended n j st outstanding past k size z h bytes g =
-      complete c lies n j k st outstanding (λ x. 0) past bytes size (λ x l. z x) (λ x l. Way.none (z x))
+  extended n j st outstanding past k size z h fields g =
+      complete c lies n j k st outstanding (λ x. 0) past fields size (λ x l. z x) (λ x l. Way.none (z x))
       (λ i l. sym (h i l) ∙ no-more (at (c .compensations) i) (suc i) (λ x. 0) outstanding j z) g

@@ -14,7 +14,7 @@ use Rattle.recording.specs.Weeks.{weekStart, weekOf}
 use Rattle.recording.specs.declared.Span.{Span}
 use Rattle.recording.proofs.TestLaws.{and-left, and-right, and-both, or-else, or-left, or-right}
 use Rattle.recording.proofs.LongRests.{Ordered}
-use Rattle.rules.specs.Reading.{Entry, asRead, isWeekly, isRegular, entryBytes, entryOf, entriesFrom, entries}
+use Rattle.rules.specs.Reading.{Entry, asRead, isWeekly, isRegular, entryFields, entryOf, entriesFrom, entries}
 use Rattle.rules.specs.ReadingRules.{formed, rule6, shortenedAtMost, rule9From, rule9, weeklyGap, inGap, rule10From, rule10, ofKind, enoughIn, laterTest}
 use Rattle.rules.specs.declared.Kind.{Kind}
 use Rattle.rules.specs.declared.Kind.the-variants.{Daily, Weekly}
@@ -41,13 +41,13 @@ module _ (s : ℕ) where
     none : {t : ℕ} → t ≤ s → InOrder t []
     next : {t : ℕ} {e : Entry} {es : List Entry} → t ≤ e .span .start → e .span .start < e .span .end → InOrder (e .span .end) es → InOrder t (e ∷ es)
 
-  pub in-order : (n p : ℕ) (earlier : List Entry) (bytes : List ℕ) {t from : ℕ} {rs : List Span} → t ≤ from → t ≤ s → Ordered s from rs
-      → InOrder t (entriesFrom n p earlier rs bytes)
+  pub in-order : (n p : ℕ) (earlier : List Entry) (fields : List ℕ) {t from : ℕ} {rs : List Span} → t ≤ from → t ≤ s → Ordered s from rs
+      → InOrder t (entriesFrom n p earlier rs fields)
   unfolding entriesFrom
-  in-order n p earlier bytes h l Ordered.none = none l
-  in-order n p earlier bytes h l (Ordered.next {r = r} a b c o) =
-      next {e = entryOf n p earlier r bytes} (le-trans h a) (omega arith)
-      (in-order (suc n) (r .end) (entryOf n p earlier r bytes ∷ earlier) (drop entryBytes bytes) (omega arith) (omega arith) o)
+  in-order n p earlier fields h l Ordered.none = none l
+  in-order n p earlier fields h l (Ordered.next {r = r} a b c o) =
+      next {e = entryOf n p earlier r fields} (le-trans h a) (omega arith)
+      (in-order (suc n) (r .end) (entryOf n p earlier r fields ∷ earlier) (drop entryFields fields) (omega arith) (omega arith) o)
 
   record Next (t : ℕ) (e : Entry) (es : List Entry) : Type 0 where
     after : t ≤ e .span .start
@@ -264,42 +264,42 @@ module _ (s : ℕ) where
         taken b (d .reached) g (λ next b′ r′. run-rules es b′ r′) (asRead e) refl (d .then)
 
 -- ---- from the start
-module _ (restWeek : ℕ → Bool) (counts : Entry → Bool) (s : ℕ) (rs : List Span) (bytes : List ℕ) (o : Ordered s 0 rs) where
-  at-start : rule6 (length rs) (entries rs bytes) ≡ true → Between s restWeek counts (length rs) [] (startState (restWeek 0)) (entries rs bytes)
+module _ (restWeek : ℕ → Bool) (counts : Entry → Bool) (s : ℕ) (rs : List Span) (fields : List ℕ) (o : Ordered s 0 rs) where
+  at-start : rule6 (length rs) (entries rs fields) ≡ true → Between s restWeek counts (length rs) [] (startState (restWeek 0)) (entries rs fields)
   unfolding rule6 entries
-  at-start t = record { seen = seen-start restWeek; from = 0; order = in-order s 1 0 [] bytes zero-le zero-le o; week = zero-le; form = t }
+  at-start t = record { seen = seen-start restWeek; from = 0; order = in-order s 1 0 [] fields zero-le zero-le o; week = zero-le; form = t }
 
-  start-alike : (w : ℕ) → Alike (allRead [] (entries rs bytes)) (entries rs bytes) w
+  start-alike : (w : ℕ) → Alike (allRead [] (entries rs fields)) (entries rs fields) w
   unfolding countOf
-  start-alike w = record { counts = λ f c. count-read (ofKind f w) [] (entries rs bytes) ∙ omega arith }
+  start-alike w = record { counts = λ f c. count-read (ofKind f w) [] (entries rs fields) ∙ omega arith }
 
-  start-enough : (w : ℕ) → enoughIn restWeek (allRead [] (entries rs bytes)) w ≡ enoughIn restWeek (entries rs bytes) w
+  start-enough : (w : ℕ) → enoughIn restWeek (allRead [] (entries rs fields)) w ≡ enoughIn restWeek (entries rs fields) w
   start-enough w = enough-alike restWeek w (start-alike w) (start-alike (w + 1))
 
-  pub later-kept : laterTest restWeek counts s rs (entries rs bytes) ≡ 0 → Kept restWeek counts s rs (startState (restWeek 0)) (entries rs bytes)
+  pub later-kept : laterTest restWeek counts s rs (entries rs fields) ≡ 0 → Kept restWeek counts s rs (startState (restWeek 0)) (entries rs fields)
   unfolding rule9 rule10
   later-kept t =
-      let l = later-rules restWeek counts s rs (entries rs bytes) t in
+      let l = later-rules restWeek counts s rs (entries rs fields) t in
       record {
         six = l .six;
         seven = l .seven;
         eight = l .eight;
-        runs = rules-run s restWeek counts (length rs) (entries rs bytes) (at-start (l .six)) (record {
+        runs = rules-run s restWeek counts (length rs) (entries rs fields) (at-start (l .six)) (record {
           nine = l .nine;
           ten = l .ten;
-          eleven = λ w h. start-enough w ∙ pair-enough restWeek s (entries rs bytes) (l .eleven) w h;
+          eleven = λ w h. start-enough w ∙ pair-enough restWeek s (entries rs fields) (l .eleven) w h;
         });
       }
 
-  pub kept-later : Kept restWeek counts s rs (startState (restWeek 0)) (entries rs bytes) → laterTest restWeek counts s rs (entries rs bytes) ≡ 0
+  pub kept-later : Kept restWeek counts s rs (startState (restWeek 0)) (entries rs fields) → laterTest restWeek counts s rs (entries rs fields) ≡ 0
   unfolding rule9 rule10
   kept-later a =
-      let h = run-rules s restWeek counts (length rs) (entries rs bytes) (at-start (a .six)) (a .runs) in
-      rules-later restWeek counts s rs (entries rs bytes) (record {
+      let h = run-rules s restWeek counts (length rs) (entries rs fields) (at-start (a .six)) (a .runs) in
+      rules-later restWeek counts s rs (entries rs fields) (record {
         six = a .six;
         seven = a .seven;
         eight = a .eight;
         nine = h .nine;
         ten = h .ten;
-        eleven = pairs-enough restWeek s (entries rs bytes) (λ w l. sym (start-enough w) ∙ h .eleven w l);
+        eleven = pairs-enough restWeek s (entries rs fields) (λ w l. sym (start-enough w) ∙ h .eleven w l);
       })

@@ -14,9 +14,9 @@ use borrow.Author.Tests.{eqb-true, eqb-false, ne-eqb}
 use Rattle.recording.specs.Tests.{pick, one}
 use Rattle.recording.specs.Weeks.{weekStart, weekOf}
 use Rattle.recording.specs.Operations.{totalAtMost}
-use Rattle.rules.specs.Reading.{Entry, dailyKind, weeklyKind, regularMinutes, asRead, isRegular, reductionOf, compensationOf, entryBytes, entryOf, entriesFrom}
+use Rattle.rules.specs.Reading.{Entry, dailyKind, weeklyKind, regularMinutes, asRead, isRegular, reductionOf, compensationOf, byteValues, entryOf, entriesFrom}
 use Rattle.rules.specs.ReadingRules.{leastNet, deadline, endOf, shortenedAtMost, weeklyGap}
-use Rattle.rules.specs.Order.{byteValues, Bytes, NotAfter}
+use Rattle.rules.specs.Order.{carrierValues, Fields, NotAfter}
 use Rattle.rules.specs.declared.Kind.the-variants.{Daily, Weekly}
 use Rattle.rules.specs.declared.Standing.the-variants.{Regular}
 use Rattle.rules_reading.specs.Items.{endBefore, spanAt, spansFrom, addedTo, Zeros}
@@ -33,33 +33,27 @@ use Rattle.verdict_search.specs.Search.{Later, withCompensations}
 use Rattle.verdict_first_reading.specs.Choices.{compensationAt, reductionAt, carrying, CanBeRead, CanBeDaily, CarriedBy}
 use Rattle.verdict_first_reading.specs.Choices.{afterCounted, CanBeWeekly, NotPast, FirstWeekly, KeepsFrom, LeastFrom, Ahead}
 
--- ---- bytes by threes
-three : (n : ℕ) → entryBytes * suc n ≡ suc (suc (suc (entryBytes * n)))
-three n = omega arith
-
--- a reading is an entry and what is left
+-- ---- fields by entries
+-- the fields of a reading are those of an entry and what is left
 record Entered (n : ℕ) (r : List ℕ) : Type 0 where
   kind : ℕ
   week : ℕ
   carrier : ℕ
   rest : List ℕ
   begins : r ≡ kind ∷ week ∷ carrier ∷ rest
-  bytes : Bytes n rest
+  bounded : Fields n rest
 
-entered-by : (n : ℕ) (r : List ℕ) → Bytes (suc (suc (suc n))) r → Entered n r
-entered-by n [] h = absurd h
-entered-by n (a ∷ []) h = absurd (h .1)
-entered-by n (a ∷ b ∷ []) h = absurd (h .1 .1)
-entered-by n (a ∷ b ∷ d ∷ r) h = record { kind = a; week = b; carrier = d; rest = r; begins = refl; bytes = h .1 .1 .1 }
+entered : (n : ℕ) (r : List ℕ) → Fields (suc n) r → Entered n r
+entered n [] h = absurd h
+entered n (a ∷ []) h = absurd (h .1)
+entered n (a ∷ b ∷ []) h = absurd (h .1 .1)
+entered n (a ∷ b ∷ d ∷ r) h = record { kind = a; week = b; carrier = d; rest = r; begins = refl; bounded = h .1 .1 .1 }
 
-entered : (n : ℕ) (r : List ℕ) → Bytes (entryBytes * suc n) r → Entered (entryBytes * n) r
-entered n r h = entered-by (entryBytes * n) r (subst (λ (m : ℕ). Bytes m r) (three n) h)
+with-entry : (n a b d : ℕ) (r : List ℕ) → a < byteValues → b < byteValues → d < carrierValues → Fields n r → Fields (suc n) (a ∷ b ∷ d ∷ r)
+with-entry n a b d r la lb ld h = (la, (lb, (ld, h)))
 
-with-bytes : (n a b d : ℕ) (r : List ℕ) → a < byteValues → b < byteValues → d < byteValues → Bytes (entryBytes * n) r → Bytes (entryBytes * suc n) (a ∷ b ∷ d ∷ r)
-with-bytes n a b d r la lb ld h = subst (λ (m : ℕ). Bytes m (a ∷ b ∷ d ∷ r)) (sym (three n)) (la, (lb, (ld, h)))
-
-without-entry : (n a b d : ℕ) (r : List ℕ) → Bytes (entryBytes * suc n) (a ∷ b ∷ d ∷ r) → Bytes (entryBytes * n) r
-without-entry n a b d r h = let g = subst (λ (m : ℕ). Bytes m (a ∷ b ∷ d ∷ r)) (three n) h in g .1 .1 .1
+without-entry : (n a b d : ℕ) (r : List ℕ) → Fields (suc n) (a ∷ b ∷ d ∷ r) → Fields n r
+without-entry n a b d r h = h .1 .1 .1
 
 -- ---- the order of readings that begin with an entry
 record Entry≤ (a b d a′ b′ d′ : ℕ) : Type 0 where
@@ -161,7 +155,7 @@ module _ (c : Course) (n j : ℕ) (st : State) (past : List Entry) where
     counted : advance (restWeek c) (w - here .week) here ≡ To there
     then : KeepsFrom c n (suc j) (afterCounted c j w there) (weekly c j past w x ∷ past) rest
 
-  -- the first entry of bytes that keep the rules
+  -- the first entry of fields that keep the rules
   data Begins (here : State) : List ℕ → Type 0 where
     daily-first : (rest : List ℕ) → DailyFirst here rest → Begins here (dailyKind ∷ 0 ∷ 0 ∷ rest)
     weekly-first : (w x : ℕ) (rest : List ℕ) → WeeklyFirst here w x rest → Begins here (weeklyKind ∷ w ∷ x ∷ rest)
@@ -297,7 +291,7 @@ module _ (c : Course) (n j : ℕ) (st : State) (past : List Entry) where
 -- ---- the first reading after that entry
 record Tail (n : ℕ) (P : List ℕ → Type 0) : Type 0 where
   rest : List ℕ
-  bytes : Bytes (entryBytes * n) rest
+  bounded : Fields n rest
   holds : P rest
 
 -- the next entry is that of a daily rest, or of a weekly rest in week w with carrier x
@@ -315,7 +309,7 @@ pub record NextWeekly (c : Course) (j : ℕ) (past : List Entry) (here : State) 
   pub counted : advance (restWeek c) (w - here .week) here ≡ To there
   pub ahead : Ahead (carrying c j x) (suc j) (afterCounted c j w there) (weekly c j past w x ∷ past) rest
 
-module _ (c : Course) (lies : Lies c) (few : count c < byteValues) (bound : c .judged ≤ totalAtMost) (long : length (c .compensations) ≡ count c)
+module _ (c : Course) (lies : Lies c) (few : count c < carrierValues) (bound : c .judged ≤ totalAtMost) (long : length (c .compensations) ≡ count c)
     (n j : ℕ) (k : suc n + j ≡ count c) (st : State) (past : List Entry) (compensations : (i : ℕ) → j ≤ i → at (c .compensations) i ≡ compensationOf (suc i) past)
     (here : State) (reached : advance (restWeek c) (weekOf (at (c .starts) j) - st .week) st ≡ To here) where
   module _ (outstanding : List ℕ) (size : length outstanding ≡ count c) (zeros : Zeros outstanding) where
@@ -345,7 +339,7 @@ module _ (c : Course) (lies : Lies c) (few : count c < byteValues) (bound : c .j
     can-be-daily gap g =
         let a = extend c lies few bound n (suc j) _ outstanding (daily c j past ∷ past) (omega arith) size zeros (daily-compensations c n j st past compensations)
         (later-out c n j _ outstanding k (g .then)) in
-        record { rest = a .0; bytes = a .1; holds = record { gap = gap; net = g .net; few = g .few; then = a .2 } }
+        record { rest = a .0; bounded = a .1; holds = record { gap = gap; net = g .net; few = g .few; then = a .2 } }
 
     weekly-goes : (w x : ℕ) → at (c .starts) j ≤ st .ended + weeklyGap → CanBeWeekly c j here outstanding w x → Tail n (WeeklyFirst c n j st past here w x)
     weekly-goes w x gap g =
@@ -354,7 +348,7 @@ module _ (c : Course) (lies : Lies c) (few : count c < byteValues) (bound : c .j
         (weekly-compensations c n j st past compensations w x long (g .carried)) (later-out (carrying c j x) n j _ outstanding k (t .holds)) in
         record {
           rest = a .0;
-          bytes = a .1;
+          bounded = a .1;
           holds = record {
             gap = gap;
             net = g .net;
@@ -374,11 +368,11 @@ module _ (c : Course) (lies : Lies c) (few : count c < byteValues) (bound : c .j
     left = n;
     counts = omega arith;
     least = record {
-      bytes = without-entry n dailyKind 0 0 rest (l .bytes);
+      bounded = without-entry n dailyKind 0 0 rest (l .bounded);
       keeps = h .then;
       first = λ t b g.
           after-entry dailyKind 0 0 rest t
-          (l .first (dailyKind ∷ 0 ∷ 0 ∷ t) (with-bytes n dailyKind 0 0 t (omega arith) (omega arith) (omega arith) b)
+          (l .first (dailyKind ∷ 0 ∷ 0 ∷ t) (with-entry n dailyKind 0 0 t (omega arith) (omega arith) (omega arith) b)
           (daily-keeps c n j st past compensations here reached t (record { gap = h .gap; net = h .net; few = h .few; then = g })));
     };
     compensations = daily-compensations c n j st past compensations;
@@ -387,8 +381,8 @@ module _ (c : Course) (lies : Lies c) (few : count c < byteValues) (bound : c .j
   week-byte : (w : ℕ) → weekStart w < at (c .ends) j → w < byteValues
   week-byte w h = omega (arith, lies .judged j (omega arith))
 
-  carrier-byte : (w x : ℕ) → CarriedBy c j w x → x < byteValues
-  carrier-byte w x h = omega (arith, carrier-low c j w x h)
+  carrier-value : (w x : ℕ) → CarriedBy c j w x → x < carrierValues
+  carrier-value w x h = omega (arith, carrier-low c j w x h)
 
   ahead-weekly : (w x : ℕ) (rest : List ℕ) → LeastFrom c (suc n) j st past (weeklyKind ∷ w ∷ x ∷ rest) → (h : WeeklyFirst c n j st past here w x rest)
       → Ahead (carrying c j x) (suc j) (afterCounted c j w (h .there)) (weekly c j past w x ∷ past) rest
@@ -396,11 +390,11 @@ module _ (c : Course) (lies : Lies c) (few : count c < byteValues) (bound : c .j
     left = n;
     counts = omega arith;
     least = record {
-      bytes = without-entry n weeklyKind w x rest (l .bytes);
+      bounded = without-entry n weeklyKind w x rest (l .bounded);
       keeps = h .then;
       first = λ t b g.
           after-entry weeklyKind w x rest t
-          (l .first (weeklyKind ∷ w ∷ x ∷ t) (with-bytes n weeklyKind w x t (omega arith) (week-byte w (h .upto)) (carrier-byte w x (h .carried)) b)
+          (l .first (weeklyKind ∷ w ∷ x ∷ t) (with-entry n weeklyKind w x t (omega arith) (week-byte w (h .upto)) (carrier-value w x (h .carried)) b)
           (weekly-keeps c n j st past compensations here reached w x t (record {
             gap = h .gap;
             net = h .net;
@@ -421,7 +415,7 @@ module _ (c : Course) (lies : Lies c) (few : count c < byteValues) (bound : c .j
 
   how-begins : (r : List ℕ) → LeastFrom c (suc n) j st past r → Begins c n j st past here r
   how-begins r l =
-      let e = entered n r (l .bytes) in
+      let e = entered n r (l .bounded) in
       let h : KeepsFrom c (suc n) j st past (e .kind ∷ e .week ∷ e .carrier ∷ e .rest) = subst (KeepsFrom c (suc n) j st past) (e .begins) (l .keeps) in
       subst (Begins c n j st past here) (sym (e .begins)) (begins c n j st past compensations here reached (e .kind) (e .week) (e .carrier) (e .rest) h)
 
@@ -437,7 +431,7 @@ module _ (c : Course) (lies : Lies c) (few : count c < byteValues) (bound : c .j
     is-daily r l g (weekly-first w x rest h) =
         let t = can-be-daily outstanding size zeros (h .gap) g in
         let o = entry-order weeklyKind w x dailyKind 0 0 rest (t .rest)
-        (l .first (dailyKind ∷ 0 ∷ 0 ∷ t .rest) (with-bytes n dailyKind 0 0 (t .rest) (omega arith) (omega arith) (omega arith) (t .bytes))
+        (l .first (dailyKind ∷ 0 ∷ 0 ∷ t .rest) (with-entry n dailyKind 0 0 (t .rest) (omega arith) (omega arith) (omega arith) (t .bounded))
         (daily-keeps c n j st past compensations here reached (t .rest) (t .holds))) in
         absurd (omega (arith, o .first))
 
@@ -451,7 +445,7 @@ module _ (c : Course) (lies : Lies c) (few : count c < byteValues) (bound : c .j
         let t = weekly-goes outstanding size zeros w x (h .gap) g in
         let o = entry-order weeklyKind w′ x′ weeklyKind w x rest (t .rest)
         (l .first (weeklyKind ∷ w ∷ x ∷ t .rest)
-        (with-bytes n weeklyKind w x (t .rest) (omega arith) (week-byte w (g .upto)) (carrier-byte w x (g .carried)) (t .bytes))
+        (with-entry n weeklyKind w x (t .rest) (omega arith) (week-byte w (g .upto)) (carrier-value w x (g .carried)) (t .bounded))
         (weekly-keeps c n j st past compensations here reached w x (t .rest) (t .holds))) in
         let m = both (f .first w′ x′ mine) (o .second refl) (o .third refl) in
         subst (λ (y : ℕ). NextWeekly c j past here w y (weeklyKind ∷ w′ ∷ x′ ∷ rest)) (m .1)
@@ -463,7 +457,7 @@ module _ (c : Course) (lies : Lies c) (few : count c < byteValues) (bound : c .j
         both (NotPast.same e s) a b = (sym e, omega (arith, b (sym e)))
 
 -- ---- the step: before the rest of index j, in a state brought on to the week in which it starts
-module _ (c : Course) (lies : Lies c) (few : count c < byteValues) (bound : c .judged ≤ totalAtMost) (long : length (c .compensations) ≡ count c)
+module _ (c : Course) (lies : Lies c) (few : count c < carrierValues) (bound : c .judged ≤ totalAtMost) (long : length (c .compensations) ≡ count c)
     (j : ℕ) (inside : j < count c) (st : State) (past : List Entry) (r : List ℕ) where
   abbrev Brought-to : State → Type 0
   Brought-to here = advance (restWeek c) (weekOf (at (c .starts) j) - st .week) st ≡ To here
@@ -482,7 +476,7 @@ module _ (c : Course) (lies : Lies c) (few : count c < byteValues) (bound : c .j
       → advance (restWeek c) (weekOf (at (c .starts) j) - st .week) st ≡ Broken → ⊥
   step-broken zero k l e = omega arith
   step-broken (suc n) k l e =
-      let t = entered n r (l .bytes) in
+      let t = entered n r (l .bounded) in
       go (t .kind) (t .week) (t .carrier) _
       (kept-head (restWeek c) (counts c) (c .judged) (spansOf c) st _ _
       (keeps-out c n j st past (t .kind) (t .week) (t .carrier) (t .rest) (subst (KeepsFrom c (suc n) j st past) (t .begins) (l .keeps))))

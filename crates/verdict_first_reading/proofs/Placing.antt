@@ -4,7 +4,7 @@ use mathlib.Core.Path.{_≡_, refl, sym, ap, subst, _∙_}
 use mathlib.Core.Logic.{_⊎_, inl, inr, ⊎-elim}
 use mathlib.Core.Bool.{Bool, true, false, false≢true, true≢false}
 use mathlib.Core.List.{List, [], _∷_, _++_, append-assoc}
-use Prim.Native.Nat.{ℕ, zero, suc, _+_, _-_, _*_, _≤_, _<_, zero-le}
+use Prim.Native.Nat.{ℕ, zero, suc, _+_, _-_, _*_, _/_, _%_, _≤_, _<_, zero-le}
 use native.Mathlib.Nat.{le-refl}
 use native.Mathlib.Omega.{arith}
 use lib.Dec.{leb, ltb}
@@ -15,11 +15,12 @@ use Rattle.recording.specs.Weeks.{weekStart, weekOf}
 use Rattle.recording.specs.Rests.{longRestsAtMost}
 use Rattle.recording.specs.Operations.{totalAtMost}
 use Rattle.recording.proofs.TestLaws.{less-or-not}
-use Rattle.rules.specs.Reading.{Entry, regularMinutes, compensationOf, entryBytes, entries}
+use Rattle.rules.specs.Reading.{Entry, regularMinutes, compensationOf, entryFields, entryBytes, byteValues, bytesOf, entries}
 use Rattle.rules.specs.ReadingRules.{leastNet, weeksToCompensate}
 use Rattle.rules.specs.declared.Kind.the-variants.{Daily, Weekly}
 use Rattle.rules.specs.declared.Standing.the-variants.{Regular}
-use Rattle.rules.proofs.FirstLaws.{bytes-length}
+use Rattle.rules.proofs.FirstLaws.{fields-length}
+use Rattle.rules.proofs.FieldLaws.{bytes-size}
 use Rattle.rules_reading.specs.Items.{addedTo, Zeros}
 use Rattle.verdict_completion.specs.declared.State.{State}
 use Rattle.verdict_completion.specs.declared.Brought.{Brought}
@@ -361,19 +362,29 @@ with-carrier c j w next o x {less} e k = record {
 }
 
 -- ---- the bytes written so far
+-- the bytes of the entries in front, then those of the others
+bytes-append : (j : ℕ) (front later : List ℕ) → length front ≡ entryFields * j → bytesOf (front ++ later) ≡ bytesOf front ++ bytesOf later
+unfolding bytesOf
+bytes-append j [] later h = refl
+bytes-append j (a ∷ []) later h = absurd (omega arith)
+bytes-append j (a ∷ b ∷ []) later h = absurd (omega arith)
+bytes-append zero (a ∷ b ∷ d ∷ front) later h = absurd (omega arith)
+bytes-append (suc j) (a ∷ b ∷ d ∷ front) later h =
+    ap (λ (l : List ℕ). a ∷ b ∷ d % byteValues ∷ d / byteValues ∷ l) (bytes-append j front later (omega arith))
+
 pub record Progress (c : Course) (f reading : List ℕ) (j : ℕ) (st : State) : Type 0 where
   pub front : List ℕ
   pub left : List ℕ
   pub back : List ℕ
   pub past : List Entry
   pub whole : f ≡ front ++ left
-  pub written : reading ≡ front ++ back
-  pub long : length front ≡ entryBytes * j
+  pub written : reading ≡ bytesOf front ++ back
+  pub long : length front ≡ entryFields * j
   pub ahead : Ahead c j st past left
 
 pub progress-start : (c : Course) (f reading : List ℕ) (st : State) → Least (restsOnly (c .starts) (c .ends) (c .nets) (c .judged)) f
     → Zeros (c .compensations) → st ≡ startState (restWeek c 0) → Progress c f reading 0 st
-unfolding entries compensationOf
+unfolding entries compensationOf bytesOf
 progress-start c f reading st l z e = record {
   front = [];
   left = f;
@@ -387,7 +398,7 @@ progress-start c f reading st l z e = record {
     counts = omega arith;
     least =
         subst (λ (s : State). LeastFrom c (count c) 0 s [] f) (sym e)
-        (record { bytes = l .bytes; keeps = l .keeps; first = l .first });
+        (record { bounded = l .bounded; keeps = l .keeps; first = l .first });
     compensations = λ i h. z i;
   };
 }
@@ -397,30 +408,35 @@ set-past [] ys n i v e = let q : n ≡ i = omega arith in ap (λ (m : ℕ). set 
 set-past (x ∷ front) ys zero i v e = absurd (omega arith)
 set-past (x ∷ front) ys (suc n) i v e = ap (λ (l : List ℕ). x ∷ l) (set-past front ys n i v (omega arith))
 
-record ThreeMore (front back : List ℕ) (j a b d : ℕ) : Type 0 where
+record EntryMore (front back : List ℕ) (j a b d : ℕ) : Type 0 where
   later : List ℕ
-  now-reads : withEntry (front ++ back) j a b d ≡ front ++ (a ∷ b ∷ d ∷ later)
+  now-reads : withEntry (front ++ back) j a b d ≡ front ++ (a ∷ b ∷ d % byteValues ∷ d / byteValues ∷ later)
 
-three-more : (front back : List ℕ) (j n a b d : ℕ) → length front ≡ entryBytes * j → length back ≡ entryBytes * suc n → ThreeMore front back j a b d
-three-more front [] j n a b d h g = absurd (omega arith)
-three-more front (p ∷ []) j n a b d h g = absurd (omega arith)
-three-more front (p ∷ q ∷ []) j n a b d h g = absurd (omega arith)
-three-more front (p ∷ q ∷ r ∷ later) j n a b d h g = record {
+entry-more : (front back : List ℕ) (j n a b d : ℕ) → length front ≡ entryBytes * j → length back ≡ entryBytes * suc n → EntryMore front back j a b d
+entry-more front [] j n a b d h g = absurd (omega arith)
+entry-more front (p ∷ []) j n a b d h g = absurd (omega arith)
+entry-more front (p ∷ q ∷ []) j n a b d h g = absurd (omega arith)
+entry-more front (p ∷ q ∷ r ∷ []) j n a b d h g = absurd (omega arith)
+entry-more front (p ∷ q ∷ r ∷ t ∷ later) j n a b d h g = record {
   later = later;
   now-reads =
-      ap (λ (l : List ℕ). set (set l (entryBytes * j + 1) b) (entryBytes * j + 2) d)
-      (set-past front (p ∷ q ∷ r ∷ later) (entryBytes * j) 0 a (omega arith))
-      ∙ ap (λ (l : List ℕ). set l (entryBytes * j + 2) d) (set-past front (a ∷ q ∷ r ∷ later) (entryBytes * j + 1) 1 b (omega arith))
-      ∙ set-past front (a ∷ b ∷ r ∷ later) (entryBytes * j + 2) 2 d (omega arith);
+      ap (λ (l : List ℕ). set (set (set l (entryBytes * j + 1) b) (entryBytes * j + 2) (d % byteValues)) (entryBytes * j + 3) (d / byteValues))
+      (set-past front (p ∷ q ∷ r ∷ t ∷ later) (entryBytes * j) 0 a (omega arith))
+      ∙ ap (λ (l : List ℕ). set (set l (entryBytes * j + 2) (d % byteValues)) (entryBytes * j + 3) (d / byteValues))
+      (set-past front (a ∷ q ∷ r ∷ t ∷ later) (entryBytes * j + 1) 1 b (omega arith))
+      ∙ ap (λ (l : List ℕ). set l (entryBytes * j + 3) (d / byteValues)) (set-past front (a ∷ b ∷ r ∷ t ∷ later) (entryBytes * j + 2) 2 (d % byteValues) (omega arith))
+      ∙ set-past front (a ∷ b ∷ d % byteValues ∷ t ∷ later) (entryBytes * j + 3) 3 (d / byteValues) (omega arith);
 }
 
 pub progress-on : (c d : Course) (f reading reading′ : List ℕ) (j : ℕ) (st next : State) → length reading ≡ entryBytes * count c → j < count c
     → ((past : List Entry) (left : List ℕ) → Ahead c j st past left → Placed d j next past left reading reading′)
     → Progress c f reading j st → Progress d f reading′ (j + 1) next
+unfolding bytesOf
 progress-on c d f reading reading′ j st next size inside step p =
     let q = step (p .past) (p .left) (p .ahead) in
-    let m : length reading ≡ length (p .front) + length (p .back) = ap length (p .written) ∙ length-append (p .front) (p .back) in
-    let t = three-more (p .front) (p .back) j (count c - suc j) (q .kind) (q .week) (q .carrier) (p .long) (omega (arith, m, p .long, size)) in
+    let sized : length (bytesOf (p .front)) ≡ entryBytes * j = bytes-size j (p .front) (p .long) in
+    let m : length reading ≡ length (bytesOf (p .front)) + length (p .back) = ap length (p .written) ∙ length-append (bytesOf (p .front)) (p .back) in
+    let t = entry-more (bytesOf (p .front)) (p .back) j (count c - suc j) (q .kind) (q .week) (q .carrier) sized (omega (arith, m, sized, size)) in
     let entered : List ℕ = q .kind ∷ q .week ∷ q .carrier ∷ [] in
     let e : suc j ≡ j + 1 = omega arith in
     record {
@@ -431,7 +447,8 @@ progress-on c d f reading reading′ j st next size inside step p =
       whole = p .whole ∙ ap (λ (l : List ℕ). p .front ++ l) (q .begins) ∙ sym (append-assoc (p .front) entered (q .rest));
       written =
           q .written ∙ ap (λ (l : List ℕ). withEntry l j (q .kind) (q .week) (q .carrier)) (p .written) ∙ t .now-reads
-          ∙ sym (append-assoc (p .front) entered (t .later));
+          ∙ sym (append-assoc (bytesOf (p .front)) (bytesOf entered) (t .later))
+          ∙ ap (λ (l : List ℕ). l ++ t .later) (sym (bytes-append j (p .front) entered (p .long)));
       long = length-append (p .front) entered ∙ omega (arith, p .long);
       ahead = subst (λ (i : ℕ). Ahead d i next (q .entry ∷ p .past) (q .rest)) e (q .ahead);
     }
@@ -441,13 +458,16 @@ nothing [] e = refl
 nothing (x ∷ l) e = absurd (omega arith)
 
 pub progress-end : (c : Course) (f reading : List ℕ) (j : ℕ) (st : State) → length reading ≡ entryBytes * count c → count c ≤ j
-    → Progress c f reading j st → reading ≡ f
+    → Progress c f reading j st → reading ≡ bytesOf f
+unfolding bytesOf
 progress-end c f reading j st size all p =
-    let m : length reading ≡ length (p .front) + length (p .back) = ap length (p .written) ∙ length-append (p .front) (p .back) in
-    let b : p .back ≡ [] = nothing (p .back) (omega (arith, m, size, p .long, p .ahead .counts)) in
-    let h : length (p .left) ≡ entryBytes * p .ahead .left = bytes-length (entryBytes * p .ahead .left) (p .left) (p .ahead .least .bytes) in
+    let sized : length (bytesOf (p .front)) ≡ entryBytes * j = bytes-size j (p .front) (p .long) in
+    let m : length reading ≡ length (bytesOf (p .front)) + length (p .back) = ap length (p .written) ∙ length-append (bytesOf (p .front)) (p .back) in
+    let b : p .back ≡ [] = nothing (p .back) (omega (arith, m, size, sized, p .ahead .counts)) in
+    let h : length (p .left) ≡ entryFields * p .ahead .left = fields-length (p .ahead .left) (p .left) (p .ahead .least .bounded) in
     let l : p .left ≡ [] = nothing (p .left) (omega (arith, h, p .ahead .counts)) in
-    p .written ∙ ap (λ (x : List ℕ). p .front ++ x) (b ∙ sym l) ∙ sym (p .whole)
+    p .written ∙ ap (λ (x : List ℕ). bytesOf (p .front) ++ x) b
+    ∙ sym (bytes-append j (p .front) [] (p .long)) ∙ ap (λ (x : List ℕ). bytesOf (p .front ++ x)) (sym l) ∙ ap bytesOf (sym (p .whole))
 
 -- ---- a state brought on, or not
 pub broken-not-to : {b a : Brought} {there : State} → b ≡ a → b ≡ Broken → a ≡ To there → ⊥
@@ -465,17 +485,17 @@ pub at-rest-with : (c : Course) (p : List ℕ) {j : ℕ} {here : State} → AtRe
 at-rest-with c p h = record { within = h .within; small = h .small; week = h .week; ended = h .ended }
 
 -- ---- before a rest has a compensation or anything is outstanding
-pub lent-start : (starts ends nets : List ℕ) (s : ℕ) → Lies (restsOnly starts ends nets s) → length starts ≤ longRestsAtMost → s ≤ totalAtMost
-    → Lent (courseOf starts ends nets (noneOf (length starts)) s) (noneOf (length starts))
-lent-start starts ends nets s l few judged = record {
+pub lent-start : (room : ℕ) (starts ends nets : List ℕ) (s : ℕ) → Lies (restsOnly starts ends nets s) → length starts ≤ room → length starts ≤ longRestsAtMost → s ≤ totalAtMost
+    → Lent (courseOf starts ends nets (noneOf room (length starts)) s) (noneOf room (length starts))
+lent-start room starts ends nets s l fits few judged = record {
   sized = record {
-    lies = lies-with (restsOnly starts ends nets s) (noneOf (length starts)) l;
-    compensations-too = none-size (length starts) few;
-    outstanding-too = none-size (length starts) few;
+    lies = lies-with (restsOnly starts ends nets s) (noneOf room (length starts)) l;
+    compensations-too = none-size room (length starts) fits;
+    outstanding-too = none-size room (length starts) fits;
     few = few;
     judged = judged;
-    compensations-low = λ i. omega (arith, none-zeros (length starts) i);
+    compensations-low = λ i. omega (arith, none-zeros room (length starts) i);
   };
   below = zero-le;
-  unused = λ x _. none-zeros (length starts) x;
+  unused = λ x _. none-zeros room (length starts) x;
 }

@@ -4,14 +4,14 @@
 use mathlib.Core.Path.{_≡_}
 use mathlib.Core.Logic.{_⊎_}
 use mathlib.Core.List.{List, _∷_}
-use Prim.Native.Nat.{ℕ, suc, _+_, _-_, _*_, _≤_, _<_}
+use Prim.Native.Nat.{ℕ, suc, _+_, _-_, _*_, _/_, _%_, _≤_, _<_}
 use lib.Dec.{leb}
 use lib.ListN.{set}
 use Rattle.recording.specs.Tests.{one}
 use Rattle.recording.specs.Weeks.{weekStart}
-use Rattle.rules.specs.Reading.{Entry, dailyKind, weeklyKind, regularMinutes, compensationOf, entryBytes, entriesFrom}
+use Rattle.rules.specs.Reading.{Entry, dailyKind, weeklyKind, regularMinutes, compensationOf, entryBytes, byteValues, entriesFrom}
 use Rattle.rules.specs.ReadingRules.{leastNet, shortenedAtMost, weeksToCompensate}
-use Rattle.rules.specs.Order.{Bytes, NotAfter}
+use Rattle.rules.specs.Order.{Fields, NotAfter}
 use Rattle.rules.specs.declared.Kind.the-variants.{Daily, Weekly}
 use Rattle.rules.specs.declared.Standing.the-variants.{Regular}
 use Rattle.rules_reading.specs.Items.{endBefore, spansFrom, addedTo}
@@ -86,16 +86,16 @@ pub record FirstWeekly (c : Course) (j : ℕ) (here : State) (outstanding : List
 
 -- ---- what is left to read
 module _ (c : Course) where
-  -- n rests from index j on, after the entries of the past, keep rules 6 to 11 with these bytes
+  -- n rests from index j on, after the entries of the past, keep rules 6 to 11 with these fields
   abbrev pub KeepsFrom : ℕ → ℕ → State → List Entry → List ℕ → Type 0
-  KeepsFrom n j st past bytes =
-      Kept (restWeek c) (counts c) (c .judged) (spansOf c) st (entriesFrom (suc j) (endBefore (c .ends) j) past (spansFrom (c .starts) (c .ends) j n) bytes)
+  KeepsFrom n j st past fields =
+      Kept (restWeek c) (counts c) (c .judged) (spansOf c) st (entriesFrom (suc j) (endBefore (c .ends) j) past (spansFrom (c .starts) (c .ends) j n) fields)
 
-  -- the first bytes for them
+  -- the first fields for them
   pub record LeastFrom (n j : ℕ) (st : State) (past : List Entry) (r : List ℕ) : Type 0 where
-    pub bytes : Bytes (entryBytes * n) r
+    pub bounded : Fields n r
     pub keeps : KeepsFrom n j st past r
-    pub first : (t : List ℕ) → Bytes (entryBytes * n) t → KeepsFrom n j st past t → NotAfter r t
+    pub first : (t : List ℕ) → Fields n t → KeepsFrom n j st past t → NotAfter r t
 
   -- before the rest of index j, in a state: the first reading goes on with r
   pub record Ahead (j : ℕ) (st : State) (past : List Entry) (r : List ℕ) : Type 0 where
@@ -104,9 +104,10 @@ module _ (c : Course) where
     pub least : LeastFrom left j st past r
     pub compensations : (i : ℕ) → j ≤ i → at (c .compensations) i ≡ compensationOf (suc i) past
 
--- the entry of index j as its three bytes
+-- the entry of index j as its four bytes
 abbrev pub withEntry : List ℕ → ℕ → ℕ → ℕ → ℕ → List ℕ
-withEntry reading j kind week carrier = set (set (set reading (entryBytes * j) kind) (entryBytes * j + 1) week) (entryBytes * j + 2) carrier
+withEntry reading j kind week carrier =
+    set (set (set (set reading (entryBytes * j) kind) (entryBytes * j + 1) week) (entryBytes * j + 2) (carrier % byteValues)) (entryBytes * j + 3) (carrier / byteValues)
 
 -- an entry more of the first reading
 pub record Placed (c : Course) (j : ℕ) (st : State) (past : List Entry) (r reading reading′ : List ℕ) : Type 0 where

@@ -8,10 +8,12 @@ ghost use mathlib.Core.List.{List};
 ghost use mathlib.Core.Logic.{_⊎_};
 ghost use Prim.Native.Nat.{ℕ, suc, _+_, _-_, _*_, _<_, _≤_};
 ghost use lib.ListN.{length};
+ghost use Rattle.recording.specs.Scan.{shortRests};
 ghost use Rattle.recording.specs.Rests.{longRestsAtMost};
 ghost use Rattle.recording.specs.Operations.{totalAtMost};
 ghost use Rattle.recording.specs.Weeks.{weekStart};
-ghost use Rattle.rules.specs.Reading.{regularMinutes, entryBytes};
+ghost use Rattle.rules.specs.Reading.{regularMinutes, entryBytes, bytesOf};
+ghost use Rattle.rules.specs.Order.{carrierValues};
 ghost use Rattle.rules.specs.ReadingRules.{leastNet};
 ghost use Rattle.rules.specs.declared.Kind.the-variants.{Daily, Weekly};
 ghost use Rattle.rules.specs.declared.Standing.the-variants.{Regular};
@@ -34,6 +36,9 @@ pub struct Choice {
 const DAILY_KIND: u8 = 0;
 
 const WEEKLY_KIND: u8 = 1;
+
+// The values of a byte.
+const BYTE_VALUES: u32 = 256;
 
 // How many minutes a weekly rest of so many minutes, with a compensation, lacks to be regular: its reduction.
 fn lacking(minutes: u32, compensation: u32) -> u32
@@ -336,17 +341,21 @@ fn first_weekly(
     }
 }
 
-// The entry of index j, as its three bytes.
-fn put_entry(reading: &mut [u8], j: usize, kind: u8, week: u8, carrier: u8)
-    requires { ⌜ (j < 1000) × (entryBytes * j + 2 < length (now reading)) ⌝ }
+// The entry of index j, as its four bytes.
+fn put_entry(reading: &mut [u8], j: usize, kind: u8, week: u8, carrier: u32)
+    requires { ⌜ (j < 1000) × (entryBytes * j + 3 < length (now reading)) × (carrier < carrierValues) ⌝ }
     ensures { λ r. ⌜ now (reading .exit) ≡ withEntry (now (reading .entry)) j kind week carrier ⌝ }
 {
     let at = rules_entries::ENTRY_BYTES * j;
     let second = at + 1;
     let third = at + 2;
+    let fourth = at + 3;
+    let low = (carrier % BYTE_VALUES) as u8;
+    let high = (carrier / BYTE_VALUES) as u8;
     reading[at] = kind;
     reading[second] = week;
-    reading[third] = carrier;
+    reading[third] = low;
+    reading[fourth] = high;
 }
 
 // So many minutes are added to the compensation of the rest of number x, if that is one.
@@ -410,7 +419,8 @@ fn put_weekly(
     let rest = rules_reading::rest_week(starts, ends, starts.len(), w);
     let compensation = compensations[j];
     let minutes = ends[j] - starts[j];
-    put_entry(reading, j, WEEKLY_KIND, (w % 256) as u8, (x % 256) as u8);
+    let week = (w % BYTE_VALUES) as u8;
+    put_entry(reading, j, WEEKLY_KIND, week, x as u32);
     add_compensation(compensations, x, lacking(minutes, compensation));
     verdict_steps::after_weekly(
         there,
@@ -530,7 +540,7 @@ fn write_entries(
     requires { ⌜ (let c = courseNow starts ends nets compensations s in
         Lent c (now outstanding) × Zeros (now compensations) × Zeros (now outstanding) × (length (now reading) ≡ entryBytes * count c) × Sound c (now nogoods)) ⌝ }
     ensures { λ r. ⌜ (let c = restsOnly (now (starts .entry)) (now (ends .entry)) (now (nets .entry)) s in
-        (f : List ℕ) → Least c f → now (reading .exit) ≡ f) ⌝ }
+        (f : List ℕ) → Least c f → now (reading .exit) ≡ bytesOf f) ⌝ }
 {
     let mut st = verdict_steps::start_state(rules_reading::rest_week(
         starts,
@@ -562,7 +572,46 @@ fn write_entries(
 
 // The first reading of the long rests that keeps rules 6 to 11, where S is s, if there is one. What the nogoods and the four fronts hold does not matter,
 // and their room is any.
-pub fn write_first(
+// For no more long rests than a short recording has.
+fn write_short(
+    starts: &[u32],
+    ends: &[u32],
+    nets: &[u32],
+    s: u32,
+    reading: &mut [u8],
+    nogoods: &mut [u32],
+    front: &mut [u32],
+    other: &mut [u32],
+    known: &mut [u32],
+    beside: &mut [u32],
+)
+    requires { ⌜ (let c = restsOnly (now starts) (now ends) (now nets) s in
+        Lies c × (count c ≤ longRestsAtMost) × (s ≤ totalAtMost) × (length (now reading) ≡ entryBytes * count c) × (count c ≤ shortRests)) ⌝ }
+    ensures { λ r. ⌜ (let c = restsOnly (now (starts .entry)) (now (ends .entry)) (now (nets .entry)) s in
+        (f : List ℕ) → Least c f → now (reading .exit) ≡ bytesOf f) ⌝ }
+{
+    let k = starts.len();
+    let mut compensations = [0u32; recording::SHORT_RESTS];
+    let mut outstanding = [0u32; recording::SHORT_RESTS];
+    verdict_nogoods::clear(nogoods, k);
+    write_entries(
+        starts,
+        ends,
+        nets,
+        &mut compensations[..k],
+        s,
+        &mut outstanding[..k],
+        nogoods,
+        front,
+        other,
+        known,
+        beside,
+        reading,
+    );
+}
+
+// The same for any number of long rests.
+fn write_long(
     starts: &[u32],
     ends: &[u32],
     nets: &[u32],
@@ -577,7 +626,7 @@ pub fn write_first(
     requires { ⌜ (let c = restsOnly (now starts) (now ends) (now nets) s in
         Lies c × (count c ≤ longRestsAtMost) × (s ≤ totalAtMost) × (length (now reading) ≡ entryBytes * count c)) ⌝ }
     ensures { λ r. ⌜ (let c = restsOnly (now (starts .entry)) (now (ends .entry)) (now (nets .entry)) s in
-        (f : List ℕ) → Least c f → now (reading .exit) ≡ f) ⌝ }
+        (f : List ℕ) → Least c f → now (reading .exit) ≡ bytesOf f) ⌝ }
 {
     let k = starts.len();
     let mut compensations = [0u32; recording::LONG_RESTS];
@@ -596,5 +645,52 @@ pub fn write_first(
         known,
         beside,
         reading,
+    );
+}
+
+// The same by their number.
+pub fn write_first(
+    starts: &[u32],
+    ends: &[u32],
+    nets: &[u32],
+    s: u32,
+    reading: &mut [u8],
+    nogoods: &mut [u32],
+    front: &mut [u32],
+    other: &mut [u32],
+    known: &mut [u32],
+    beside: &mut [u32],
+)
+    requires { ⌜ (let c = restsOnly (now starts) (now ends) (now nets) s in
+        Lies c × (count c ≤ longRestsAtMost) × (s ≤ totalAtMost) × (length (now reading) ≡ entryBytes * count c)) ⌝ }
+    ensures { λ r. ⌜ (let c = restsOnly (now (starts .entry)) (now (ends .entry)) (now (nets .entry)) s in
+        (f : List ℕ) → Least c f → now (reading .exit) ≡ bytesOf f) ⌝ }
+{
+    if starts.len() <= recording::SHORT_RESTS {
+        write_short(
+            starts,
+            ends,
+            nets,
+            s,
+            reading,
+            nogoods,
+            front,
+            other,
+            known,
+            beside,
+        );
+        return;
+    }
+    write_long(
+        starts,
+        ends,
+        nets,
+        s,
+        reading,
+        nogoods,
+        front,
+        other,
+        known,
+        beside,
     );
 }

@@ -6,6 +6,7 @@ ghost use mathlib.Core.Path.{_≡_};
 ghost use mathlib.Core.Bool.{true};
 ghost use Prim.Native.Nat.{_+_, _-_, _*_, _<_, _≤_};
 ghost use lib.ListN.{length};
+ghost use Rattle.recording.specs.Scan.{shortRests};
 ghost use Rattle.verdict_completion.specs.Completable.{count, Tries};
 ghost use Rattle.verdict_completion.specs.Better.{AtRest};
 ghost use Rattle.verdict_fronts.specs.Front.{entryAt, AllDominated};
@@ -630,10 +631,56 @@ fn asks_beside(
     )
 }
 
-// Whether the rests from that of index j + 1 on can be read from the state `next`, where the rest of number x has some minutes more compensation (0 is none)
-// and nothing is outstanding. A yes may rest on that the rests from that of index j on can be read from the state `here` at that rest with the compensations as they
-// stand: past the rest of number x, where each state that this can lead to is matched by one that `next` leads to, the answer is yes.
-pub fn completes_beside(
+// The same with slots of its own, for no more long rests than a short recording has.
+fn asks_short(
+    starts: &[u32],
+    ends: &[u32],
+    nets: &[u32],
+    compensations: &mut [u32],
+    s: u32,
+    outstanding: &mut [u32],
+    nogoods: &mut [u32],
+    front: &mut [u32],
+    other: &mut [u32],
+    known: &mut [u32],
+    beside: &mut [u32],
+    j: usize,
+    here: State,
+    next: State,
+    x: usize,
+    less: u32,
+) -> bool
+    requires { ⌜ (let c = courseNow starts ends nets compensations s in let d = compensating c x less in
+        Lent c (now outstanding) × Lent d (now outstanding) × AtRest c j here × Before d (j + 1) next × (x ≤ count c) × Sound c (now nogoods) × (count c ≤ shortRests)) ⌝ }
+    ensures { λ r. ⌜ (let c = courseAt starts ends nets compensations s in let d = compensating c x less in
+        FindsIf c (Tries c (Later c j) j here (now (outstanding .entry))) (Later d j next (now (outstanding .entry))) r outstanding nogoods
+        × (now (compensations .exit) ≡ now (compensations .entry))) ⌝ }
+{
+    let k = starts.len();
+    let mut slots = [0u32; recording::SHORT_RESTS];
+    asks_beside(
+        starts,
+        ends,
+        nets,
+        compensations,
+        s,
+        outstanding,
+        &mut slots[..k],
+        nogoods,
+        front,
+        other,
+        known,
+        beside,
+        j,
+        here,
+        next,
+        x,
+        less,
+    )
+}
+
+// The same for any number of long rests.
+fn asks_long(
     starts: &[u32],
     ends: &[u32],
     nets: &[u32],
@@ -667,6 +714,73 @@ pub fn completes_beside(
         s,
         outstanding,
         &mut slots[..k],
+        nogoods,
+        front,
+        other,
+        known,
+        beside,
+        j,
+        here,
+        next,
+        x,
+        less,
+    )
+}
+
+// Whether the rests from that of index j + 1 on can be read from the state `next`, where the rest of number x has some minutes more compensation (0 is none)
+// and nothing is outstanding. A yes may rest on that the rests from that of index j on can be read from the state `here` at that rest with the compensations as they
+// stand: past the rest of number x, where each state that this can lead to is matched by one that `next` leads to, the answer is yes.
+pub fn completes_beside(
+    starts: &[u32],
+    ends: &[u32],
+    nets: &[u32],
+    compensations: &mut [u32],
+    s: u32,
+    outstanding: &mut [u32],
+    nogoods: &mut [u32],
+    front: &mut [u32],
+    other: &mut [u32],
+    known: &mut [u32],
+    beside: &mut [u32],
+    j: usize,
+    here: State,
+    next: State,
+    x: usize,
+    less: u32,
+) -> bool
+    requires { ⌜ (let c = courseNow starts ends nets compensations s in let d = compensating c x less in
+        Lent c (now outstanding) × Lent d (now outstanding) × AtRest c j here × Before d (j + 1) next × (x ≤ count c) × Sound c (now nogoods)) ⌝ }
+    ensures { λ r. ⌜ (let c = courseAt starts ends nets compensations s in let d = compensating c x less in
+        FindsIf c (Tries c (Later c j) j here (now (outstanding .entry))) (Later d j next (now (outstanding .entry))) r outstanding nogoods
+        × (now (compensations .exit) ≡ now (compensations .entry))) ⌝ }
+{
+    if starts.len() <= recording::SHORT_RESTS {
+        return asks_short(
+            starts,
+            ends,
+            nets,
+            compensations,
+            s,
+            outstanding,
+            nogoods,
+            front,
+            other,
+            known,
+            beside,
+            j,
+            here,
+            next,
+            x,
+            less,
+        );
+    }
+    asks_long(
+        starts,
+        ends,
+        nets,
+        compensations,
+        s,
+        outstanding,
         nogoods,
         front,
         other,

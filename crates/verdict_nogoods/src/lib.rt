@@ -24,8 +24,11 @@ pub const ENTRY_WORDS: usize = 15;
 
 pub const LEVEL_WORDS: usize = 1 + RING as usize * ENTRY_WORDS;
 
-// A table for as many rests as there can be.
-pub const TABLE_WORDS: usize = recording::LONG_RESTS * LEVEL_WORDS;
+// A table for the long rests of any year that can pass: with 3 rests of 540 minutes or more and the others of 660 or more between weekly rests, there are
+// fewer. Later rests have no level.
+const LEVELS: usize = 832;
+
+pub const TABLE_WORDS: usize = LEVELS * LEVEL_WORDS;
 
 // The first k levels are emptied, as far as the table reaches.
 pub fn clear(table: &mut [u32], k: usize)

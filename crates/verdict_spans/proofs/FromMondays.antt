@@ -16,7 +16,7 @@ use Rattle.recording.proofs.TestLaws.{less-or-not}
 use Rattle.rules.specs.Verdict.{prefix, firstLawful, breachMinute, article, verdictBy, verdict}
 use Rattle.rules.specs.Operations.{Finding, passed, breached, findingOf}
 use Rattle.rules.specs.Spans.{weeksBegun, isBreach, breaching, breachSpans}
-use Rattle.rules.proofs.Breach.{HasLawful, Breach, first-sound, first-none, prefix-lawful, shorter-lawful, breach-is, breach-after}
+use Rattle.rules.proofs.Breach.{HasLawful, Breach, first-fields, found-fields, first-none, prefix-lawful, shorter-lawful, breach-is, breach-after}
 use Rattle.verdict_spans.specs.Mondays.{lastWeek, Sound, lastFrom, spansBack}
 use Rattle.rules.proofs.Spans.{span, lawful-passes, none-breaches, span-is}
 use Rattle.verdict_spans.proofs.SpanLaws.{back-is}
@@ -32,7 +32,7 @@ found ms = at (firstLawful ms) refl
   where
     at : (o : Option (List ℕ)) → firstLawful ms ≡ o → Found ms (findingOf (verdictBy o (breachMinute ms) (article (prefix (breachMinute ms) ms))))
     at none e = unlawful (first-none ms e)
-    at (some r) e = lawful (r, first-sound ms e)
+    at (some r) e = let (f, q, b) = found-fields ms e in lawful (f, first-fields ms q .sound)
 
 -- a breach has a minute of the recording
 pub sound-from : (ms : List ℕ) → length ms ≤ totalAtMost → Sound (answered (findingOf (verdict ms)))

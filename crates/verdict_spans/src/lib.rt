@@ -221,12 +221,23 @@ fn spans_of_many(words: &[u32], total: u32) -> Spans
     spans_within(words, total, &mut nogoods, &mut front, &mut other)
 }
 
+// The same with room for plenty of long rests.
+fn spans_of_plenty(words: &[u32], total: u32) -> Spans
+    requires { ⌜ (length (minutesOf (now words)) ≤ totalAtMost) × (total ≡ length (minutesOf (now words))) ⌝ }
+    ensures { λ r. ⌜ Lists (now (words .entry)) r ⌝ }
+{
+    let mut nogoods = [0u32; verdict::PLENTY_NOGOODS];
+    let mut front = [0u32; verdict::PLENTY_STATES];
+    let mut other = [0u32; verdict::PLENTY_STATES];
+    spans_within(words, total, &mut nogoods, &mut front, &mut other)
+}
+
 // The same with room for as many long rests as there can be.
 fn spans_of_most(words: &[u32], total: u32) -> Spans
     requires { ⌜ (length (minutesOf (now words)) ≤ totalAtMost) × (total ≡ length (minutesOf (now words))) ⌝ }
     ensures { λ r. ⌜ Lists (now (words .entry)) r ⌝ }
 {
-    let mut nogoods = [0u32; verdict_nogoods::TABLE_WORDS];
+    let mut nogoods = [0u32; verdict::MOST_NOGOODS];
     let mut front = [0u32; verdict::MOST_STATES];
     let mut other = [0u32; verdict::MOST_STATES];
     spans_within(words, total, &mut nogoods, &mut front, &mut other)
@@ -245,6 +256,9 @@ fn spans_in_room(words: &[u32], total: u32, count: u32) -> Spans
     }
     if count <= verdict::MANY {
         return spans_of_many(words, total);
+    }
+    if count <= verdict::PLENTY {
+        return spans_of_plenty(words, total);
     }
     spans_of_most(words, total)
 }

@@ -92,12 +92,12 @@ whole {P} {A} none e f g same s = record { yes = λ y. go (f .from e (g .yes y))
     go (inr p) = p
 
 -- ---- slots where nothing is outstanding
--- as many as there are rests, of the most there can be
-abbrev pub noneOf : ℕ → List ℕ
-noneOf k = take k (replicate longRestsAtMost 0)
+-- as many as there are rests, of an array of so many
+abbrev pub noneOf : ℕ → ℕ → List ℕ
+noneOf room k = take k (replicate room 0)
 
-pub none-size : (k : ℕ) → k ≤ longRestsAtMost → length (noneOf k) ≡ k
-none-size k l = rw (length-take, length-replicate) (omega arith)
+pub none-size : (room k : ℕ) → k ≤ room → length (noneOf room k) ≡ k
+none-size room k l = rw (length-take, length-replicate) (omega arith)
 
 zeros-take : (k : ℕ) (l : List ℕ) → Zeros l → Zeros (take k l)
 zeros-take zero l z i = refl
@@ -105,8 +105,8 @@ zeros-take (suc k) [] z i = refl
 zeros-take (suc k) (x ∷ l) z zero = z zero
 zeros-take (suc k) (x ∷ l) z (suc i) = zeros-take k l (λ j. z (suc j)) i
 
-pub none-zeros : (k : ℕ) → Zeros (noneOf k)
-none-zeros k = zeros-take k (replicate longRestsAtMost 0) (zeros-at longRestsAtMost)
+pub none-zeros : (room k : ℕ) → Zeros (noneOf room k)
+none-zeros room k = zeros-take k (replicate room 0) (zeros-at room)
 
 -- from the first rest on
 pub from-start : (c : Course) (lies : Lies c) {S : Type 0} {r : Bool} {o′ : List ℕ} (o : List ℕ) {st : State} (b : Bool) → st ≡ startState b → b ≡ restWeek c 0

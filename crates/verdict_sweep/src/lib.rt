@@ -4,6 +4,7 @@ use verdict_completion::State;
 use verdict_search::Went;
 ghost use Prim.Native.Nat.{_+_, _-_, _*_, _<_, _≤_};
 ghost use lib.ListN.{length};
+ghost use Rattle.recording.specs.Scan.{shortRests};
 ghost use Rattle.verdict_completion.specs.States.{startState};
 ghost use Rattle.verdict_completion.specs.Completable.{count, restWeek, Completable};
 ghost use Rattle.verdict_fronts.specs.Front.{entryAt};
@@ -242,6 +243,73 @@ pub fn sweep_pairs(
     Went { yes: false, n: n }
 }
 
+// The same with slots of its own, for no more long rests than a short recording has.
+fn sweep_short(
+    starts: &[u32],
+    ends: &[u32],
+    nets: &[u32],
+    compensations: &[u32],
+    s: u32,
+    nogoods: &mut [u32],
+    front: &mut [u32],
+    other: &mut [u32],
+    j: usize,
+    f: usize,
+) -> Swept
+    requires { ⌜ (let c = courseNow starts ends nets compensations s in Sized c (now compensations) × Sound c (now nogoods) × (j ≤ count c + 1) × Front c j (now front) f
+        × (count c ≤ shortRests)) ⌝ }
+    ensures { λ r. ⌜ (let c = courseAt starts ends nets compensations s in Told (Any c j (now (front .entry)) f) (r .yes) (Sound c (now (nogoods .exit)))) ⌝ }
+{
+    let k = starts.len();
+    let mut slots = [0u32; recording::SHORT_RESTS];
+    sweep_on(
+        starts,
+        ends,
+        nets,
+        compensations,
+        s,
+        &mut slots[..k],
+        nogoods,
+        front,
+        other,
+        j,
+        f,
+    )
+}
+
+// The same for any number of long rests.
+fn sweep_long(
+    starts: &[u32],
+    ends: &[u32],
+    nets: &[u32],
+    compensations: &[u32],
+    s: u32,
+    nogoods: &mut [u32],
+    front: &mut [u32],
+    other: &mut [u32],
+    j: usize,
+    f: usize,
+) -> Swept
+    requires { ⌜ (let c = courseNow starts ends nets compensations s in Sized c (now compensations) × Sound c (now nogoods) × (j ≤ count c + 1) × Front c j (now front) f) ⌝ }
+    ensures { λ r. ⌜ (let c = courseAt starts ends nets compensations s in Told (Any c j (now (front .entry)) f) (r .yes) (Sound c (now (nogoods .exit)))) ⌝ }
+{
+    let k = starts.len();
+    let mut slots = [0u32; recording::LONG_RESTS];
+    sweep_on(
+        starts,
+        ends,
+        nets,
+        compensations,
+        s,
+        &mut slots[..k],
+        nogoods,
+        front,
+        other,
+        j,
+        f,
+    )
+}
+
 // Whether the rests from that of index j on can be read, from a state before it, with what is outstanding in the first n slots. Two fronts change roles;
 // their room is any, none too.
 fn solve(
@@ -278,15 +346,26 @@ fn solve(
     if went.yes {
         return Swept { yes: true, at: j };
     }
-    let k = starts.len();
-    let mut slots = [0u32; recording::LONG_RESTS];
-    sweep_on(
+    if starts.len() <= recording::SHORT_RESTS {
+        return sweep_short(
+            starts,
+            ends,
+            nets,
+            compensations,
+            s,
+            nogoods,
+            front,
+            other,
+            j,
+            went.n,
+        );
+    }
+    sweep_long(
         starts,
         ends,
         nets,
         compensations,
         s,
-        &mut slots[..k],
         nogoods,
         front,
         other,

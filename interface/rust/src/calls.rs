@@ -72,6 +72,20 @@ mod library {
             reading_count: usize,
         ) -> u64;
 
+        pub fn desk_widen_reading(
+            old: *const u8,
+            old_count: usize,
+            wide: *mut u8,
+            wide_count: usize,
+        ) -> u64;
+
+        pub fn desk_narrow_reading(
+            wide: *const u8,
+            wide_count: usize,
+            old: *mut u8,
+            old_count: usize,
+        ) -> u64;
+
         pub fn desk_breach_spans(
             words: *const u32,
             words_count: usize,
@@ -142,6 +156,14 @@ pub fn first_reading(words: &[u32], reading: &mut [u8]) -> u64 {
             reading.len(),
         )
     }
+}
+
+pub fn widen_reading(old: &[u8], wide: &mut [u8]) -> u64 {
+    unsafe { library::desk_widen_reading(old.as_ptr(), old.len(), wide.as_mut_ptr(), wide.len()) }
+}
+
+pub fn narrow_reading(wide: &[u8], old: &mut [u8]) -> u64 {
+    unsafe { library::desk_narrow_reading(wide.as_ptr(), wide.len(), old.as_mut_ptr(), old.len()) }
 }
 
 pub fn breach_spans(words: &[u32], list: &mut [Weeks]) -> u64 {

@@ -26,32 +26,37 @@
 //! use hours_desk::{first_reading, verdict, Refusal, LONG_RESTS_AT_MOST};
 //!
 //! let words = [4 * 240 + 3, 4 * 660, 4 * 60 + 2];
-//! let mut reading = [0; 3 * LONG_RESTS_AT_MOST];
+//! let mut reading = [0; 4 * LONG_RESTS_AT_MOST];
 //! match first_reading(&words, &mut reading) {
-//!     Ok(written) => assert_eq!(reading[..written], [0, 0, 0]), // a daily rest
+//!     Ok(written) => assert_eq!(reading[..written], [0, 0, 0, 0]), // a daily rest
 //!     Err(Refusal::NoLawfulReading) => panic!("a breach: {:?}", verdict(&words)),
 //!     Err(refusal) => panic!("refused, {}", refusal.number()),
 //! }
 //! ```
+//!
+//! A reading has an entry of four bytes for each long rest: kind (0 daily, 1 weekly),
+//! week, and the carrier's low and high byte, a number that is low + 256 × high. The
+//! old form has three bytes an entry, the carrier in one; [`widen_reading`] and
+//! [`narrow_reading`] are the moves between the two.
 //!
 //! Every function takes any content: a refusal is an `Err`. On a refusal every
 //! buffer is as it was; an operation that fills a buffer writes from its start
 //! and leaves what lies beyond.
 //!
 //! Nothing is kept between calls, so threads may call at the same time.
-//! Have 1 MiB of stack for [`verdict`], [`first_reading`] and [`breach_spans`]; the
-//! most that was measured is 670 KiB, on a recording made to take much.
-//! The main thread and the threads of `std` have more, unless told otherwise.
+//! Have 4 MiB of stack for [`verdict`], [`first_reading`] and [`breach_spans`]; the
+//! most that was measured is 2,370 KiB, on a year made to take much. The main
+//! thread has more, unless told otherwise; a thread of `std` has 2 MiB.
 
 mod calls;
 
 /// A recording has at most so many long rests, so lists of this length and
-/// readings of three times as many bytes are never too short.
-pub const LONG_RESTS_AT_MOST: usize = 223;
+/// readings of four times as many bytes are never too short.
+pub const LONG_RESTS_AT_MOST: usize = 987;
 
 /// A recording has at most so many weeks, and [`breach_spans`] writes at most one
 /// record for each first week, so lists of this length are never too short for it.
-pub const WEEKS_AT_MOST: usize = 12;
+pub const WEEKS_AT_MOST: usize = 53;
 
 /// Why an operation was turned away; its discriminant is the documents' number.
 #[derive(Clone, Copy, Debug, PartialEq, Eq)]
@@ -59,15 +64,15 @@ pub const WEEKS_AT_MOST: usize = 12;
 pub enum Refusal {
     /// A word has no minutes.
     NoMinutes = 1,
-    /// The total passes 120,960 minutes.
+    /// The total passes 534,240 minutes.
     TotalPassed = 2,
     /// The list has fewer elements than there are long rests.
     ListTooShort = 3,
-    /// The reading buffer is under three bytes for each long rest.
+    /// The reading buffer is too short for the entries.
     ReadingBufferTooShort = 4,
     /// The stretch is over the total.
     StretchOverTotal = 5,
-    /// The byte count is not three for each long rest, or no multiple of three.
+    /// The byte count is not four for each long rest, or does not divide into entries.
     ReadingByteCount = 6,
     /// The reading has no entry of that number.
     NoEntry = 7,
@@ -85,6 +90,8 @@ pub enum Refusal {
     NoLawfulReading = 13,
     /// The list has fewer elements than there are such spans of weeks.
     SpanListTooShort = 14,
+    /// A week is over 11 or a carrier over 255, so the reading has no old form.
+    NoOldForm = 15,
 }
 
 impl Refusal {
@@ -109,6 +116,7 @@ impl Refusal {
             12 => Refusal::UnknownActivity,
             13 => Refusal::NoLawfulReading,
             14 => Refusal::SpanListTooShort,
+            15 => Refusal::NoOldForm,
             other => unreachable!("the desk has no refusal {other}"),
         }
     }
@@ -154,10 +162,10 @@ pub enum Verdict {
 }
 
 /// An answer is at least one unit; less is a refusal.
-const ANSWER: u64 = 1 << 48;
+const ANSWER: u64 = 1 << 56;
 
 /// N and S each have so many numbers in an answer of weighing.
-const MINUTES: u64 = 1 << 17;
+const MINUTES: u64 = 1 << 20;
 
 /// A breach's article is the remainder by this.
 const ARTICLES: u64 = 8;
@@ -222,10 +230,10 @@ pub fn reading_test(words: &[u32], reading: &[u8]) -> Result<u8, Refusal> {
     rule(calls::reading_test(words, reading))
 }
 
-/// The three bytes of an entry, kind, week and carrier, in the reading itself.
-/// Entries are numbered from 1.
+/// The four bytes of an entry, kind, week, carrier low and carrier high, in the
+/// reading itself. Entries are numbered from 1.
 pub fn entry(reading: &[u8], number: usize) -> Result<&[u8], Refusal> {
-    count(calls::entry(reading, number)).map(|place| &reading[place..place + 3])
+    count(calls::entry(reading, number)).map(|place| &reading[place..place + 4])
 }
 
 /// Why a reading has no entry of that number; `None` where it has one.
@@ -288,7 +296,7 @@ pub fn verdict(words: &[u32]) -> Result<Verdict, Refusal> {
     })
 }
 
-/// The first lawful reading, three bytes for each long rest, and the count of
+/// The first lawful reading, four bytes for each long rest, and the count of
 /// its bytes. The refusals are 1, 2 and 4, then 13 where the verdict is a breach.
 ///
 /// What has a lawful reading is a pass, so whoever wants both asks here first, and
@@ -296,6 +304,41 @@ pub fn verdict(words: &[u32]) -> Result<Verdict, Refusal> {
 /// not two.
 pub fn first_reading(words: &[u32], reading: &mut [u8]) -> Result<usize, Refusal> {
     count(calls::first_reading(words, reading))
+}
+
+/// A stored reading of the old form in the form of four bytes an entry, and the count
+/// of its bytes. Kind, week and carrier are carried as they are, whatever they are.
+/// The refusals are 6, where the count is no multiple of three, then 4.
+///
+/// ```
+/// use hours_desk::{narrow_reading, widen_reading};
+///
+/// // A daily rest; a weekly rest counted in week 2 and paid back by long rest 9.
+/// let old = [0, 0, 0, 1, 2, 9];
+/// let mut wide = [0; 8];
+/// assert_eq!(widen_reading(&old, &mut wide), Ok(8));
+/// assert_eq!(wide, [0, 0, 0, 0, 1, 2, 9, 0]);
+///
+/// let mut back = [7; 6];
+/// assert_eq!(narrow_reading(&wide, &mut back), Ok(6));
+/// assert_eq!(back, old);
+/// ```
+pub fn widen_reading(old: &[u8], wide: &mut [u8]) -> Result<usize, Refusal> {
+    count(calls::widen_reading(old, wide))
+}
+
+/// The move back, into three bytes an entry, and the count of the bytes. Kind, week
+/// and carrier are carried as they are. The refusals are 6, where the count is no
+/// multiple of four, then 4, then 15 where a week is over 11 or a carrier over 255.
+///
+/// ```
+/// use hours_desk::{narrow_reading, Refusal};
+///
+/// // Paid back by long rest 256.
+/// assert_eq!(narrow_reading(&[1, 2, 0, 1], &mut [0; 3]), Err(Refusal::NoOldForm));
+/// ```
+pub fn narrow_reading(wide: &[u8], old: &mut [u8]) -> Result<usize, Refusal> {
+    count(calls::narrow_reading(wide, old))
 }
 
 /// The spans of consecutive weeks, each judged as a recording of its own, that are a

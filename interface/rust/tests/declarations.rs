@@ -151,6 +151,12 @@ fn names() {
         "uint8_t *text, size_t text_count, uint32_t *word",
     )
     .says("desk_read_text has `word: uint32_t *`, by the source `words: uint32_t *`");
+    edit(
+        HEADER,
+        "size_t old_count, uint8_t *wide",
+        "size_t count, uint8_t *wide",
+    )
+    .says("desk_widen_reading has `count: size_t`, by the source `old_count: size_t`");
 }
 
 #[test]
@@ -199,6 +205,14 @@ fn types() {
         .says("desk_breach_spans has `list: *mut Span`, by the source `list: *mut Weeks`");
     edit(CALLS, "reading: *mut u8", "reading: *const u8")
         .says("desk_first_reading has `reading: *const u8`, by the source `reading: *mut u8`");
+    edit(
+        HEADER,
+        "wide_count, uint8_t *old",
+        "wide_count, const uint8_t *old",
+    )
+    .says("desk_narrow_reading has `old: const uint8_t *`, by the source `old: uint8_t *`");
+    edit(CALLS, "wide: *mut u8", "wide: *const u8")
+        .says("desk_widen_reading has `wide: *const u8`, by the source `wide: *mut u8`");
 }
 
 #[test]

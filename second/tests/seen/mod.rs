@@ -77,7 +77,7 @@ impl Seen {
         }
     }
 
-    fn carrier(&mut self, entries: &[Entry], standing: Standing, carrier: u8) {
+    fn carrier(&mut self, entries: &[Entry], standing: Standing, carrier: u16) {
         let carried = entries.iter().filter(|entry| entry.carrier == carrier);
         self.carried += 1;
         self.carried_with_others += usize::from(carried.count() > 1);

@@ -4,8 +4,9 @@
 #![allow(dead_code)]
 
 use second::dice::Dice;
+use second::limits::MOST_LONG_RESTS;
 use second::plain;
-use second::reading::Entry;
+use second::reading::{Entry, ENTRY_BYTES};
 use second::recording::{minutes, word, Activity, Recording, Span};
 use second::verdict::{first_reading, verdict, Outcome, Verdict};
 use second::{Limits, Refusal};
@@ -64,7 +65,7 @@ pub fn span(start: i64, end: i64) -> Span {
 
 /// The first lawful reading, or the breach.
 pub fn judged(words: &[u32]) -> Result<Vec<u8>, (i64, u8)> {
-    let mut reading = vec![0xAA; 3 * 223];
+    let mut reading = vec![0xAA; ENTRY_BYTES * MOST_LONG_RESTS];
     let first = first_reading(words, &mut reading);
     match verdict(words).expect("no refusal") {
         Verdict::Pass => {
@@ -160,13 +161,13 @@ pub fn general_figure(weeks: usize) -> Vec<u32> {
 
 /// Figure 5, a reading of figure 2: each week's rest counts in it, the third
 /// pays the first one's hour, and this rest the third one's.
-pub fn attempt(carrier: u8) -> Vec<Entry> {
+pub fn attempt(carrier: u16) -> Vec<Entry> {
     let weekly = [1, 7, 13, 19, 25, 32];
     let mut entries = vec![Entry::daily(); 37];
     for (week, number) in weekly.into_iter().enumerate() {
         entries[number - 1] = Entry::weekly(week as u8, 0);
     }
-    entries[weekly[0] - 1].carrier = weekly[2] as u8;
+    entries[weekly[0] - 1].carrier = weekly[2] as u16;
     entries[weekly[2] - 1].carrier = carrier;
     entries
 }

@@ -51,7 +51,9 @@ const PLAN: Plan = Plan {
     climbed: 24,
     stored: 3,
     weeks: 0,
+    years: 1,
     entries: 0,
+    moves: 0,
 };
 
 /// The edges alone, and few recordings of some days.
@@ -69,7 +71,9 @@ const SELF_TEST: Plan = Plan {
     climbed: 0,
     stored: 0,
     weeks: 0,
+    years: 0,
     entries: 0,
+    moves: 0,
 };
 
 fn main() {

@@ -88,7 +88,7 @@ impl Drop for Library {
 }
 
 /// An answer is at least one unit, a breach two; less is a refusal.
-const UNIT: u64 = 1 << 48;
+const UNIT: u64 = 1 << 56;
 
 /// The values of a code, or the number of its refusal; a code that the desk does
 /// not have stands for itself.

@@ -7,7 +7,7 @@ use Rattle.cases_text.proofs.read_weeks.Statement.{statement}
 use Rattle.cases_text.proofs.read_weeks.Tie as tie
 
 abbrev Inv-loop : tie.InvT-loop
-Inv-loop n text₀ at₀ i₀ t7 t8 text at i = (i ≤ n) × (at ≡ 11 + 21 * i) × (length text ≡ 286)
+Inv-loop n text₀ at₀ i₀ t7 t8 text at i = (i ≤ n) × (at ≡ 11 + 21 * i) × (length text ≡ 1147)
 
 abbrev μ-loop : tie.MeasureT-loop
 μ-loop n text₀ at₀ i₀ t7 t8 text at i = n - i

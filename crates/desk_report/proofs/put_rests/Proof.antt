@@ -17,15 +17,15 @@ loop-holds : tie.Need-loop-holds Inv-loop μ-loop
 loop-holds c = going-first (c .before .before .before .before .pre)
 
 put-rest-requires : tie.Need-put-rest-requires Inv-loop μ-loop
-put-rest-requires c κs = omega (arith, c .before .before .before .before .before .before .before .before .before .before .loop .inv .room)
+put-rest-requires c κs = omega (arith, c .before .before .before .before .before .before .before .before .before .before .before .loop .inv .room)
 
 loop-again : tie.Need-loop-again Inv-loop μ-loop
 loop-again c =
     let carried = c .before .before .before .before .before .before in
-    let counted = carried .before .before in
+    let counted = carried .before .before .before in
     let kind = counted .before .before in
     let loop = kind .before .before .before in
-    going-on (loop .loop .inv) (omega arith) (kind .wide .ensures) (counted .wide2 .ensures) (carried .wide3 .ensures) (c .before .before .put-rest .ensures)
+    going-on (loop .loop .inv) (omega arith) (kind .wide .ensures) (counted .wide2 .ensures) (carried .carrier-of .ensures) (c .before .before .put-rest .ensures)
 
 same-length : tie.Need-same-length Inv-loop μ-loop
 same-length c = going-length (c .before .loop .inv)
@@ -45,8 +45,8 @@ put-rests-spec =
     (λ c κs. search needs)
     (λ c. search needs)
     (λ c. search needs)
-    (λ c. search needs)
     (λ c κs. search needs)
+    (λ c. search needs)
     (λ c. search needs)
     (λ c. search needs)
     (λ c. search needs)

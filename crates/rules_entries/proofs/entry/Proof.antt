@@ -24,15 +24,15 @@ returns-3 : tie.Need-returns-3
 unfolding entryAt _or_
 returns-3 c = simp (eq-eqb _ _ (c .before .before .before .if1 .left), ne-eqb _ _ (c .before .before .if2 .left), lt-ltb _ _ (c .before .if3 .taken)) (tt, refl)
 
--- from a place to three bytes on are three bytes
-three-from : (reading : List ℕ) (at : ℕ) → take (at + entryBytes - at) (drop at reading) ≡ take entryBytes (drop at reading)
-three-from reading at = let z : at + entryBytes - at ≡ entryBytes = omega arith in rw z
+-- from a place to an entry's end are the bytes of an entry
+entry-from : (reading : List ℕ) (at : ℕ) → take (at + entryBytes - at) (drop at reading) ≡ take entryBytes (drop at reading)
+entry-from reading at = let z : at + entryBytes - at ≡ entryBytes = omega arith in rw z
 
 returns-4 : tie.Need-returns-4
 unfolding entryAt _or_
 returns-4 c =
     simp (eq-eqb _ _ (c .before .before .before .if1 .left), ne-eqb _ _ (c .before .before .if2 .left), le-ltb _ _ (c .before .if3 .left))
-    ((refl, omega arith), three-from _ (entryBytes * ((c .before .before .before .before) .args .number - 1)))
+    ((refl, omega arith), entry-from _ (entryBytes * ((c .before .before .before .before) .args .number - 1)))
 
 pub entry-spec : {M : Type 1} → statement M
 entry-spec =

@@ -7,9 +7,7 @@ use Rattle.rules_fixed.proofs.survey_of.Tie as tie
 
 survey-from-requires : tie.Need-survey-from-requires
 unfolding minutesOf
-survey-from-requires c κs =
-    let start = c .before .before .before .before .before .before .before in
-    (start .pre .0, start .pre .1, start .pre .2, start .pre .3)
+survey-from-requires c κs = (c .before .before .before .before .before .before .before) .pre
 
 returns : tie.Need-returns
 returns c = surveyed-alone (c .before .before .before .before .before .before .survey-from .ensures)

@@ -41,7 +41,7 @@ returns c =
     let a = start .args in
     let f = c .before .before .before .before .loop .inv .1 in
     let e = c .before .before .item-at .ensures in
-    form-broken _ _ _ _ f (a .nets .now) (a .compensations .now) (omega arith) (sym (rw e at (c .before .formed-item .ensures)) ∙ not-true _ (c .if1 .taken))
+    form-broken _ _ _ _ f (a .nets .now) (a .compensations .now) (omega (arith, start .pre .0 .reading-in)) (omega arith) (sym (rw e at (c .before .formed-item .ensures)) ∙ not-true _ (c .if1 .taken))
 
 loop-again : tie.Need-loop-again Inv-loop μ-loop
 loop-again c =
@@ -49,7 +49,8 @@ loop-again c =
     let a = start .args in
     let f = c .before .before .before .before .loop .inv .1 in
     let e = c .before .before .item-at .ensures in
-    (omega arith, form-on _ _ _ _ f (a .nets .now) (a .compensations .now) (omega arith) (sym (rw e at (c .before .formed-item .ensures)) ∙ not-false _ (c .if1 .left)))
+    let known = sym (rw e at (c .before .formed-item .ensures)) ∙ not-false _ (c .if1 .left) in
+    (omega arith, form-on _ _ _ _ f (a .nets .now) (a .compensations .now) (omega (arith, start .pre .0 .reading-in)) (omega arith) known)
 
 returns-2 : tie.Need-returns-2 Inv-loop μ-loop
 returns-2 c = form-done _ _ _ _ (c .before .loop .inv .1) (omega arith)

@@ -5,9 +5,10 @@ use Rattle.rules_reading.proofs.item_at.Tie as tie
 
 returns : tie.Need-returns
 returns c =
-    let e = c .before .before .before .before .before .before .before .before .before .before .end-before .ensures in
-    let k = c .before .before .before .before .before .wide .ensures in
-    simp (e, k, c .before .before .before .wide2 .ensures, c .before .wide3 .ensures)
+    let at-wide2 = c .before .before .before .before in
+    let at-wide = at-wide2 .before .before in
+    let at-end-before = at-wide .before .before .before .before .before in
+    simp (at-end-before .end-before .ensures, at-wide .wide .ensures, at-wide2 .wide2 .ensures, c .before .carrier-of .ensures)
 
 pub item-at-spec : {M : Type 1} → statement M
 item-at-spec =
@@ -18,17 +19,19 @@ item-at-spec =
     (λ c. search needs)
     (λ c. search needs)
     (λ c. search needs)
-    (λ c κs. search needs)
-    (λ c. search needs)
-    (λ c. search needs)
-    (λ c. search needs)
-    (λ c. search needs)
-    (λ c. search needs)
-    (λ c. search needs)
     (λ c. search needs)
     (λ c κs. search needs)
     (λ c. search needs)
+    (λ c. search needs)
+    (λ c. search needs)
+    (λ c. search needs)
+    (λ c. search needs)
+    (λ c. search needs)
+    (λ c. search needs)
     (λ c κs. search needs)
+    (λ c. search needs)
+    (λ c κs. search needs)
+    (λ c. search needs)
     (λ c. search needs)
     (λ c κs. search needs)
     (λ c. search needs)

@@ -9,7 +9,7 @@ returns : tie.Need-returns
 returns c =
     let at-survey-from = c .before .before .before .before .before .before .before .before .before .before .before in
     let start = at-survey-from .before .before .before .before .before .before .before .before in
-    in-front (at-survey-from .survey-from .ensures) (start .pre .0) (omega arith) (c .smallest-rule .ensures) (start .pre .1) (start .pre .2) (start .pre .3)
+    in-front (at-survey-from .survey-from .ensures) (start .pre .0) (omega arith) (c .smallest-rule .ensures) (start .pre .1)
 
 pub rests-of-spec : {M : Type 1} → statement M
 rests-of-spec =

@@ -8,6 +8,9 @@ use Rattle.verdict_first_reading.proofs.put_entry.Tie as tie
 slice-write-reading-2 : tie.Need-slice-write-reading-2
 slice-write-reading-2 c = simp length-set (omega arith)
 
+slice-write-reading-3 : tie.Need-slice-write-reading-3
+slice-write-reading-3 c = simp length-set (omega arith)
+
 pub put-entry-spec : {M : Type 1} → statement M
 put-entry-spec =
     tie.close
@@ -16,7 +19,11 @@ put-entry-spec =
     (λ c. search needs)
     (λ c. search needs)
     (λ c. search needs)
+    (λ c. search needs)
+    (λ c. search needs)
+    (λ c. search needs)
     slice-write-reading-2
+    slice-write-reading-3
     (λ c. search needs)
     (λ c. search needs)
     (λ c. search needs))

@@ -7,8 +7,7 @@ use native.Mathlib.Nat.{le-refl}
 use native.Mathlib.Omega.{arith}
 use lib.Dec.{leb}
 use denote.Ref.{now}
-use Rattle.rules.specs.Reading.{weeklyKind, regularMinutes}
-use Rattle.rules.specs.Order.{byteValues}
+use Rattle.rules.specs.Reading.{weeklyKind, regularMinutes, byteValues}
 use Rattle.rules_reading.specs.Items.{addedTo}
 use Rattle.verdict_completion.specs.declared.State.{State}
 use Rattle.verdict_completion.specs.States.{afterWeekly}
@@ -123,7 +122,6 @@ returns-3 c =
     let low = s .pre .0 .lies .judged j (s .pre .1 .within) in
     let p = at-add-compensation .add-compensation .ensures ∙ ap (λ (d : ℕ). addedTo (now (s .args .compensations)) x d) (at-lacking .lacking .ensures) in
     let we : w % byteValues ≡ w = omega (arith, h .upto, low, s .pre .0 .judged) in
-    let xe : x % byteValues ≡ x = omega (arith, at-if1 .if1 .left, s .pre .0 .few) in
     record {
       limited = subst (λ (l : List ℕ). Limited (withCompensations k l)) (sym p) (limited-with k j (s .pre .0) x (at-if1 .if1 .left) (h .room));
       before =
@@ -133,9 +131,7 @@ returns-3 c =
       kept = λ z. p ∙ addedTo-none (now (s .args .compensations)) x _ z;
       done = λ there l e. record {
         compensations = p;
-        written =
-            at-put-entry .put-entry .ensures ∙ ap (λ (y : ℕ). withEntry (now (s .args .reading)) j weeklyKind y (x % byteValues)) we
-            ∙ ap (λ (y : ℕ). withEntry (now (s .args .reading)) j weeklyKind w y) xe;
+        written = at-put-entry .put-entry .ensures ∙ ap (λ (y : ℕ). withEntry (now (s .args .reading)) j weeklyKind y x) we;
         state =
             counted-state k j w (at-rest-week .rest-week .result) (at-there .there .given .0 .0) (c .after-weekly .result) (c .after-weekly .ensures) (at-rest-week .rest-week .ensures)
             ∙ ap (λ (y : State). afterWeekly (restWeek k w) (leb (regularMinutes + compensation) (lengthAt k j)) (at (now (s .args .ends)) j) y)

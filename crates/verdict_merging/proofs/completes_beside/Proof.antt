@@ -1,46 +1,27 @@
 -- `verdict_merging::completes_beside` meets its contract. Assumes nothing.
 use borrow.Author.Needs.{needs}
-use mathlib.Core.Path.{sym, _∙_}
-use lib.ListN.{length}
-use denote.Ref.{now}
-use Rattle.verdict_search.specs.Search.{courseOf}
-use Rattle.verdict_search.proofs.Slots as law
-use Rattle.verdict_sweep.proofs.Sweeps as sweeps
-use Rattle.rules_reading.specs.Items.{addedTo}
 use Rattle.verdict_merging.proofs.completes_beside.Statement.{statement}
 use Rattle.verdict_merging.proofs.completes_beside.Tie as tie
 
-array-borrow-prefix-slots : tie.Need-array-borrow-prefix-slots
-array-borrow-prefix-slots c = (c .before .before .before .before .before .before .before .before .before .before .before .before) .pre .0 .sized .few
-
-slice-aggregate-asks-beside : tie.Need-slice-aggregate-asks-beside
-slice-aggregate-asks-beside c =
-    let s = (c .before .before .before .before .before .before .before .before .before .before .before .before .before) in
-    sym (sweeps.none-size (length (now (s .args .starts))) (s .pre .0 .sized .few))
-
-asks-beside-requires : tie.Need-asks-beside-requires
-asks-beside-requires c κs =
-    let s = (c .before .before .before .before .before .before .before .before .before .before .before .before .before .before .before .before .before .before) in
-    let k = courseOf (now (s .args .starts)) (now (s .args .ends)) (now (s .args .nets)) (now (s .args .compensations)) (s .args .s) in
-    let d = courseOf (now (s .args .starts)) (now (s .args .ends)) (now (s .args .nets)) (addedTo (now (s .args .compensations)) (s .args .x) (s .args .less)) (s .args .s) in
-    let long = sweeps.none-size (length (now (s .args .starts))) (s .pre .0 .sized .few) ∙ sym (s .pre .0 .sized .outstanding-too) in (
-      s .pre .0,
-      s .pre .1,
-      law.sized-too k (s .pre .0 .sized .lies) (s .pre .0 .sized) long,
-      law.sized-too d (s .pre .1 .sized .lies) (s .pre .1 .sized) long,
-      s .pre .2,
-      s .pre .3,
-      s .pre .4,
-      s .pre .5,
-    )
+asks-short-requires : tie.Need-asks-short-requires
+asks-short-requires c κs =
+    let p = (c .before .before .before .before .before .before .before .before .before .before .before .before .before .before .before .before .before .before) .pre in
+    (p .0, p .1, p .2, p .3, p .4, p .5, (c .before .before .before .before .before .before .before) .if1 .taken)
 
 pub completes-beside-spec : {M : Type 1} → statement M
 completes-beside-spec =
     tie.close
     (tie.spec
-    array-borrow-prefix-slots
-    slice-aggregate-asks-beside
-    asks-beside-requires
+    asks-short-requires
+    (λ c. search needs)
+    (λ c. search needs)
+    (λ c. search needs)
+    (λ c. search needs)
+    (λ c. search needs)
+    (λ c. search needs)
+    (λ c. search needs)
+    (λ c. search needs)
+    (λ c κs. search needs)
     (λ c. search needs)
     (λ c. search needs)
     (λ c. search needs)

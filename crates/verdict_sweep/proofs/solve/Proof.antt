@@ -1,7 +1,6 @@
 -- `verdict_sweep::solve` meets its contract. Assumes nothing.
 use borrow.Author.Needs.{needs}
 use mathlib.Core.Path.{sym, _∙_}
-use lib.ListN.{length}
 use native.Mathlib.Omega.{arith}
 use denote.Ref.{now}
 use Rattle.verdict_search.specs.Search.{courseOf}
@@ -24,38 +23,54 @@ returns c =
     led.found-yes (at-step .step .ensures .yes (c .if1 .taken))
     (at-step .step .ensures .same) (at-step .step .ensures .sound)
 
-array-borrow-prefix-slots : tie.Need-array-borrow-prefix-slots
-array-borrow-prefix-slots c = (c .before .before .before .before .before .before .before .before .before .before .before .before .before .before .before .before .before .before .before) .pre .0
-    .sized .few
-
-slice-aggregate-sweep-on : tie.Need-slice-aggregate-sweep-on
-slice-aggregate-sweep-on c =
-    let s = (c .before .before .before .before .before .before .before .before .before .before .before .before .before .before .before .before .before .before .before .before) in
-    sym (sweeps.none-size (length (now (s .args .starts))) (s .pre .0 .sized .few))
-
-sweep-on-requires : tie.Need-sweep-on-requires
-sweep-on-requires c κs =
+sweep-short-requires : tie.Need-sweep-short-requires
+sweep-short-requires c κs =
     let at-step = c .before .before .before .before .before .before .before .before .before .before .before in
-    let s = (at-step .before .before .before .before .before .before .before .before .before .before .before .before) in
+    let s = at-step .before .before .before .before .before .before .before .before .before .before .before .before in
     let k = courseOf (now (s .args .starts)) (now (s .args .ends)) (now (s .args .nets)) (now (s .args .compensations)) (s .args .s) in (
-      law.sized-too k (s .pre .0 .sized .lies) (s .pre .0 .sized) (sweeps.none-size (length (now (s .args .starts))) (s .pre .0 .sized .few) ∙ sym (s .pre .0 .sized .outstanding-too)),
+      law.sized-too k (s .pre .0 .sized .lies) (s .pre .0 .sized) (s .pre .0 .sized .compensations-too ∙ sym (s .pre .0 .sized .outstanding-too)),
+      at-step .step .ensures .sound,
+      omega (arith, s .pre .2 .within),
+      at-step .step .ensures .well,
+      c .before .before .before .if2 .taken,
+    )
+
+returns-2 : tie.Need-returns-2
+returns-2 c =
+    let at-sweep = c .before .before .before .before .before .before in
+    let at-if1 = at-sweep .before .before .before .before .before in
+    let at-step = at-if1 .before .before .before .before .before .before .before in
+    let s = at-step .before .before .before .before .before .before .before .before .before .before .before .before in
+    let k = courseOf (now (s .args .starts)) (now (s .args .ends)) (now (s .args .nets)) (now (s .args .compensations)) (s .args .s) in
+    sweeps.whole (chain.no-entry k (s .args .j) _) (at-if1 .if1 .left)
+    (at-step .step .ensures)
+    (at-sweep .sweep-short .ensures)
+    (at-step .step .ensures .same)
+    (at-sweep .sweep-short .ensures .sound)
+
+sweep-long-requires : tie.Need-sweep-long-requires
+sweep-long-requires c κs =
+    let at-step = c .before .before .before .before .before .before .before .before .before .before .before in
+    let s = at-step .before .before .before .before .before .before .before .before .before .before .before .before in
+    let k = courseOf (now (s .args .starts)) (now (s .args .ends)) (now (s .args .nets)) (now (s .args .compensations)) (s .args .s) in (
+      law.sized-too k (s .pre .0 .sized .lies) (s .pre .0 .sized) (s .pre .0 .sized .compensations-too ∙ sym (s .pre .0 .sized .outstanding-too)),
       at-step .step .ensures .sound,
       omega (arith, s .pre .2 .within),
       at-step .step .ensures .well,
     )
 
-returns-2 : tie.Need-returns-2
-returns-2 c =
-    let at-sweep-on = c .before .before .before .before .before .before .before in
-    let at-if1 = at-sweep-on .before .before .before .before .before in
+returns-3 : tie.Need-returns-3
+returns-3 c =
+    let at-sweep = c .before .before .before .before .before .before in
+    let at-if1 = at-sweep .before .before .before .before .before in
     let at-step = at-if1 .before .before .before .before .before .before .before in
-    let s = (at-step .before .before .before .before .before .before .before .before .before .before .before .before) in
+    let s = at-step .before .before .before .before .before .before .before .before .before .before .before .before in
     let k = courseOf (now (s .args .starts)) (now (s .args .ends)) (now (s .args .nets)) (now (s .args .compensations)) (s .args .s) in
     sweeps.whole (chain.no-entry k (s .args .j) _) (at-if1 .if1 .left)
     (at-step .step .ensures)
-    (at-sweep-on .sweep-on .ensures)
+    (at-sweep .sweep-long .ensures)
     (at-step .step .ensures .same)
-    (at-sweep-on .sweep-on .ensures .sound)
+    (at-sweep .sweep-long .ensures .sound)
 
 pub solve-spec : {M : Type 1} → statement M
 solve-spec =
@@ -66,11 +81,15 @@ solve-spec =
     (λ c. search needs)
     (λ c. search needs)
     returns
-    array-borrow-prefix-slots
-    slice-aggregate-sweep-on
-    sweep-on-requires
+    sweep-short-requires
     (λ c. search needs)
     (λ c. search needs)
     (λ c. search needs)
     (λ c. search needs)
-    returns-2)
+    returns-2
+    sweep-long-requires
+    (λ c. search needs)
+    (λ c. search needs)
+    (λ c. search needs)
+    (λ c. search needs)
+    returns-3)

@@ -1,0 +1,53 @@
+-- `verdict_first_reading::write_long` meets its contract. Assumes nothing.
+use borrow.Author.Needs.{needs}
+use mathlib.Core.Path.{sym}
+use lib.ListN.{length}
+use denote.Ref.{now}
+use Rattle.recording.specs.Rests.{longRestsAtMost}
+use Rattle.verdict_search.specs.Search.{courseOf}
+use Rattle.verdict_search.proofs.Memory.{empty-sound}
+use Rattle.verdict_sweep.proofs.Sweeps.{noneOf, none-size, none-zeros}
+use Rattle.verdict_first_reading.proofs.Placing.{lent-start}
+use Rattle.verdict_first_reading.proofs.write_long.Statement.{statement}
+use Rattle.verdict_first_reading.proofs.write_long.Tie as tie
+
+slice-aggregate-write-entries : tie.Need-slice-aggregate-write-entries
+slice-aggregate-write-entries c =
+    let s = c .before .before .before .before .before .before .before .before .before .before .before .before .before .before in
+    sym (none-size longRestsAtMost (length (now (s .args .starts))) (s .pre .1))
+
+slice-aggregate-write-entries-2 : tie.Need-slice-aggregate-write-entries-2
+slice-aggregate-write-entries-2 c =
+    let s = c .before .before .before .before .before .before .before .before .before .before .before .before .before .before .before in
+    sym (none-size longRestsAtMost (length (now (s .args .starts))) (s .pre .1))
+
+write-entries-requires : tie.Need-write-entries-requires
+write-entries-requires c κs =
+    let at-clear = c .before .before .before .before .before .before .before .before .before .before in
+    let s = at-clear .before .before .before .before .before .before .before .before .before .before .before in
+    let none = noneOf longRestsAtMost (length (now (s .args .starts))) in
+    let l = lent-start longRestsAtMost (now (s .args .starts)) (now (s .args .ends)) (now (s .args .nets)) (s .args .s) (s .pre .0) (s .pre .1) (s .pre .1) (s .pre .2) in (
+      l,
+      none-zeros longRestsAtMost (length (now (s .args .starts))),
+      none-zeros longRestsAtMost (length (now (s .args .starts))),
+      s .pre .3,
+      empty-sound (courseOf (now (s .args .starts)) (now (s .args .ends)) (now (s .args .nets)) none (s .args .s)) (l .sized .lies) (at-clear .clear .ensures),
+    )
+
+pub write-long-spec : {M : Type 1} → statement M
+write-long-spec =
+    tie.close
+    (tie.spec
+    (λ c. search needs)
+    (λ c. search needs)
+    slice-aggregate-write-entries
+    (λ c. search needs)
+    slice-aggregate-write-entries-2
+    write-entries-requires
+    (λ c. search needs)
+    (λ c. search needs)
+    (λ c. search needs)
+    (λ c. search needs)
+    (λ c. search needs)
+    (λ c. search needs)
+    (λ c. search needs))
