@@ -19,11 +19,12 @@ use Rattle.recording.proofs.WordLaws.{NoFault, no-fault-is, total-on, total-fau
 use Rattle.recording.specs.declared.Measure.{Measure}
 use Rattle.recording.proofs.Listing.{measured-is}
 use Rattle.recording.proofs.Slices.{sets-append, put-in-front}
-use Rattle.card.specs.Form.{byteValues, dayMinutes, bytesOf}
+use Rattle.card_reader.specs.Form.{byteValues, dayMinutes, bytesOf}
 use Rattle.card.specs.Writing.{changeOf, isWritten, changeIf, changesFrom, changesOf, recordOfMinutes, isWholeDays, cardWritten}
-use Rattle.card.specs.Passes.{changesInRun, changesCounted, sized, refusalIn, PutIf}
+use Rattle.card.specs.Sizes.{changesInRun, changesCounted, sized, refusalIn, PutIf}
 use Rattle.card.specs.declared.Size.{Size}
 use Rattle.card.specs.declared.Size.the-variants as size
+use Rattle.card_reader.proofs.FormLaws.{bytes-length}
 
 -- ---- a part of a run that its day can take has one change or none
 no-turn : (m a : ℕ) → (m ≡ 0 → ⊥) → isWritten m a a ≡ false
@@ -209,11 +210,6 @@ module _ {words : List ℕ} {sum before changes i : ℕ} (k : Counting words sum
     pub count-done : sum % dayMinutes ≡ 0 → answered changes ≡ changesCounted words
     unfolding changesCounted isWholeDays
     count-done z = rw (all-weighed, sym sum-is, eq-eqb (sum % dayMinutes) 0 z) (ap answered changes-are)
-
-pub bytes-length : (cs : List ℕ) → length (bytesOf cs) ≡ 2 * length cs
-unfolding bytesOf
-bytes-length [] = refl
-bytes-length (c ∷ cs) = let k = bytes-length cs in omega (arith, k)
 
 -- ---- a change put at a place
 pub put-two : {bytes bytes′ bytes″ : List ℕ} {at c : ℕ} → bytes′ ≡ set bytes at (c / byteValues) → bytes″ ≡ set bytes′ (at + 1) (c % byteValues)

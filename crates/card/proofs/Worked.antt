@@ -9,12 +9,14 @@ use Rattle.recording.specs.Answers.{refused, answered, counted, filled}
 use Rattle.recording.specs.Words.{wordOf, rest, otherWork, driving, minutesOf}
 use Rattle.recording.specs.Operations.{faultOf, unlessFault}
 use Rattle.recording.specs.Opened.{opened}
-use Rattle.card.specs.Form.{bytesOf}
-use Rattle.card.specs.Reading.{changesIn, isUnknown, follows, allFollow, inOrder, isEven, isDayRecord, endBefore, wordsOf, cardRead}
+use Rattle.card_reader.specs.Form.{bytesOf}
+use Rattle.card_reader.specs.Reading.{changesIn, isUnknown, follows, allFollow, inOrder, isEven, isDayRecord, endBefore, wordsOf, cardRead}
 use Rattle.card.specs.Writing.{changeOf, isWritten, changeIf, changesFrom, isWholeDays, changesOf, cardWritten}
-use Rattle.card.specs.Passes.{begun, afterChange, judgedFrom, refusalFor, changesInRun, changesCounted}
-use Rattle.card.proofs.Judging.{refusal-is}
-use Rattle.card.proofs.Putting.{bytes-length, start-counting, count-on, count-done, counted-words, counted-is}
+use Rattle.card_reader.specs.Passes.{begun, afterChange, judgedFrom, refusalFor}
+use Rattle.card.specs.Sizes.{changesInRun, changesCounted}
+use Rattle.card_reader.proofs.Judging.{refusal-is}
+use Rattle.card_reader.proofs.FormLaws.{bytes-length}
+use Rattle.card.proofs.Putting.{start-counting, count-on, count-done, counted-words, counted-is}
 
 abbrev r : ℕ → ℕ
 r n = wordOf n rest

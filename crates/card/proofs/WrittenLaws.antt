@@ -16,12 +16,12 @@ use Rattle.recording.specs.declared.Measure.{Measure}
 use Rattle.recording.proofs.TestLaws.{and-both, or-left, or-right, less-or-not}
 use Rattle.recording.proofs.WordLaws.{Coded, no-minute, minute, minutes-in, activity-in, coded-minutes}
 use Rattle.recording.proofs.Listing.{measured-is}
-use Rattle.card.specs.Form.{activityPlace, outPlace, byteValues, bytesOf, dayMinutes, OfTheForm, minutesOfDays}
-use Rattle.card.specs.Reading.{changesIn, changeMinute, changeActivity, isUnknown, beginsDay, follows, allFollow, inOrder, isDayRecord, endBefore, wordsOf, cardRead}
+use Rattle.card_reader.specs.Form.{activityPlace, outPlace, byteValues, bytesOf, dayMinutes, OfTheForm, minutesOfDays}
+use Rattle.card_reader.specs.Reading.{changesIn, changeMinute, changeActivity, isUnknown, beginsDay, follows, allFollow, inOrder, isDayRecord, endBefore, wordsOf, cardRead}
 use Rattle.card.specs.Writing.{changeOf, isWritten, changeIf, nextMinute, changesFrom, changesOf, recordOfMinutes, isWholeDays, cardWritten}
-use Rattle.card.proofs.Judging.{end-none, words-count}
-use Rattle.card.proofs.FormLaws.{Bytes, none, next, changes-of-bytes, bytes-even, read-is-form}
-use Rattle.card.proofs.MinuteLaws.{no-words, record-minutes}
+use Rattle.card_reader.proofs.Judging.{end-none, words-count}
+use Rattle.card_reader.proofs.FormLaws.{Bytes, none, next, changes-of-bytes, bytes-even, read-is-form}
+use Rattle.card_reader.proofs.MinuteLaws.{no-words, record-minutes}
 
 -- ---- a written change
 change-minute : (a m : ℕ) → m < dayMinutes → changeMinute (changeOf a m) ≡ m

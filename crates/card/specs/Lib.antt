@@ -1,4 +1,2 @@
-pub mod Form
-pub mod Reading
 pub mod Writing
-pub mod Passes
+pub mod Sizes

@@ -9,7 +9,7 @@ use Rattle.recording.specs.Tests.{_or_, pick}
 use Rattle.recording.specs.Answers.{Answer, answered, andThen, refuseIf}
 use Rattle.recording.specs.Words.{rest, minutesOf}
 use Rattle.recording.specs.Operations.{measured}
-use Rattle.card.specs.Form.{activityPlace, dayMinutes, bytesOf}
+use Rattle.card_reader.specs.Form.{activityPlace, dayMinutes, bytesOf}
 
 -- a change "with s, c, p zero"
 unfoldable pub changeOf : ℕ → ℕ → ℕ

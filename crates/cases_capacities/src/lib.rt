@@ -1,12 +1,12 @@
 // The verdict and the first reading with fronts of other capacities, for tests: the answers are the same whatever room the search has.
 use recording::Filling;
-use verdict::Judgement;
+use verdict_judging::Judgement;
 ghost use mathlib.Core.Path.{_≡_};
 ghost use lib.ListN.{length};
 ghost use Rattle.recording.specs.Answers.{counted, filled};
 ghost use Rattle.recording.specs.Operations.{written};
 ghost use Rattle.rules.specs.Operations.{verdictGiven, firstReadingGiven};
-ghost use Rattle.verdict.specs.Judgements.{findingBy};
+ghost use Rattle.verdict_judging.specs.Judgements.{findingBy};
 ghost use Rattle.interface.specs.Codes.{codeOf, itself, findingValue};
 
 // The words of three entries, and of 32.

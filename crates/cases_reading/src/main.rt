@@ -3,7 +3,7 @@ use libc::STDOUT_FILENO;
 use rules::Kind;
 use rules::Standing;
 use rules_fixed::Tested;
-use rules_reading::Item;
+use rules_items::Item;
 
 fn show_number(n: u32) {
     io::print_decimal(STDOUT_FILENO, n as u64);
@@ -51,7 +51,7 @@ fn show_net(net: u32) {
     if 10000 < net {
         return;
     }
-    let rest = rules_reading::as_read(Item {
+    let rest = rules_items::as_read(Item {
         number: 1,
         before: 0,
         start: 60,
@@ -230,19 +230,19 @@ fn show_least(name: &[u8], net: u32) {
 fn show_numbers() {
     show_least(
         b"600 minutes from 900 on, split",
-        rules_fixed::regular_net(true, 0, 900, 1500),
+        rules_nets::regular_net(true, 0, 900, 1500),
     );
     show_least(
         b"600 minutes from 901 on, split",
-        rules_fixed::regular_net(true, 0, 901, 1501),
+        rules_nets::regular_net(true, 0, 901, 1501),
     );
     show_least(
         b"660 minutes from 780 on",
-        rules_fixed::regular_net(false, 0, 780, 1440),
+        rules_nets::regular_net(false, 0, 780, 1440),
     );
     show_least(
         b"660 minutes from 781 on",
-        rules_fixed::regular_net(false, 0, 781, 1441),
+        rules_nets::regular_net(false, 0, 781, 1441),
     );
 }
 

@@ -5,7 +5,7 @@ use libc::STDOUT_FILENO;
 use recording::Filling;
 use rules::Weeks;
 use rules_fixed::Tested;
-use verdict::Judgement;
+use verdict_judging::Judgement;
 use verdict_spans::Found;
 
 // Bytes enough for any reading.

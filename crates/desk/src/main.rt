@@ -123,17 +123,44 @@ fn print(asked: Asked, input: &[u8], page: &mut [u8]) -> Filling {
     print_verdict(asked.card, input, page)
 }
 
-fn answer(asked: Asked, input: &[u8]) {
-    let mut page = [0u8; desk_report::PAGE_BYTES];
-    let printed = print(asked, input, &mut page);
+// The answer by way of a lent page.
+fn answer_in(asked: Asked, input: &[u8], page: &mut [u8]) {
+    let printed = print(asked, input, page);
     match printed {
         Filling::Refused(_) => (),
         Filling::Written(n) => {
             let count = n as usize;
-            if count <= desk_report::PAGE_BYTES {
+            if count <= page.len() {
                 write_page(&page[..count]);
             }
         }
+    }
+}
+
+fn answer_short(asked: Asked, input: &[u8]) {
+    let mut page = [0u8; desk_report::SHORT_PAGE_BYTES];
+    answer_in(asked, input, &mut page);
+}
+
+fn answer_middle(asked: Asked, input: &[u8]) {
+    let mut page = [0u8; desk_report::MIDDLE_PAGE_BYTES];
+    answer_in(asked, input, &mut page);
+}
+
+fn answer_long(asked: Asked, input: &[u8]) {
+    let mut page = [0u8; desk_report::PAGE_BYTES];
+    answer_in(asked, input, &mut page);
+}
+
+// The same with the shortest page that is surely enough.
+fn answer(asked: Asked, input: &[u8]) {
+    let enough = desk_report::page_room(asked.card, asked.spans, input.len());
+    if enough <= desk_report::SHORT_PAGE_BYTES {
+        answer_short(asked, input);
+    } else if enough <= desk_report::MIDDLE_PAGE_BYTES {
+        answer_middle(asked, input);
+    } else {
+        answer_long(asked, input);
     }
 }
 

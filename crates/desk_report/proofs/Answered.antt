@@ -3,12 +3,13 @@ use mathlib.Core.Path.{_≡_, refl, sym, ap, subst, _∙_}
 use mathlib.Core.Bool.{Bool, true, false}
 use mathlib.Core.List.{List}
 use mathlib.Core.Option.{Option, none, some}
-use Prim.Native.Nat.{ℕ, zero, _*_, _≤_, _<_}
+use Prim.Native.Nat.{ℕ, zero, _+_, _*_, _≤_, _<_}
 use native.Mathlib.Omega.{arith}
+use lib.Dec.{ltb}
 use lib.ListN.{length, take, drop, replicate, length-append, length-take, length-replicate}
 use lib.Seq.{take-at}
 use borrow.Author.Tests.{lt-ltb, le-ltb}
-use Rattle.recording.specs.Answers.{Answer, refused, answered, andThen, counted, filled}
+use Rattle.recording.specs.Answers.{Answer, refused, answered, andThen, refuseIf, counted, filled}
 use Rattle.recording.specs.Words.{minutesOf}
 use Rattle.recording.specs.Rests.{longRests, longRestsAtMost}
 use Rattle.recording.specs.Operations.{totalAtMost, measured, written}
@@ -19,20 +20,23 @@ use Rattle.recording.proofs.LongRests.{few-rests}
 use Rattle.recording.proofs.Listing.{measured-is}
 use Rattle.rules.specs.Reading.{entryBytes, readingSize}
 use Rattle.rules.specs.Verdict.{prefix, firstLawful, breachMinute, article, Verdict, pass, breach, verdictBy, verdict}
-use Rattle.rules.specs.Operations.{Finding, passed, breached, verdictGiven, firstReadingGiven}
+use Rattle.rules.specs.Operations.{Finding, passed, breached, readingInto, verdictGiven, firstReadingGiven}
 use Rattle.rules.proofs.EntryLaws.{first-size}
 use Rattle.rules.proofs.VerdictAndReading.{VerdictGiven, found-refused, found-pass, found-breach, verdict-given, breach-given}
 use Rattle.rules.proofs.VerdictAndReading.{ReadingGiven, turned-away, short, breaching, reading, reading-given}
 use Rattle.text.specs.Passes.{Put}
+use Rattle.verdict_spans.specs.Mondays.{weeksAtMost}
 use Rattle.text_lines.specs.Reading.{textRead}
 use Rattle.recording.proofs.Slices.{put-in-front}
-use Rattle.card.specs.Reading.{cardRead}
+use Rattle.card_reader.specs.Reading.{cardRead}
 use Rattle.desk_report.specs.Printed.{answerText, printed, wordsAnswered, verdictText, inputAtMost, unlessOver, inputRead, deskText, cardInputRead, cardText, intoRoom}
-use Rattle.desk_report.specs.Printed.{printedSpans, spansAnswered, spansText, deskSpansText, cardSpansText}
-use Rattle.desk_report.specs.Composing.{pageAtMost, runLineBytes, changeBytes, refusalPage, pageOf, Read, Within, refusal, front, wordsText, readText, inputText}
+use Rattle.desk_report.specs.Printed.{printedSpans, spansAnswered, spansText, deskSpansText, cardSpansText, inputText}
+use Rattle.desk_report.specs.Composing.{lineAtMost, aroundAtMost, pageAtMost, runLineBytes, changeBytes, restWords, restBytes, readingRoom}
+use Rattle.desk_report.specs.Composing.{refusalPage, pageOf, Read, Fits, Places, Within, refusal, front, wordsText, readText}
 use Rattle.desk_report.proofs.Pages.{refusal-size, page-size}
 use Rattle.desk_report.proofs.SpanLines.{spans-size}
-use Rattle.desk_report.proofs.Room.{room-same, card-room-same}
+use Rattle.desk_report.proofs.Room.{room-same, card-room-same, text-words, card-words-within}
+use Rattle.desk_report.proofs.RestWords.{rests-paid}
 
 -- a buffer before anything is written into it
 abbrev pub blank : ℕ → List ℕ
@@ -66,20 +70,19 @@ pub record Breaching (ws : List ℕ) (m a : ℕ) : Type 0 where
   pub text : verdictText ws ≡ pageOf (minutesOf ws) (breach m a)
 
 -- the reading that was written
-module _ (ws : List ℕ) (size : ℕ) where
-  pub passed-text : {n : ℕ} {new : List ℕ} → answered n ≡ counted (firstReadingGiven ws (length (blank size))) → new ≡ filled (firstReadingGiven ws (length (blank size))) (blank size)
-      → Passing ws n new
-  passed-text {n} {new} e b = at (reading-given ws (length (blank size))) e b
+module _ (ws old : List ℕ) where
+  pub passed-text : {n : ℕ} {new : List ℕ} → answered n ≡ counted (firstReadingGiven ws (length old)) → new ≡ filled (firstReadingGiven ws (length old)) old → Passing ws n new
+  passed-text {n} {new} e b = at (reading-given ws (length old)) e b
     where
-      at : {g : Answer (List ℕ)} → ReadingGiven ws (length (blank size)) g → answered n ≡ counted g → new ≡ filled g (blank size) → Passing ws n new
+      at : {g : Answer (List ℕ)} → ReadingGiven ws (length old) g → answered n ≡ counted g → new ≡ filled g old → Passing ws n new
       at (turned-away q m) e b = let z : _≡_ {A = ℕ} 0 1 = cc in absurd (omega arith)
       at (short q h) e b = let z : _≡_ {A = ℕ} 0 1 = cc in absurd (omega arith)
       at (breaching q h p) e b = let z : _≡_ {A = ℕ} 0 1 = cc in absurd (omega arith)
       at (reading {r = r} q h p) e b =
           let z : n ≡ length r = cc in
-          let t : take n new ≡ r = ap (take n) b ∙ take-at r (drop (length r) (blank size)) n (sym z) in
+          let t : take n new ≡ r = ap (take n) b ∙ take-at r (drop (length r) old) n (sym z) in
           record {
-            few = omega (arith, ap length b, length-append r (drop (length r) (blank size)));
+            few = omega (arith, ap length b, length-append r (drop (length r) old));
             size = z ∙ ap length (sym t);
             read = record { within = measured-is ws q .within; size = ap length t ∙ pass-length (minutesOf ws) r p };
             text = text-is ws q p ∙ ap (λ (l : List ℕ). pageOf (minutesOf ws) (pass l)) (sym t);
@@ -88,6 +91,48 @@ module _ (ws : List ℕ) (size : ℕ) where
 pub counted-refused : (g : Answer (List ℕ)) {n : ℕ} → refused n ≡ counted g → g ≡ refused n
 counted-refused (refused m) {n} e = let same : m ≡ n = cc in ap refused same
 counted-refused (answered r) e = let z : _≡_ {A = ℕ} 0 1 = cc in absurd (omega arith)
+
+-- a reading is answered alike for each room that it fits into
+module _ (ws old : List ℕ) (k : Fits ws old) where
+  room-alike : firstReadingGiven ws (length old) ≡ firstReadingGiven ws readingRoom
+  unfolding firstReadingGiven readingSize
+  room-alike = at (measured ws) refl
+    where
+      at : (a : Answer Measure) → measured ws ≡ a → andThen a (λ m. readingInto (length old) (m .count) (verdict (minutesOf ws)))
+          ≡ andThen a (λ m. readingInto readingRoom (m .count) (verdict (minutesOf ws)))
+      at (refused n) q = refl
+      at (answered m) q =
+          let is = measured-is ws q in
+          let c : m .count ≡ length (longRests (minutesOf ws)) = ap (λ (x : Measure). x .count) (is .is) in
+          rw (
+            le-ltb (length old) (entryBytes * m .count) (omega (arith, k .fits (is .within))),
+            le-ltb readingRoom (entryBytes * m .count) (omega (arith, few-rests (minutesOf ws) (is .within))),
+          )
+          refl
+
+  pub refused-alike : {n : ℕ} → refused n ≡ counted (firstReadingGiven ws (length old)) → firstReadingGiven ws readingRoom ≡ refused n
+  refused-alike e = sym room-alike ∙ counted-refused _ e
+
+-- arrays that are long enough: by the words, and for any recording
+module _ (ws : List ℕ) where
+  pub fits-few : (rests : ℕ) → length ws ≤ restWords * rests → Fits ws (blank (entryBytes * rests))
+  unfolding readingSize
+  fits-few rests h = record { fits = λ w. omega (arith, rests-paid ws, length-replicate (entryBytes * rests) zero) }
+
+  pub fits-all : Fits ws (blank readingRoom)
+  unfolding readingSize
+  fits-all = record { fits = λ w. omega (arith, few-rests (minutesOf ws) w, length-replicate readingRoom zero) }
+
+  places : (rests : ℕ) → length (longRests (minutesOf ws)) ≤ rests → Places ws (blank rests) (blank rests)
+  places rests h = record { begun = rw length-replicate h; ended = rw length-replicate h }
+
+  module _ {reading : List ℕ} (read : Read ws reading) where
+    pub places-few : (rests : ℕ) → length reading ≤ entryBytes * rests → Places ws (blank rests) (blank rests)
+    unfolding readingSize
+    places-few rests h = places rests (omega (arith, read .size))
+
+    pub places-all : Places ws (blank longRestsAtMost) (blank longRestsAtMost)
+    places-all = places longRestsAtMost (few-rests (minutesOf ws) (read .within))
 
 -- the breach, where the verdict is one
 pub breached-text : (ws : List ℕ) {m a : ℕ} → answered (breached m a) ≡ verdictGiven ws → Breaching ws m a
@@ -120,12 +165,14 @@ module _ (ws : List ℕ) (room : ℕ) (fits : entryBytes * longRestsAtMost ≤ r
       at (breaching q h p) e = absurd (subst Unbreached (told ∙ breach-given ws q p) u)
       at (reading q h p) e = let z : _≡_ {A = ℕ} 0 1 = cc in absurd (omega arith)
 
-pub verdict-size : (ws : List ℕ) → length (verdictText ws) ≤ pageAtMost
-verdict-size ws = at (measured ws) refl
+-- a line for each long rest, and no more than there can be
+verdict-size : (ws : List ℕ) (k : ℕ) → (length (minutesOf ws) ≤ totalAtMost → length (longRests (minutesOf ws)) ≤ k) → length (verdictText ws) ≤ lineAtMost * k + aroundAtMost
+verdict-size ws k h = at (measured ws) refl
   where
-    at : (a : Answer Measure) → measured ws ≡ a → length (verdictText ws) ≤ pageAtMost
+    at : (a : Answer Measure) → measured ws ≡ a → length (verdictText ws) ≤ lineAtMost * k + aroundAtMost
     at (refused n) q = omega (arith, ap length (text-refused ws q), refusal-size n)
-    at (answered k) q = omega (arith, ap length (text-is ws {v = verdict (minutesOf ws)} q refl), page-size (minutesOf ws) (verdict (minutesOf ws)) (measured-is ws q .within))
+    at (answered m) q =
+        omega (arith, ap length (text-is ws {v = verdict (minutesOf ws)} q refl), page-size (minutesOf ws) (verdict (minutesOf ws)), h (measured-is ws q .within))
 
 -- ---- the reading of an input, of a text or of a day record, and what is printed for what it gave: the verdict, or the spans
 abbrev printedOf : Bool → Answer (List ℕ) → List ℕ
@@ -143,14 +190,21 @@ printed-words false q = rw q refl
 
 printed-size : (spans : Bool) (read : Answer (List ℕ)) → length (printedOf spans read) ≤ pageAtMost
 unfolding verdictText spansText
-printed-size true (refused n) = refusal-size n
-printed-size true (answered ws) = spans-size ws
-printed-size false (refused n) = refusal-size n
-printed-size false (answered ws) = verdict-size ws
+printed-size true (refused n) = omega (arith, refusal-size n)
+printed-size true (answered ws) = omega (arith, spans-size ws)
+printed-size false (refused n) = omega (arith, refusal-size n)
+printed-size false (answered ws) = verdict-size ws longRestsAtMost (few-rests (minutesOf ws))
 
 -- what is printed after more than the most bytes
 over : (input : List ℕ) (read : Answer (List ℕ)) → inputAtMost < length input → unlessOver input read ≡ refused 9
 over input read h = rw (lt-ltb inputAtMost (length input) h) refl
+
+unless-read : (input : List ℕ) (read : Answer (List ℕ)) {ws : List ℕ} → unlessOver input read ≡ answered ws → read ≡ answered ws
+unless-read input read {ws} e = at (ltb inputAtMost (length input)) e
+  where
+    at : (b : Bool) → refuseIf b 9 read ≡ answered ws → read ≡ answered ws
+    at true e = let z : _≡_ {A = ℕ} 0 1 = cc in absurd (omega arith)
+    at false e = e
 
 not-over : (input : List ℕ) (read : Answer (List ℕ)) → length input ≤ inputAtMost → unlessOver input read ≡ read
 not-over input read h = rw (le-ltb inputAtMost (length input) h) refl
@@ -228,6 +282,31 @@ input-over card spans input h = input-is card spans input ∙ printed-refused sp
 pub input-size : (card spans : Bool) (input : List ℕ) → length (inputText card spans input) ≤ pageAtMost
 input-size card spans input = omega (arith, ap length (input-is card spans input), printed-size spans (readOf card input))
 
+-- what is printed for an input, by its bytes; and of spans
+words-within : (card : Bool) (input : List ℕ) {ws : List ℕ} → readOf card input ≡ answered ws → restBytes card * length (longRests (minutesOf ws)) ≤ length input
+unfolding inputRead cardInputRead
+words-within true input {ws} e = omega (arith, rests-paid ws, card-words-within input (length input) (unless-read input (cardRead input (length input)) e))
+words-within false input {ws} e = omega (arith, rests-paid ws, text-words input (length input) (unless-read input (textRead input (length input)) e))
+
+pub verdict-room : (card : Bool) (input : List ℕ) (k : ℕ) → ((n : ℕ) → restBytes card * n ≤ length input → n ≤ k) → length (inputText card false input) ≤ lineAtMost * k + aroundAtMost
+verdict-room card input k h = at (readOf card input) refl
+  where
+    at : (a : Answer (List ℕ)) → readOf card input ≡ a → length (inputText card false input) ≤ lineAtMost * k + aroundAtMost
+    at (refused n) q = omega (arith, ap length (input-is card false input ∙ printed-refused false q), refusal-size n)
+    at (answered ws) q =
+        omega (
+          arith,
+          ap length (input-is card false input ∙ printed-words false q),
+          verdict-size ws k (λ w. h (length (longRests (minutesOf ws))) (words-within card input q)),
+        )
+
+pub spans-room : (card : Bool) (input : List ℕ) → length (inputText card true input) ≤ lineAtMost * weeksAtMost + aroundAtMost
+spans-room card input = at (readOf card input) refl
+  where
+    at : (a : Answer (List ℕ)) → readOf card input ≡ a → length (inputText card true input) ≤ lineAtMost * weeksAtMost + aroundAtMost
+    at (refused n) q = omega (arith, ap length (input-is card true input ∙ printed-refused true q), refusal-size n)
+    at (answered ws) q = omega (arith, ap length (input-is card true input ∙ printed-words true q), spans-size ws)
+
 -- the words that are lent are enough, for a text and for a day record
 module _ (input : List ℕ) (lent : ℕ) (within : length input ≤ inputAtMost) where
   pub desk-read : inputAtMost ≤ runLineBytes * lent → (f : Filling) {new : List ℕ} → written f ≡ counted (textRead input (length (blank lent)))
@@ -265,6 +344,10 @@ module _ (page out : List ℕ) where
   pub all-there : {next : ℕ} {new : List ℕ} → length page ≤ length out → Put out 0 page next new → Handed (answered (length page)) new
   unfolding intoRoom
   all-there h p = let t = le-ltb (length out) (length page) h in record { answer = rw t refl; content = p .text-is ∙ rw t (put-in-front page out h) }
+
+  -- composed in place, with its count
+  pub in-place : {n : ℕ} {new : List ℕ} → length page ≤ length out → Put out 0 page n new → Handed (answered n) new
+  in-place h p = let k = all-there h p in record { answer = ap answered (omega (arith, p .next-is)) ∙ k .answer; content = k .content }
 
 -- the front of the buffer is the page
 module _ {bytes : List ℕ} (short : length bytes ≤ pageAtMost) {u : List ℕ} {n : ℕ} (p : Put (blank pageAtMost) 0 bytes n u) where

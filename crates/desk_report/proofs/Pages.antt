@@ -17,8 +17,9 @@ use Rattle.rules.specs.Reading.{entryBytes, readingSize, carrierOf}
 use Rattle.rules.specs.Verdict.{Verdict, pass, breach}
 use Rattle.text.specs.Passes.{Put, places}
 use Rattle.text.proofs.Puts.{put-then}
-use Rattle.desk_report.specs.Printed.{asLine, closed, verdictName, minutesName, judgedName, readingName, refusedName, numbered, restsText, breachText}
-use Rattle.desk_report.specs.Composing.{pageAtMost, lineAtMost, restsOf, Readable, refusalPage, pageOf, passHead}
+use Rattle.desk_lines.specs.Lines.{asLine, closed, verdictName, minutesName, judgedName, readingName, refusedName, numbered, breachText}
+use Rattle.desk_report.specs.Printed.{restsText}
+use Rattle.desk_report.specs.Composing.{lineAtMost, aroundAtMost, restsOf, Readable, refusalPage, pageOf, passHead, Places}
 use Rattle.desk_report.proofs.Sizes.{numbered-short, rest-short, breach-short}
 use Rattle.desk_report.proofs.RestLines.{rests-lines}
 
@@ -50,17 +51,14 @@ pass-bytes n s lines = regroup (asLine verdictName) (numbered minutesName n) (nu
 
 -- a number of each long rest, in front of a slice that has room
 module _ (ws : List ℕ) (within : length (minutesOf ws) ≤ totalAtMost) where
-  rests-few : placeOf origin ws .count ≤ longRestsAtMost
-  rests-few = omega (arith, scan-count ws, few-rests (minutesOf ws) within)
-
-  front-is : (f : Span → ℕ) (out : List ℕ) → longRestsAtMost ≤ length out → take (placeOf origin ws .count) (writtenFrom f origin ws out) ≡ map f (longRests (minutesOf ws))
+  front-is : (f : Span → ℕ) (out : List ℕ) → length (longRests (minutesOf ws)) ≤ length out → take (placeOf origin ws .count) (writtenFrom f origin ws out) ≡ map f (longRests (minutesOf ws))
   front-is f out room =
       let l : length (map f (longRests (minutesOf ws))) ≡ placeOf origin ws .count = length-map (longRests (minutesOf ws)) f ∙ sym (scan-count ws) in
-      let k : 0 + length (map f (longRests (minutesOf ws))) ≤ length out = omega (arith, rests-few) in
+      let k : 0 + length (map f (longRests (minutesOf ws))) ≤ length out = omega (arith, length-map (longRests (minutesOf ws)) f) in
       ap (take (placeOf origin ws .count)) (scan-written f ws out ∙ sets-eq (map f (longRests (minutesOf ws))) out 0 k)
       ∙ take-at (map f (longRests (minutesOf ws))) _ (placeOf origin ws .count) l
 
-  module _ {p : Place} {s e s′ e′ : List ℕ} (scanned : Scanned ws s e p s′ e′) (sr : longRestsAtMost ≤ length s) (er : longRestsAtMost ≤ length e) where
+  module _ {p : Place} {s e s′ e′ : List ℕ} (scanned : Scanned ws s e p s′ e′) (room : Places ws s e) where
     count-is : p .count ≡ length (longRests (minutesOf ws))
     count-is = ap (λ (x : Place). x .count) (scanned .place) ∙ scan-count ws
 
@@ -68,10 +66,10 @@ module _ (ws : List ℕ) (within : length (minutesOf ws) ≤ totalAtMost) where
     count-few = omega (arith, count-is, few-rests (minutesOf ws) within)
 
     starts-are : take (p .count) s′ ≡ map (λ (x : Span). x .start) (longRests (minutesOf ws))
-    starts-are = rw (scanned .place, scanned .begun) (front-is (λ x. x .start) s sr)
+    starts-are = rw (scanned .place, scanned .begun) (front-is (λ x. x .start) s (room .begun))
 
     ends-are : take (p .count) e′ ≡ map (λ (x : Span). x .end) (longRests (minutesOf ws))
-    ends-are = rw (scanned .place, scanned .ended) (front-is (λ x. x .end) e er)
+    ends-are = rw (scanned .place, scanned .ended) (front-is (λ x. x .end) e (room .ended))
 
     pub starts-size : p .count ≡ length (take (p .count) s′)
     starts-size = sym (ap length starts-are ∙ length-map (longRests (minutesOf ws)) (λ (x : Span). x .start) ∙ sym count-is)
@@ -128,11 +126,11 @@ rests-text-short rs reading =
       length-map rs (λ (s : Span). s .start),
     )
 
-pub refusal-size : (n : ℕ) → length (refusalPage n) ≤ pageAtMost
+pub refusal-size : (n : ℕ) → length (refusalPage n) ≤ aroundAtMost
 refusal-size n = rw length-append (omega (arith, numbered-short refusedName n))
 
-pub page-size : (ms : List ℕ) (v : Verdict) → length ms ≤ totalAtMost → length (pageOf ms v) ≤ pageAtMost
-page-size ms (pass reading) h =
+pub page-size : (ms : List ℕ) (v : Verdict) → length (pageOf ms v) ≤ lineAtMost * length (longRests ms) + aroundAtMost
+page-size ms (pass reading) =
     simp length-append
-    (omega (arith, numbered-short minutesName (length ms), numbered-short judgedName (judgedEnd ms), rests-text-short (longRests ms) reading, few-rests ms h))
-page-size ms (breach m a) h = simp length-append (omega (arith, numbered-short minutesName (length ms), breach-short m a))
+    (omega (arith, numbered-short minutesName (length ms), numbered-short judgedName (judgedEnd ms), rests-text-short (longRests ms) reading))
+page-size ms (breach m a) = simp length-append (omega (arith, numbered-short minutesName (length ms), breach-short m a))

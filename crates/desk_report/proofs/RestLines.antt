@@ -11,7 +11,8 @@ use Rattle.rules.specs.Reading.{entryBytes, carrierOf}
 use Rattle.text.specs.Passes.{Put, roomy}
 use Rattle.recording.proofs.Slices.{sets-append}
 use Rattle.text.proofs.Puts.{put-same-length}
-use Rattle.desk_report.specs.Printed.{restText, restsText}
+use Rattle.desk_lines.specs.Lines.{restText}
+use Rattle.desk_report.specs.Printed.{restsText}
 use Rattle.desk_report.specs.Composing.{lineAtMost, restsOf, Readable}
 use Rattle.desk_report.proofs.Sizes.{rest-short}
 

@@ -1,21 +1,23 @@
 -- A run line has at least nine bytes, so a text has no more run lines than a ninth of its bytes; and a change has two. Assumes nothing.
-use mathlib.Core.Path.{_≡_, refl}
-use mathlib.Core.Bool.{Bool, true, false}
+use mathlib.Core.Path.{_≡_, refl, ap}
+use mathlib.Core.Bool.{Bool, true, false, not}
 use mathlib.Core.List.{List, [], _∷_, _++_}
 use Prim.Native.Nat.{ℕ, suc, _+_, _*_, _≤_}
 use native.Mathlib.Omega.{arith}
-use lib.Dec.{eqb}
+use lib.Dec.{eqb, ltb}
 use lib.ListN.{length, length-append}
 use borrow.Author.Tests.{le-ltb, eqb-false}
-use Rattle.recording.specs.Tests.{pick}
-use Rattle.recording.specs.Words.{wordOf, rest, availability, otherWork, driving}
+use Rattle.recording.specs.Tests.{pick, anyOf}
+use Rattle.recording.specs.Answers.{answered, refuseIf}
+use Rattle.recording.specs.Words.{wordOf, rest, availability, otherWork, driving, minutesOf}
+use Rattle.recording.specs.Operations.{totalAtMost}
 use Rattle.text_lines.specs.Form.{lineEnd, recordingLine, weekLine, closing, closingLine, runName}
-use Rattle.text_lines.specs.Reading.{same, isDigit, withDigit, inRange, numberFrom, numberAfter, runOr, runOrOther, lineOf, linesFrom, linesIn, wordsIn, wordsOf, textRead}
+use Rattle.text_lines.specs.Reading.{same, isDigit, withDigit, inRange, numberFrom, numberAfter, runOr, runOrOther, lineOf, linesFrom, linesIn, isText, wordsIn, wordsOf, textRead}
 use Rattle.text_lines.specs.declared.Line.{Line}
 use Rattle.text_lines.specs.declared.Line.the-variants as line
-use Rattle.card.specs.Reading.{changesIn, cardRead}
-use Rattle.card.specs.Reading as card
-use Rattle.card.proofs.Judging.{words-are}
+use Rattle.card_reader.specs.Reading.{changesIn, isUnknown, isDayRecord, cardRead}
+use Rattle.card_reader.specs.Reading as card
+use Rattle.card_reader.proofs.Judging.{words-are}
 use Rattle.desk_report.specs.Composing.{runLineBytes, changeBytes}
 
 -- the end of a line that holds a number has a digit and a bracket
@@ -114,3 +116,26 @@ unfolding cardRead
 card-room-same bytes room more h k =
     let n = words-are bytes in
     rw (le-ltb room (length (card.wordsOf (changesIn bytes))) (omega (arith, n)), le-ltb more (length (card.wordsOf (changesIn bytes))) (omega (arith, n)))
+
+-- ---- the words that reading gave, by the bytes
+pub text-words : (text : List ℕ) (room : ℕ) {ws : List ℕ} → textRead text room ≡ answered ws → runLineBytes * length ws ≤ length text
+unfolding textRead
+text-words text room {ws} e = at (not (isText text)) (ltb room (length (wordsOf (linesIn text)))) e
+  where
+    at : (a b : Bool) → refuseIf a 8 (refuseIf b 9 (answered (wordsOf (linesIn text)))) ≡ answered ws → runLineBytes * length ws ≤ length text
+    at true b e = let z : _≡_ {A = ℕ} 0 1 = cc in absurd (omega arith)
+    at false true e = let z : _≡_ {A = ℕ} 0 1 = cc in absurd (omega arith)
+    at false false e = let z : wordsOf (linesIn text) ≡ ws = cc in omega (arith, ap length z, runs-within text)
+
+pub card-words-within : (bytes : List ℕ) (room : ℕ) {ws : List ℕ} → cardRead bytes room ≡ answered ws → changeBytes * length ws ≤ length bytes
+unfolding cardRead
+card-words-within bytes room {ws} e =
+    at (not (isDayRecord bytes)) (anyOf isUnknown (changesIn bytes)) (ltb totalAtMost (length (minutesOf (card.wordsOf (changesIn bytes)))))
+    (ltb room (length (card.wordsOf (changesIn bytes)))) e
+  where
+    at : (a b c d : Bool) → refuseIf a 11 (refuseIf b 12 (refuseIf c 2 (refuseIf d 9 (answered (card.wordsOf (changesIn bytes)))))) ≡ answered ws → changeBytes * length ws ≤ length bytes
+    at true b c d e = let z : _≡_ {A = ℕ} 0 1 = cc in absurd (omega arith)
+    at false true c d e = let z : _≡_ {A = ℕ} 0 1 = cc in absurd (omega arith)
+    at false false true d e = let z : _≡_ {A = ℕ} 0 1 = cc in absurd (omega arith)
+    at false false false true e = let z : _≡_ {A = ℕ} 0 1 = cc in absurd (omega arith)
+    at false false false false e = let z : card.wordsOf (changesIn bytes) ≡ ws = cc in omega (arith, ap length z, words-are bytes)

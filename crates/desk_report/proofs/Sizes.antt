@@ -6,7 +6,7 @@ use lib.Dec.{eqb}
 use lib.ListN.{length, length-append}
 use Rattle.rules.specs.Reading.{weeklyKind}
 use Rattle.text.proofs.Puts.{pick-at-most, number-short}
-use Rattle.desk_report.specs.Printed.{dailyName, weeklyName, numbered, spanText, dailyText, weeklyText, restText, articleText, breachText}
+use Rattle.desk_lines.specs.Lines.{dailyName, weeklyName, numbered, spanText, dailyText, weeklyText, restText, articleText, breachText}
 use Rattle.desk_report.specs.Composing.{lineAtMost}
 
 pub numbered-short : (name : List ℕ) (n : ℕ) → length (numbered name n) ≤ length name + 9

@@ -22,8 +22,9 @@ use Rattle.verdict_spans.specs.Mondays.{weeksAtMost}
 use Rattle.verdict_spans.specs.Found.{weeksIn, Finds}
 use Rattle.verdict_spans.specs.declared.Found.{Found}
 use Rattle.verdict_spans.proofs.Putting.{spans-few}
-use Rattle.desk_report.specs.Printed.{weeksName, weeksText, weeksLines, spansPage, spansText}
-use Rattle.desk_report.specs.Composing.{pageAtMost, lineAtMost, refusalPage}
+use Rattle.desk_lines.specs.Lines.{weeksName, weeksText}
+use Rattle.desk_report.specs.Printed.{weeksLines, spansPage, spansText}
+use Rattle.desk_report.specs.Composing.{lineAtMost, aroundAtMost, refusalPage}
 use Rattle.desk_report.proofs.Sizes.{span-short}
 use Rattle.desk_report.proofs.Pages.{refusal-size}
 
@@ -122,10 +123,10 @@ module _ (ws : List ℕ) where
         at (refused m) q = absurd (no-answer (sym (told ∙ ap counted (given-none q))))
         at (answered m) q = spans-is q ∙ ap spansPage (sym (k .records ∙ ap newOf (given-all q)))
 
-pub spans-size : (ws : List ℕ) → length (spansText ws) ≤ pageAtMost
+pub spans-size : (ws : List ℕ) → length (spansText ws) ≤ lineAtMost * weeksAtMost + aroundAtMost
 spans-size ws = at (measured ws) refl
   where
-    at : (a : Answer Measure) → measured ws ≡ a → length (spansText ws) ≤ pageAtMost
+    at : (a : Answer Measure) → measured ws ≡ a → length (spansText ws) ≤ lineAtMost * weeksAtMost + aroundAtMost
     at (refused n) q = omega (arith, ap length (spans-refused ws q), refusal-size n)
     at (answered k) q =
         let ss : List Weeks = breachSpans (minutesOf ws) in

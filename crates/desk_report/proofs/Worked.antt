@@ -20,10 +20,12 @@ use Rattle.rules.proofs.OnlyDaily.{allDaily, daily-first}
 use Rattle.rules.proofs.Cases.{Case, passes, Says, AllSay, starred, worked, ordered, asked, alone, year, on-the-edge, d, w, r, times, daily, weekly, weeklyBy}
 use Rattle.text_lines.specs.Form.{runName, digitAt, decimal, lineText, textOfLines, runsThen, weeksThenEnd, textOf}
 use Rattle.text_lines.specs.Reading.{same, numberFrom, numberAfter, runOr, lineOf, linesFrom, stageAfter, stageFrom, isText, wordsOf, textRead}
-use Rattle.card.specs.Reading as card
-use Rattle.desk_report.specs.Printed.{asLine, closed, verdictName, minutesName, judgedName, readingName, dailyName, weeklyName, breachName, refusedName, numbered, spanText, dailyText}
-use Rattle.desk_report.specs.Printed.{weeklyText, restText, restsText, articleText, breachText, findingText, bracketed, verdictText, inputRead, deskText, cardInputRead, cardText}
-use Rattle.desk_report.specs.Printed.{spansName, weeksName, weeksText, weeksLines, spansPage, spansText, deskSpansText, cardSpansText}
+use Rattle.card_reader.specs.Reading as card
+use Rattle.desk_lines.specs.Lines.{asLine, closed, verdictName, minutesName, judgedName, readingName, dailyName, weeklyName, breachName, refusedName, numbered, spanText, dailyText}
+use Rattle.desk_lines.specs.Lines.{weeklyText, restText, articleText, breachText}
+use Rattle.desk_report.specs.Printed.{restsText, findingText, bracketed, verdictText, inputRead, deskText, cardInputRead, cardText}
+use Rattle.desk_lines.specs.Lines.{weeksName, weeksText}
+use Rattle.desk_report.specs.Printed.{spansName, weeksLines, spansPage, spansText, deskSpansText, cardSpansText}
 use Rattle.desk_report.proofs.SpanLines.{spans-refused}
 use Rattle.desk_report.proofs.Answered.{text-is, text-refused, desk-words, desk-over, card-words, card-over, input-over}
 

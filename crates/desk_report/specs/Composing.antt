@@ -6,7 +6,7 @@ use mathlib.Core.List.{List, [], _∷_, _++_}
 use Prim.Native.Nat.{ℕ, _+_, _*_, _≤_}
 use lib.ListN.{length, take, drop, getD}
 use Rattle.recording.specs.Words.{minutesOf}
-use Rattle.recording.specs.Rests.{longRestsAtMost}
+use Rattle.recording.specs.Rests.{longRests, longRestsAtMost}
 use Rattle.recording.specs.Operations.{totalAtMost}
 use Rattle.rules.specs.Reading.{entryBytes, readingSize, carrierOf}
 use Rattle.rules.specs.Verdict.{Verdict}
@@ -14,8 +14,10 @@ use Rattle.text.specs.Passes.{roomy}
 use Rattle.recording.specs.Answers.{Answer, refused, answered}
 use Rattle.recording.specs.declared.Filling.{Filling}
 use Rattle.recording.specs.declared.Filling.the-variants as filling
-use Rattle.desk_report.specs.Printed.{verdictText, spansText, deskText, cardText, deskSpansText, cardSpansText, asLine, verdictName, minutesName, judgedName, readingName, refusedName}
-use Rattle.desk_report.specs.Printed.{numbered, restText, findingText, bracketed}
+use Rattle.desk_lines.specs.Lines.{asLine, verdictName, minutesName, judgedName, readingName, refusedName}
+use Rattle.desk_report.specs.Printed.{verdictText, spansText}
+use Rattle.desk_lines.specs.Lines.{numbered, restText}
+use Rattle.desk_report.specs.Printed.{findingText, bracketed}
 
 -- the bytes that are enough for a line, for what stands around the lines of the rests, and for whatever is printed
 abbrev pub lineAtMost : ℕ
@@ -34,6 +36,14 @@ runLineBytes = 9
 -- the bytes of a change
 abbrev pub changeBytes : ℕ
 changeBytes = 2
+
+-- the words of a long rest at least, one of rest and one of another activity after it, and so the bytes of an input, a card's day record or a text
+abbrev pub restWords : ℕ
+restWords = 2
+
+abbrev pub restBytes : Bool → ℕ
+restBytes true = changeBytes * restWords
+restBytes false = runLineBytes * restWords
 
 -- the words that are lent for a text and for a day record, and the bytes for the reading
 abbrev pub textWords : ℕ
@@ -71,6 +81,15 @@ pub record Read (words reading : List ℕ) : Type 0 where
   pub within : length (minutesOf words) ≤ totalAtMost
   pub size : length reading ≡ readingSize (minutesOf words)
 
+-- bytes enough for the reading of words that weighing accepts
+pub record Fits (words reading : List ℕ) : Type 0 where
+  pub fits : length (minutesOf words) ≤ totalAtMost → readingSize (minutesOf words) ≤ length reading
+
+-- places enough for their long rests
+pub record Places (words starts ends : List ℕ) : Type 0 where
+  pub begun : length (longRests (minutesOf words)) ≤ length starts
+  pub ended : length (longRests (minutesOf words)) ≤ length ends
+
 -- ---- what reading an input answered, over words that hold what it wrote
 pub data Within : Filling → List ℕ → Type 0 where
   refusal : {n : ℕ} {words : List ℕ} → Within (filling.Refused n) words
@@ -84,10 +103,3 @@ wordsText false words = verdictText words
 unfoldable pub readText : Bool → Answer ℕ → List ℕ → List ℕ
 readText spans (refused n) words = refusalPage n
 readText spans (answered n) words = wordsText spans (take n words)
-
--- what is printed for an input that is a card's day record, or a text: its spans, or its verdict
-abbrev pub inputText : Bool → Bool → List ℕ → List ℕ
-inputText true true input = cardSpansText input
-inputText true false input = cardText input
-inputText false true input = deskSpansText input
-inputText false false input = deskText input

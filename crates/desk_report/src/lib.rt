@@ -1,23 +1,24 @@
 // What the desk program prints, composed in a buffer. What is said of it stands in specs/.
 use recording::Filling;
-use verdict::Judgement;
+use verdict_judging::Judgement;
 use verdict_spans::Found;
 ghost use mathlib.Core.Path.{_≡_};
 ghost use mathlib.Core.Bool.{true, false};
-ghost use Prim.Native.Nat.{_+_, _*_, _≤_};
+ghost use mathlib.Core.List.{List};
+ghost use Prim.Native.Nat.{ℕ, _+_, _*_, _≤_};
 ghost use lib.ListN.{length};
 ghost use Rattle.recording.specs.Answers.{refused, counted, filled};
 ghost use Rattle.recording.specs.Words.{minutesOf};
 ghost use Rattle.recording.specs.Operations.{totalAtMost, written};
 ghost use Rattle.rules.specs.Verdict.{pass, breach};
 ghost use Rattle.rules.specs.Operations.{firstReadingGiven};
-ghost use Rattle.text.specs.Passes.{Put, places, roomy};
+ghost use Rattle.text.specs.Passes.{Put, roomy};
 ghost use Rattle.recording_list.specs.Records.{firstOf};
 ghost use Rattle.verdict_spans.specs.Mondays.{weeksAtMost};
 ghost use Rattle.verdict_spans.specs.Found.{weeksIn};
-ghost use Rattle.desk_report.specs.Printed.{spaced, numbered, spanText, dailyText, weeklyText, restText, articleText, breachText, verdictText, inputAtMost, deskText, cardText, intoRoom};
-ghost use Rattle.desk_report.specs.Printed.{weeksText, weeksLines, spansPage, spansText, deskSpansText, cardSpansText};
-ghost use Rattle.desk_report.specs.Composing.{pageAtMost, lineAtMost, readingRoom, restsOf, Readable, refusalPage, pageOf, passHead, Read, Within, wordsText, readText, inputText};
+ghost use Rattle.desk_report.specs.Printed.{verdictText, inputAtMost, deskText, cardText, intoRoom};
+ghost use Rattle.desk_report.specs.Printed.{weeksLines, spansPage, spansText, deskSpansText, cardSpansText, inputText};
+ghost use Rattle.desk_report.specs.Composing.{pageAtMost, lineAtMost, restBytes, readingRoom, restsOf, Readable, refusalPage, pageOf, passHead, Read, Fits, Places, Within, wordsText, readText};
 
 // The most bytes of a line, and of what stands around the lines of the rests.
 const LINE_BYTES: usize = 37;
@@ -26,6 +27,22 @@ const AROUND_BYTES: usize = 55;
 
 // Bytes enough for whatever is printed.
 pub const PAGE_BYTES: usize = LINE_BYTES * recording::LONG_RESTS + AROUND_BYTES;
+
+// Bytes enough for whatever is printed of a short recording.
+pub const SHORT_PAGE_BYTES: usize = LINE_BYTES * recording::SHORT_RESTS + AROUND_BYTES;
+
+// The same with twice as many long rests.
+pub const MIDDLE_PAGE_BYTES: usize = LINE_BYTES * (2 * recording::SHORT_RESTS) + AROUND_BYTES;
+
+// Bytes enough for what is printed of the spans of weeks.
+const SPANS_BYTES: usize = LINE_BYTES * verdict_spans::WEEKS + AROUND_BYTES;
+
+// The bytes of a run line and of a change, and the words of a long rest, at least: one of rest and one of another activity after it.
+const RUN_LINE_BYTES: usize = 9;
+
+const CHANGE_BYTES: usize = 2;
+
+const REST_WORDS: usize = 2;
 
 // The most bytes of an input that are read.
 pub const INPUT_BYTES: usize = 65536;
@@ -39,75 +56,10 @@ const CARD_WORDS: usize = 32768;
 // Bytes enough for any reading: an entry for each long rest.
 const READING_BYTES: usize = rules_entries::ENTRY_BYTES * recording::LONG_RESTS;
 
-// ---- lines
+// The same for a short recording.
+const SHORT_READING_BYTES: usize = rules_entries::ENTRY_BYTES * recording::SHORT_RESTS;
 
-// A number after a space.
-fn put_spaced(out: &mut [u8], at: usize, n: u32) -> usize
-    requires { ⌜ at + 7 ≤ places ⌝ }
-    ensures { λ r. ⌜ Put (now (out .entry)) at (spaced n) r (now (out .exit)) × (r ≤ at + 7) ⌝ }
-{
-    let next = text::put_all(out, at, b" ");
-    text::put_number(out, next, n)
-}
-
-// A line of a name and one number.
-fn put_numbered(out: &mut [u8], at: usize, name: &[u8], n: u32) -> usize
-    requires { ⌜ at + length (now name) + 9 ≤ places ⌝ }
-    ensures { λ r. ⌜ Put (now (out .entry)) at (numbered (now (name .entry)) n) r (now (out .exit)) × (r ≤ at + length (now (name .entry)) + 9) ⌝ }
-{
-    let named = text::put_all(out, at, name);
-    let told = put_spaced(out, named, n);
-    text::put_all(out, told, b")\n")
-}
-
-// A name, a start and an end.
-fn put_span(out: &mut [u8], at: usize, name: &[u8], start: u32, end: u32) -> usize
-    requires { ⌜ at + length (now name) + 14 ≤ places ⌝ }
-    ensures { λ r. ⌜ Put (now (out .entry)) at (spanText (now (name .entry)) start end) r (now (out .exit)) × (r ≤ at + length (now (name .entry)) + 14) ⌝ }
-{
-    let named = text::put_all(out, at, name);
-    let begun = put_spaced(out, named, start);
-    put_spaced(out, begun, end)
-}
-
-// The line of a daily rest.
-fn put_daily(out: &mut [u8], at: usize, start: u32, end: u32) -> usize
-    requires { ⌜ at ≤ roomy ⌝ }
-    ensures { λ r. ⌜ Put (now (out .entry)) at (dailyText start end) r (now (out .exit)) ⌝ }
-{
-    let ended = put_span(out, at, b"(daily", start, end);
-    text::put_all(out, ended, b")\n")
-}
-
-// The line of a weekly rest.
-fn put_weekly(out: &mut [u8], at: usize, start: u32, end: u32, week: u32, carrier: u32) -> usize
-    requires { ⌜ at ≤ roomy ⌝ }
-    ensures { λ r. ⌜ Put (now (out .entry)) at (weeklyText start end week carrier) r (now (out .exit)) ⌝ }
-{
-    let ended = put_span(out, at, b"(weekly", start, end);
-    let counted = put_spaced(out, ended, week);
-    let carried = put_spaced(out, counted, carrier);
-    text::put_all(out, carried, b")\n")
-}
-
-// A rest's line, by its entry in the reading.
-fn put_rest(
-    out: &mut [u8],
-    at: usize,
-    start: u32,
-    end: u32,
-    kind: u32,
-    week: u32,
-    carrier: u32,
-) -> usize
-    requires { ⌜ at ≤ roomy ⌝ }
-    ensures { λ r. ⌜ Put (now (out .entry)) at (restText start end kind week carrier) r (now (out .exit)) ⌝ }
-{
-    if kind == 1 {
-        return put_weekly(out, at, start, end, week, carrier);
-    }
-    put_daily(out, at, start, end)
-}
+// ---- lines of a list
 
 // The lines of all rests.
 fn put_rests(out: &mut [u8], at: usize, starts: &[u32], ends: &[u32], reading: &[u8]) -> usize
@@ -121,46 +73,10 @@ fn put_rests(out: &mut [u8], at: usize, starts: &[u32], ends: &[u32], reading: &
         let kind = recording::wide(reading[entry]);
         let week = recording::wide(reading[entry + 1]);
         let carrier = rules_entries::carrier_of(reading[entry + 2], reading[entry + 3]);
-        next = put_rest(out, next, starts[i], ends[i], kind, week, carrier);
+        next = desk_lines::put_rest(out, next, starts[i], ends[i], kind, week, carrier);
         i += 1;
     }
     next
-}
-
-// The article of a breach.
-fn put_article(out: &mut [u8], at: usize, article: u32) -> usize
-    requires { ⌜ at ≤ roomy ⌝ }
-    ensures { λ r. ⌜ Put (now (out .entry)) at (articleText article) r (now (out .exit)) × (r ≤ at + 3) ⌝ }
-{
-    match article {
-        1 => text::put_all(out, at, b"7"),
-        2 => text::put_all(out, at, b"6.1"),
-        3 => text::put_all(out, at, b"6.2"),
-        4 => text::put_all(out, at, b"6.3"),
-        5 => text::put_all(out, at, b"8.2"),
-        _ => text::put_all(out, at, b"8"),
-    }
-}
-
-// The line of a breach.
-fn put_breach(out: &mut [u8], at: usize, minute: u32, article: u32) -> usize
-    requires { ⌜ at + 24 ≤ roomy ⌝ }
-    ensures { λ r. ⌜ Put (now (out .entry)) at (breachText minute article) r (now (out .exit)) × (r ≤ at + 20) ⌝ }
-{
-    let named = text::put_all(out, at, b"(breach");
-    let timed = put_spaced(out, named, minute);
-    let parted = text::put_all(out, timed, b" ");
-    let told = put_article(out, parted, article);
-    text::put_all(out, told, b")\n")
-}
-
-// The line of a span of weeks.
-fn put_weeks(out: &mut [u8], at: usize, first: u32, last: u32) -> usize
-    requires { ⌜ at ≤ roomy ⌝ }
-    ensures { λ r. ⌜ Put (now (out .entry)) at (weeksText first last) r (now (out .exit)) ⌝ }
-{
-    let ended = put_span(out, at, b"(weeks", first, last);
-    text::put_all(out, ended, b")\n")
 }
 
 // The lines of all spans that were found.
@@ -173,7 +89,7 @@ fn put_spans(out: &mut [u8], at: usize, found: Found) -> usize
     let mut i = 0;
     while i < count {
         let weeks = verdict_spans::weeks_at(found, i);
-        next = put_weeks(out, next, weeks.first, weeks.last);
+        next = desk_lines::put_weeks(out, next, weeks.first, weeks.last);
         i += 1;
     }
     next
@@ -186,7 +102,7 @@ fn refusal_page(out: &mut [u8], n: u32) -> usize
     ensures { λ r. ⌜ Put (now (out .entry)) 0 (refusalPage n) r (now (out .exit)) ⌝ }
 {
     let begun = text::put_all(out, 0, b"(verdict\n");
-    let told = put_numbered(out, begun, b"(refused", n);
+    let told = desk_lines::put_numbered(out, begun, b"(refused", n);
     text::put_all(out, told, b")\n")
 }
 
@@ -197,8 +113,8 @@ fn breach_page(out: &mut [u8], words: &[u32], minute: u32, article: u32) -> usiz
 {
     let place = recording::place_of(words);
     let begun = text::put_all(out, 0, b"(verdict\n");
-    let counted = put_numbered(out, begun, b"(minutes", place.now);
-    let told = put_breach(out, counted, minute, article);
+    let counted = desk_lines::put_numbered(out, begun, b"(minutes", place.now);
+    let told = desk_lines::put_breach(out, counted, minute, article);
     text::put_all(out, told, b")\n")
 }
 
@@ -207,23 +123,42 @@ fn begin_pass(out: &mut [u8], total: u32, judged: u32) -> usize
     ensures { λ r. ⌜ Put (now (out .entry)) 0 (passHead total judged) r (now (out .exit)) ⌝ }
 {
     let begun = text::put_all(out, 0, b"(verdict\n");
-    let counted = put_numbered(out, begun, b"(minutes", total);
-    let ended = put_numbered(out, counted, b"(judged", judged);
+    let counted = desk_lines::put_numbered(out, begun, b"(minutes", total);
+    let ended = desk_lines::put_numbered(out, counted, b"(judged", judged);
     text::put_all(out, ended, b"(reading\n")
 }
 
-// What is printed for a pass.
-fn pass_page(out: &mut [u8], words: &[u32], reading: &[u8]) -> usize
-    requires { ⌜ Read (now words) (now reading) ⌝ }
+// What is printed for a pass, with room for the long rests.
+fn pass_among(
+    out: &mut [u8],
+    words: &[u32],
+    reading: &[u8],
+    starts: &mut [u32],
+    ends: &mut [u32],
+) -> usize
+    requires { ⌜ Read (now words) (now reading) × Places (now words) (now starts) (now ends) ⌝ }
     ensures { λ r. ⌜ Put (now (out .entry)) 0 (pageOf (minutesOf (now (words .entry))) (pass (now (reading .entry)))) r (now (out .exit)) ⌝ }
 {
-    let mut starts = [0u32; recording::LONG_RESTS];
-    let mut ends = [0u32; recording::LONG_RESTS];
-    let place = recording::scan(words, &mut starts, &mut ends);
+    let place = recording::scan(words, starts, ends);
     let k = place.count as usize;
     let begun = begin_pass(out, place.now, place.from);
     let told = put_rests(out, begun, &starts[..k], &ends[..k], reading);
     text::put_all(out, told, b")\n)\n")
+}
+
+// The same with room of its own, by the reading's bytes.
+fn pass_page(out: &mut [u8], words: &[u32], reading: &[u8]) -> usize
+    requires { ⌜ Read (now words) (now reading) ⌝ }
+    ensures { λ r. ⌜ Put (now (out .entry)) 0 (pageOf (minutesOf (now (words .entry))) (pass (now (reading .entry)))) r (now (out .exit)) ⌝ }
+{
+    if reading.len() <= SHORT_READING_BYTES {
+        let mut starts = [0u32; recording::SHORT_RESTS];
+        let mut ends = [0u32; recording::SHORT_RESTS];
+        return pass_among(out, words, reading, &mut starts, &mut ends);
+    }
+    let mut starts = [0u32; recording::LONG_RESTS];
+    let mut ends = [0u32; recording::LONG_RESTS];
+    pass_among(out, words, reading, &mut starts, &mut ends)
 }
 
 // What is printed for a recording whose first reading is refused with n: its breach, or that refusal. It is never a pass.
@@ -239,12 +174,13 @@ fn unread_page(out: &mut [u8], words: &[u32], n: u32) -> usize
     }
 }
 
-// What is printed for a recording: its first reading, a breach, or a refusal. The reading is asked for first, so that a pass is found once.
-fn verdict_page(out: &mut [u8], words: &[u32]) -> usize
+// What is printed for a recording, with room for its reading: its first reading, a breach, or a refusal. The reading is asked for first, so that a pass is
+// found once.
+fn verdict_among(out: &mut [u8], words: &[u32], reading: &mut [u8]) -> usize
+    requires { ⌜ Fits (now words) (now reading) ⌝ }
     ensures { λ r. ⌜ Put (now (out .entry)) 0 (verdictText (now (words .entry))) r (now (out .exit)) ⌝ }
 {
-    let mut reading = [0u8; READING_BYTES];
-    let answer = verdict::first_reading(words, &mut reading);
+    let answer = verdict::first_reading(words, reading);
     match answer {
         Filling::Refused(n) => unread_page(out, words, n),
         Filling::Written(n) => {
@@ -252,6 +188,18 @@ fn verdict_page(out: &mut [u8], words: &[u32]) -> usize
             pass_page(out, words, &reading[..size])
         }
     }
+}
+
+// The same with room of its own, by the number of words.
+fn verdict_page(out: &mut [u8], words: &[u32]) -> usize
+    ensures { λ r. ⌜ Put (now (out .entry)) 0 (verdictText (now (words .entry))) r (now (out .exit)) ⌝ }
+{
+    if words.len() <= REST_WORDS * recording::SHORT_RESTS {
+        let mut reading = [0u8; SHORT_READING_BYTES];
+        return verdict_among(out, words, &mut reading);
+    }
+    let mut reading = [0u8; READING_BYTES];
+    verdict_among(out, words, &mut reading)
 }
 
 // What is printed for spans that were found.
@@ -316,7 +264,7 @@ fn card_page(out: &mut [u8], spans: bool, bytes: &[u8]) -> usize
     ensures { λ r. ⌜ Put (now (out .entry)) 0 (inputText true spans (now (bytes .entry))) r (now (out .exit)) ⌝ }
 {
     let mut words = [0u32; CARD_WORDS];
-    let answer = card::read_card(bytes, &mut words);
+    let answer = card_reader::read_card(bytes, &mut words);
     read_page(out, spans, answer, &words)
 }
 
@@ -347,14 +295,51 @@ fn hand_over(page: &[u8], out: &mut [u8]) -> Filling
     Filling::Written(n as u32)
 }
 
-// Printing what is printed for an input: 10, too few bytes; or the count of bytes written.
-fn print_input(card: bool, spans: bool, input: &[u8], out: &mut [u8]) -> Filling
+// The most long rests of an input, a card's day record or a text, of so many bytes.
+fn rests_in(card: bool, bytes: usize) -> usize
+    ensures { λ r. ⌜ ((n : ℕ) → restBytes card * n ≤ bytes → n ≤ r) ⌝ }
+{
+    if card {
+        return bytes / (CHANGE_BYTES * REST_WORDS);
+    }
+    bytes / (RUN_LINE_BYTES * REST_WORDS)
+}
+
+// Bytes enough for what is printed for any input of so many bytes.
+pub fn page_room(card: bool, spans: bool, bytes: usize) -> usize
+    ensures { λ r. ⌜ ((input : List ℕ) → length input ≡ bytes → length (inputText card spans input) ≤ r) ⌝ }
+{
+    if spans {
+        return SPANS_BYTES;
+    }
+    let rests = rests_in(card, bytes);
+    if recording::LONG_RESTS < rests {
+        return PAGE_BYTES;
+    }
+    LINE_BYTES * rests + AROUND_BYTES
+}
+
+// Printing what is printed for an input by way of a page of its own: 10, too few bytes; or the count of bytes written.
+fn print_beside(card: bool, spans: bool, input: &[u8], out: &mut [u8]) -> Filling
     ensures { λ r. ⌜ written r ≡ counted (intoRoom (inputText card spans (now (input .entry))) (length (now (out .entry)))) ⌝ }
     ensures { λ r. ⌜ now (out .exit) ≡ filled (intoRoom (inputText card spans (now (input .entry))) (length (now (out .entry)))) (now (out .entry)) ⌝ }
 {
     let mut page = [0u8; PAGE_BYTES];
     let n = input_page(&mut page, card, spans, input);
     hand_over(&page[..n], out)
+}
+
+// The same, in place where the bytes that are lent are surely enough.
+fn print_input(card: bool, spans: bool, input: &[u8], out: &mut [u8]) -> Filling
+    ensures { λ r. ⌜ written r ≡ counted (intoRoom (inputText card spans (now (input .entry))) (length (now (out .entry)))) ⌝ }
+    ensures { λ r. ⌜ now (out .exit) ≡ filled (intoRoom (inputText card spans (now (input .entry))) (length (now (out .entry)))) (now (out .entry)) ⌝ }
+{
+    let enough = page_room(card, spans, input.len());
+    if out.len() < enough {
+        return print_beside(card, spans, input, out);
+    }
+    let n = input_page(out, card, spans, input);
+    Filling::Written(n as u32)
 }
 
 // Printing what the desk program prints for a text: 10, too few bytes; or the count of bytes written. `PAGE_BYTES` are always

@@ -27,8 +27,8 @@ use Rattle.rules.specs.Operations.{Finding, passed, breached, findingOf, verdic
 use Rattle.rules.proofs.ArticleOrder.{rule-most}
 use Rattle.text_lines.specs.Reading.{linesIn, wordsOf, isText, textRead}
 use Rattle.text.specs.Writing.{textOfMinutes, textWritten}
-use Rattle.card.specs.Reading.{changesIn, isUnknown, isDayRecord, cardRead}
-use Rattle.card.specs.Reading as card
+use Rattle.card_reader.specs.Reading.{changesIn, isUnknown, isDayRecord, cardRead}
+use Rattle.card_reader.specs.Reading as card
 use Rattle.card.specs.Writing.{recordOfMinutes, isWholeDays, cardWritten}
 use Rattle.interface.specs.Codes.{answerUnit, judgedUnit, countUnit, articleUnit, codeOf, itself, measureValue, findingValue, entryPlace, entryCode, answerIn, measureIn, findingIn}
 

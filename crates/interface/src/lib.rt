@@ -5,7 +5,7 @@ use recording::Weighing;
 use rules::Weeks;
 use rules_fixed::Tested;
 use rules_moves::Moved;
-use verdict::Judgement;
+use verdict_judging::Judgement;
 ghost use mathlib.Core.Path.{_≡_};
 ghost use Prim.Native.Nat.{ℕ, _<_};
 ghost use lib.ListN.{length};
@@ -18,9 +18,9 @@ ghost use Rattle.rules_moves.specs.Moves.{readingWidened, readingNarrowed};
 ghost use Rattle.rules_moves.specs.Moved.{moved};
 ghost use Rattle.text_lines.specs.Reading.{textRead};
 ghost use Rattle.text.specs.Writing.{textWritten};
-ghost use Rattle.card.specs.Reading.{cardRead};
+ghost use Rattle.card_reader.specs.Reading.{cardRead};
 ghost use Rattle.card.specs.Writing.{cardWritten};
-ghost use Rattle.verdict.specs.Judgements.{findingBy};
+ghost use Rattle.verdict_judging.specs.Judgements.{findingBy};
 ghost use Rattle.interface.specs.Codes.{sliceBytes, codeOf, itself, measureValue, findingValue, entryCode};
 
 // An answer is this and its value; less is a refusal.
@@ -167,7 +167,7 @@ pub extern "C" fn desk_read_card(bytes: &[u8], words: &mut [u32]) -> u64
     ensures { λ r. ⌜ r ≡ codeOf itself (counted (cardRead (now (bytes .entry)) (length (now (words .entry))))) ⌝ }
     ensures { λ r. ⌜ now (words .exit) ≡ filled (cardRead (now (bytes .entry)) (length (now (words .entry)))) (now (words .entry)) ⌝ }
 {
-    count_code(card::read_card(bytes, words))
+    count_code(card_reader::read_card(bytes, words))
 }
 
 // Writing a card's day record: a refusal's number; or ANSWER and the count of bytes.

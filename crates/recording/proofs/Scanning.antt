@@ -13,7 +13,7 @@ use Rattle.recording.specs.Tests.{pick, one, keep}
 use Rattle.recording.specs.Words.{minutesIn, activityIn, minutesOf}
 use Rattle.recording.specs.Rests.{longRestMinutes, isLong, judgedEnd, longRests}
 use Rattle.recording.specs.Operations.{totalAtMost}
-use Rattle.recording.specs.Scan.{endsRest, afterRun, origin, placeOf, restAt, writtenFrom, Scanned}
+use Rattle.recording.specs.Scan.{endsRest, afterRun, origin, placeOf, Walking, restAt, writtenFrom, Scanned}
 use Rattle.recording.specs.declared.Place.{Place}
 use Rattle.recording.specs.declared.Span.{Span}
 use Rattle.recording.proofs.LongRests.{long-with-rest}
@@ -138,13 +138,6 @@ pub scan-written : (f : Span → ℕ) (ws out : List ℕ) → writtenFrom f orig
 scan-written f ws out = place-written f origin ws out ∙ rw (rests-by ws)
 
 -- ---- what the walk keeps at the word i
-pub record Walking (ws : List ℕ) (p : Place) (i : ℕ) : Type 0 where
-  pub within : i ≤ length ws
-  pub from : p .from ≤ p .now
-  pub count : p .count ≤ p .now
-  pub room : p .now + length (minutesOf (drop i ws)) ≤ totalAtMost
-  pub place : placeOf origin ws ≡ placeOf p (drop i ws)
-
 pub start-walking : (ws : List ℕ) → length (minutesOf ws) ≤ totalAtMost → Walking ws origin 0
 start-walking ws h = record { within = omega arith; from = omega arith; count = omega arith; room = omega arith; place = refl }
 

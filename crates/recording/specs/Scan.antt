@@ -3,14 +3,15 @@
 use mathlib.Core.Path.{_≡_}
 use mathlib.Core.Bool.{Bool, false}
 use mathlib.Core.List.{List, [], _∷_}
-use Prim.Native.Nat.{ℕ, _+_, _-_, min}
+use Prim.Native.Nat.{ℕ, _+_, _-_, _≤_, min}
 use lib.Dec.{leb, eqb}
-use lib.ListN.{set}
+use lib.ListN.{length, drop, set}
 use Rattle.recording.specs.Tests.{pick, one}
 use Rattle.recording.specs.Answers.{Answer, refused, answered}
-use Rattle.recording.specs.Words.{wordOf, minutesIn, activityIn}
+use Rattle.recording.specs.Words.{wordOf, minutesIn, activityIn, minutesOf}
 use Rattle.recording.specs.Rests.{longRestMinutes}
 use Rattle.recording.specs.Weeks.{isRest}
+use Rattle.recording.specs.Operations.{totalAtMost}
 use Rattle.recording.specs.declared.Total.{Total}
 use Rattle.recording.specs.declared.Total.the-variants as total
 use Rattle.recording.specs.declared.Weighing.{Weighing}
@@ -58,6 +59,14 @@ origin = record { now = 0; from = 0; count = 0 }
 unfoldable pub placeOf : Place → List ℕ → Place
 placeOf p [] = p
 placeOf p (w ∷ ws) = placeOf (afterRun p (activityIn w) (minutesIn w)) ws
+
+-- what a walk over the words keeps at the word i
+pub record Walking (ws : List ℕ) (p : Place) (i : ℕ) : Type 0 where
+  pub within : i ≤ length ws
+  pub from : p .from ≤ p .now
+  pub count : p .count ≤ p .now
+  pub room : p .now + length (minutesOf (drop i ws)) ≤ totalAtMost
+  pub place : placeOf origin ws ≡ placeOf p (drop i ws)
 
 -- ---- a number of each long rest, written as the rest ends
 abbrev pub restAt : Place → Span

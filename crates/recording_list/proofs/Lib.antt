@@ -1,3 +1,4 @@
 pub mod Stored
+pub mod RestToRest
 pub mod Scans
 pub mod ListWalk

@@ -7,7 +7,7 @@ use native.Mathlib.Nat.{not-suc-le-zero, le-of-suc-le-suc}
 use lib.ListN.{length, drop, set, length-set}
 use Rattle.recording.specs.Answers.{Answer, refused, answered, filled}
 use Rattle.recording.specs.declared.Filling.{Filling}
-use Rattle.recording_list.specs.Records.{firstOf, newOf, FindsOf}
+use Rattle.recording_list.specs.Records.{after, firstOf, newOf, FindsOf}
 
 abbrev pub stored : {A : Type 0} → ℕ → (ℕ → A) → List A → List A
 stored zero f l = l
@@ -35,10 +35,12 @@ new-filled : {A : Type 0} (a : Answer (List A)) (old : List A) → newOf a ++ dr
 new-filled (refused n) old = refl
 new-filled (answered new) old = refl
 
-pub list-filled : {A F : Type 0} {told : F → Filling} {count : F → ℕ} {at : F → ℕ → A} {most : ℕ} {due : List ℕ → ℕ → Answer (List A)} {ws : List ℕ} {f : F} (old : List A)
-    → FindsOf told count at most due ws (length old) f → stored (count f) (at f) old ≡ filled (due ws (length old)) old
-list-filled {A} {count = count} {at} {due = due} {ws} {f} old k =
-    stored-is (count f) (at f) old (k .fits)
-    ∙ ap (λ (n : ℕ). firstOf (count f) (at f) ++ drop n old) (sym (first-length (count f) (at f)))
-    ∙ ap (λ (l : List A). l ++ drop (length l) old) (k .records)
-    ∙ new-filled (due ws (length old)) old
+module _ {A F : Type 0} {told : F → Filling} {count : F → ℕ} {ready : List ℕ → F → Type 0} {next : List ℕ → F → F} {at : F → A} {due : List ℕ → ℕ → Answer (List A)} where
+  pub list-filled : {ws : List ℕ} {f : F} (old : List A) → FindsOf told count ready next at due ws (length old) f
+      → stored (count f) (λ i. at (after (next ws) f (suc i))) old ≡ filled (due ws (length old)) old
+  list-filled {ws} {f} old k =
+      let at-step : ℕ → A = λ i. at (after (next ws) f (suc i)) in
+      stored-is (count f) at-step old (k .fits)
+      ∙ ap (λ (n : ℕ). firstOf (count f) at-step ++ drop n old) (sym (first-length (count f) at-step))
+      ∙ ap (λ (l : List A). l ++ drop (length l) old) (k .records)
+      ∙ new-filled (due ws (length old)) old

@@ -1,66 +1,91 @@
 // The long rests of a recording into a lent list of records. Only the last function takes the list, and it decides nothing.
 use recording::Filling;
-use recording::LONG_RESTS;
+use recording::Place;
 use recording::Span;
 use recording::Weighing;
 ghost use mathlib.Core.Path.{_≡_};
-ghost use Prim.Native.Nat.{_<_};
 ghost use lib.ListN.{length};
 ghost use Rattle.recording.specs.Answers.{counted, filled};
-ghost use Rattle.recording.specs.Rests.{longRestsAtMost};
 ghost use Rattle.recording.specs.Operations.{listed, written};
-ghost use Rattle.recording_list.specs.Records.{spanIn, Finds};
+ghost use Rattle.recording_list.specs.Records.{foundAtStart, Ready, nextOf, Finds};
 
-// What a scan for a list found: the answer, how many records are to be written, none on a refusal, and their starts and ends.
+// What a scan for a list found, and how far the listing has walked: the answer, how many records are to be written, none on a refusal, the index of the
+// next word, the place before it, and the long rest that ended last.
 pub struct Found {
     pub answer: Filling,
     pub count: usize,
-    pub starts: [u32; LONG_RESTS],
-    pub ends: [u32; LONG_RESTS],
+    pub next: usize,
+    pub place: Place,
+    pub span: Span,
+}
+
+// What was found, before the first word.
+fn found_at_start(answer: Filling, count: usize) -> Found
+    ensures { λ r. ⌜ r ≡ foundAtStart answer count ⌝ }
+{
+    Found {
+        answer,
+        count,
+        next: 0,
+        place: Place {
+            now: 0,
+            from: 0,
+            count: 0,
+        },
+        span: Span { start: 0, end: 0 },
+    }
 }
 
 // The scan for a list of `room` records: refusals 1 and 2, then 3 where they are too few.
 fn scan_of(words: &[u32], room: usize) -> Found
     ensures { λ r. ⌜ Finds (now (words .entry)) room r ⌝ }
 {
-    let mut starts = [0; LONG_RESTS];
-    let mut ends = [0; LONG_RESTS];
     let weighing = recording::weigh(words);
     let Weighing::Weighed(measure) = weighing else {
-        return Found {
-            answer: Filling::Refused(recording::refusal_of(weighing)),
-            count: 0,
-            starts,
-            ends,
-        };
+        return found_at_start(Filling::Refused(recording::refusal_of(weighing)), 0);
     };
     let count = measure.count as usize;
     if room < count {
-        return Found {
-            answer: Filling::Refused(3),
-            count: 0,
-            starts,
-            ends,
-        };
+        return found_at_start(Filling::Refused(3), 0);
     }
-    recording::scan(words, &mut starts, &mut ends);
-    Found {
-        answer: Filling::Written(measure.count),
-        count,
-        starts,
-        ends,
-    }
+    found_at_start(Filling::Written(measure.count), count)
 }
 
-// The record at i of what was found.
-fn span_at(found: Found, i: usize) -> Span
-    requires { ⌜ i < longRestsAtMost ⌝ }
-    ensures { λ r. ⌜ r ≡ spanIn found i ⌝ }
+// The walk on over the words to the next long rest that ends.
+fn next_of(words: &[u32], found: Found) -> Found
+    requires { ⌜ Ready (now words) found ⌝ }
+    ensures { λ r. ⌜ r ≡ nextOf (now (words .entry)) found ⌝ }
 {
-    Span {
-        start: found.starts[i],
-        end: found.ends[i],
+    let mut p = found.place;
+    let mut i = found.next;
+    while i < words.len() {
+        let word = words[i];
+        let q = recording::after_run(p, word % 4, word / 4);
+        i += 1;
+        if p.count < q.count {
+            let answer = found.answer;
+            return Found {
+                answer,
+                count: found.count,
+                next: i,
+                place: q,
+                span: Span {
+                    start: p.from,
+                    end: p.now,
+                },
+            };
+        }
+        p = q;
     }
+    found
+}
+
+// The long rest that ended last.
+fn span_of(found: Found) -> Span
+    ensures { λ r. ⌜ r ≡ found .span ⌝ }
+{
+    let span = found.span;
+    span
 }
 
 // The answer of what was found.
@@ -76,11 +101,12 @@ pub fn list_long_rests(words: &[u32], list: &mut [Span]) -> Filling
     ensures { λ r. ⌜ written r ≡ counted (listed (now (words .entry)) (length (now (list .entry)))) ⌝ }
     ensures { λ r. ⌜ now (list .exit) ≡ filled (listed (now (words .entry)) (length (now (list .entry)))) (now (list .entry)) ⌝ }
 {
-    let found = scan_of(words, list.len());
+    let mut found = scan_of(words, list.len());
     let count = found.count;
     let mut i = 0;
     while i < count {
-        list[i] = span_at(found, i);
+        found = next_of(words, found);
+        list[i] = span_of(found);
         i += 1;
     }
     answer_of(found)

@@ -1,12 +1,16 @@
 // The entry of a reading: the four bytes of a long rest, in the caller's own slice.
 ghost use mathlib.Core.Path.{_≡_};
+ghost use Prim.Native.Nat.{_+_, _*_, _<_};
+ghost use lib.ListN.{length};
 ghost use Rattle.rules.specs.Operations.{entryAt, entryInReading, entryPart, entryRefusal};
-ghost use Rattle.rules.specs.Reading.{carrierOf};
+ghost use Rattle.rules.specs.Order.{carrierValues};
+ghost use Rattle.rules.specs.Reading.{carrierOf, entryBytes};
+ghost use Rattle.rules_entries.specs.Entries.{withEntry};
 
 pub const ENTRY_BYTES: usize = 4;
 
 // The values of a byte.
-const BYTE_VALUES: u32 = 256;
+pub const BYTE_VALUES: u32 = 256;
 
 // Refusals: a byte count that is not one of entries, and no entry of that number.
 pub const BAD_COUNT: u32 = 6;
@@ -18,6 +22,23 @@ pub fn carrier_of(low: u8, high: u8) -> u32
     ensures { λ r. ⌜ r ≡ carrierOf low high ⌝ }
 {
     recording::wide(low) + BYTE_VALUES * recording::wide(high)
+}
+
+// The entry of index j, as its four bytes.
+pub fn put_entry(reading: &mut [u8], j: usize, kind: u8, week: u8, carrier: u32)
+    requires { ⌜ (j < 1000) × (entryBytes * j + 3 < length (now reading)) × (carrier < carrierValues) ⌝ }
+    ensures { λ r. ⌜ now (reading .exit) ≡ withEntry (now (reading .entry)) j kind week carrier ⌝ }
+{
+    let at = ENTRY_BYTES * j;
+    let second = at + 1;
+    let third = at + 2;
+    let fourth = at + 3;
+    let low = (carrier % BYTE_VALUES) as u8;
+    let high = (carrier / BYTE_VALUES) as u8;
+    reading[at] = kind;
+    reading[second] = week;
+    reading[third] = low;
+    reading[fourth] = high;
 }
 
 // The four bytes of the entry of a number, in the caller's reading; empty on a refusal.

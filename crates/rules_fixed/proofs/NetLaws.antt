@@ -24,7 +24,7 @@ use Rattle.rules.proofs.SplitDays.{split-stretch}
 use Rattle.rules.proofs.EntryPlaces.{entry-at}
 use Rattle.rules.proofs.RuleLaws.{later-counts}
 use Rattle.rules.proofs.RestWeekLaws.{insideRest, reading-by-rests}
-use Rattle.rules_fixed.specs.Nets.{neededPortion, regularNet, netAtMost, spanOf, netsFrom, netsOf, countsBy}
+use Rattle.rules_nets.specs.Nets.{neededPortion, regularNet, netAtMost, spanOf, netsFrom, netsOf, countsBy}
 use Rattle.rules_fixed.specs.Walk.{Surveyed}
 use Rattle.rules_fixed.specs.declared.Survey.{Survey}
 

@@ -28,14 +28,14 @@ use Rattle.rules.specs.Reading.{Entry, entryBytes, fieldsIn, entries}
 use Rattle.rules.specs.ReadingRules.{rule6, rule7, rule8, rule9From, rule9, inGap, rule10From, rule10, rule11, laterTest, fieldsTest, readingTest}
 use Rattle.rules.specs.Operations.{readingTested}
 use Rattle.rules.specs.Verdict.{lawful}
-use Rattle.rules_fixed.specs.Nets.{netsOf, countsBy}
+use Rattle.rules_nets.specs.Nets.{netsOf, countsBy}
 use Rattle.rules_fixed.specs.Walk.{Surveyed}
 use Rattle.rules_fixed.specs.declared.Survey.{Survey}
-use Rattle.rules_fixed.proofs.AccountRight.{rule-right}
+use Rattle.rules_limits.proofs.AccountRight.{rule-right}
 use Rattle.rules_fixed.proofs.NetLaws.{all-numbered, nets-most, reading-by-numbers}
-use Rattle.rules_reading.specs.declared.Tally.{Tally}
-use Rattle.rules_reading.specs.Items.{smaller, spansFrom, spansIn, Laid, Zeros, testFrom, Through, rule11With, restWeeks, laterBy, Roomy}
-use Rattle.rules_reading.proofs.PairLaws.{rule11-with}
+use Rattle.rules_items.specs.declared.Tally.{Tally}
+use Rattle.rules_items.specs.Items.{smaller, spansFrom, spansIn, Laid, Zeros, testFrom, Through, rule11With, restWeeks, laterBy, Roomy}
+use Rattle.rules_items.proofs.PairLaws.{rule11-with}
 
 -- ---- rules 8 to 10, then 11
 joined : (r8 r9 r10 : Bool) (x : ℕ) → unless r8 8 (unless r9 9 (unless r10 10 x)) ≡ pick (eqb (unless r8 8 (unless r9 9 (unless r10 10 0))) 0) x (unless r8 8 (unless r9 9 (unless r10 10 0)))

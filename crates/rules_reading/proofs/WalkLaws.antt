@@ -18,12 +18,12 @@ use Rattle.rules.specs.ReadingRules.{formed, formedDaily, formedWeekly, rule6, 
 use Rattle.rules.specs.ReadingRules.{ofKind}
 use Rattle.rules.specs.declared.Kind.{Kind}
 use Rattle.rules.proofs.FieldLaws.{entry-fields}
-use Rattle.rules_fixed.specs.Nets.{countsBy}
-use Rattle.rules_reading.specs.declared.LongRest.{LongRest}
-use Rattle.rules_reading.specs.declared.Tally.{Tally}
-use Rattle.rules_reading.proofs.TallyLaws.{test-next, end-of-spans, addedTo-at, addedTo-length, addedTo-below, incremented-at, incremented-length, incremented-below, isOutstanding-little}
-use Rattle.rules_reading.specs.Items.{entryBy, endBefore, itemAt, compensationAtMost, Sane, restBy, enoughBy, endAt, Below, shortBy, shortAfter, tallyBy, addedTo, incremented, spanAt}
-use Rattle.rules_reading.specs.Items.{spansFrom, spansIn, Laid, Zeros, testFrom, freshTally, Through}
+use Rattle.rules_nets.specs.Nets.{countsBy}
+use Rattle.rules_items.specs.declared.LongRest.{LongRest}
+use Rattle.rules_items.specs.declared.Tally.{Tally}
+use Rattle.rules_items.proofs.TallyLaws.{test-next, end-of-spans, addedTo-at, addedTo-length, addedTo-below, incremented-at, incremented-length, incremented-below, isOutstanding-little}
+use Rattle.rules_items.specs.Items.{entryBy, endBefore, itemAt, compensationAtMost, Sane, restBy, enoughBy, endAt, Below, shortBy, shortAfter, tallyBy, addedTo, incremented, spanAt}
+use Rattle.rules_items.specs.Items.{spansFrom, spansIn, Laid, Zeros, testFrom, freshTally, Through}
 
 -- ---- the entries that are left at index i, after those before them
 module _ (starts ends reading : List ℕ) (k : ℕ) where

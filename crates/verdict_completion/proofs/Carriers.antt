@@ -20,9 +20,9 @@ use Rattle.rules.specs.ReadingRules.{rule6, rule7, rule8, leastNet, deadline, e
 use Rattle.rules.specs.Order.{carrierValues, Fields}
 use Rattle.rules.specs.declared.Kind.the-variants.{Daily, Weekly}
 use Rattle.rules.specs.declared.Standing.the-variants.{Regular}
-use Rattle.rules_fixed.specs.Nets.{countsBy}
-use Rattle.rules_reading.specs.Items.{endBefore, spanAt, spansFrom, Zeros}
-use Rattle.rules_reading.proofs.TallyLaws.{end-of-spans}
+use Rattle.rules_nets.specs.Nets.{countsBy}
+use Rattle.rules_items.specs.Items.{endBefore, spanAt, spansFrom, Zeros}
+use Rattle.rules_items.proofs.TallyLaws.{end-of-spans}
 use Rattle.rules_reading.proofs.LaterLaws.{spans-length}
 use Rattle.verdict_completion.specs.declared.State.{State}
 use Rattle.verdict_completion.specs.declared.Brought.the-variants.{To}

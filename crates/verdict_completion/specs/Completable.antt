@@ -15,8 +15,8 @@ use Rattle.rules.specs.Reading.{Entry, regularMinutes}
 use Rattle.rules.specs.ReadingRules.{leastNet, weeksToCompensate, shortenedAtMost, weeklyGap}
 use Rattle.rules.specs.declared.Kind.the-variants.{Daily, Weekly}
 use Rattle.rules.specs.declared.Standing.the-variants.{Regular}
-use Rattle.rules_fixed.specs.Nets.{netAtMost, countsBy}
-use Rattle.rules_reading.specs.Items.{spansIn, restWeeks}
+use Rattle.rules_nets.specs.Nets.{netAtMost, countsBy}
+use Rattle.rules_items.specs.Items.{spansIn, restWeeks}
 use Rattle.verdict_completion.specs.declared.State.{State}
 use Rattle.verdict_completion.specs.States.{advance, After, afterDaily, afterWeekly}
 use Rattle.verdict_completion.specs.Runs.{Ends}

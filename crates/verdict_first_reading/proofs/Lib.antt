@@ -1,3 +1,1 @@
-pub mod Choosing
-pub mod Placing
 pub mod Stepping

@@ -10,7 +10,7 @@ use Rattle.rules.specs.Reading.{Entry, dailyKind, weeklyKind}
 use Rattle.rules.specs.ReadingRules.{leastNet}
 use Rattle.rules.specs.declared.Kind.the-variants.{Weekly}
 use Rattle.rules.specs.declared.Standing.the-variants.{Regular}
-use Rattle.rules_reading.specs.Items.{Zeros}
+use Rattle.rules_items.specs.Items.{Zeros}
 use Rattle.verdict_completion.specs.declared.State.{State}
 use Rattle.verdict_completion.specs.declared.Brought.{Brought}
 use Rattle.verdict_completion.specs.declared.Brought.the-variants.{Broken, To}
@@ -21,9 +21,9 @@ use Rattle.verdict_completion.proofs.Monotone.{arrives}
 use Rattle.verdict_search.specs.Search.{Sound, Lent, Before, withCompensations}
 use Rattle.verdict_search.proofs.Slots.{brought}
 use Rattle.verdict_search.proofs.Memory.{empty-sound}
-use Rattle.verdict_first_reading.specs.Choices.{Renewed, compensationAt, carrying, CanBeRead, CanBeDaily, Fits, FirstWeekly, Ahead, Limited, PutDaily, PutWeekly, Stepped}
-use Rattle.verdict_first_reading.proofs.Choosing.{lies-with, daily, weekly, NextDaily, too-short-for-weekly, never-broken, goes-as-daily, goes-as-weekly}
-use Rattle.verdict_first_reading.proofs.Placing.{limited, lent-of, before-best}
+use Rattle.verdict_choosing.specs.Choices.{Renewed, compensationAt, carrying, CanBeRead, CanBeDaily, Fits, FirstWeekly, Ahead, Limited, PutDaily, PutWeekly, Stepped}
+use Rattle.verdict_choosing.proofs.Choosing.{lies-with, daily, weekly, NextDaily, too-short-for-weekly, never-broken, goes-as-daily, goes-as-weekly}
+use Rattle.verdict_choosing.proofs.Placing.{limited, lent-of, before-best}
 
 module _ (c : Course) (j : ℕ) (st : State) (outstanding : List ℕ) (lent : Lent c outstanding) (before : Before c j st) (inside : j < count c) where
   abbrev brought-on : Brought

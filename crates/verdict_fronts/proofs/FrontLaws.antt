@@ -10,7 +10,7 @@ use lib.ListN.{length, set, List·getD-eq-default}
 use borrow.Author.Tests.{lt-ltb, le-ltb}
 use Rattle.recording.specs.Tests.{pick}
 use Rattle.recording.proofs.TestLaws.{less-or-not}
-use Rattle.rules_reading.specs.Items.{Zeros}
+use Rattle.rules_items.specs.Items.{Zeros}
 use Rattle.verdict_completion.specs.declared.State.{State}
 use Rattle.verdict_completion.specs.Completable.{at}
 use Rattle.verdict_completion.specs.Better.{Within}

@@ -8,9 +8,9 @@ use verdict_nogoods::REDUCTIONS_AT;
 use verdict_nogoods::REDUCTIONS_AT_MOST;
 ghost use mathlib.Core.Path.{_≡_};
 ghost use mathlib.Core.Bool.{true};
-ghost use Prim.Native.Nat.{_+_, _≤_};
+ghost use Prim.Native.Nat.{_+_, _<_, _≤_};
 ghost use lib.ListN.{length};
-ghost use Rattle.rules_reading.specs.Items.{Zeros};
+ghost use Rattle.rules_items.specs.Items.{Zeros};
 ghost use Rattle.verdict_nogoods.specs.Table.{reductionsAtMost, entryWords, reductionsOf};
 ghost use Rattle.verdict_fronts.specs.Front.{entryAt, stateIn, outstandingIn, Paired, Dominates, Copied, Held, Dominated, AllDominated, Removed, Placed, PlacedState};
 
@@ -95,7 +95,7 @@ fn dominated(front: &[u32], n: usize, other: &[u32], q: usize) -> bool
 }
 
 // For each of the first n entries of a one of the first m of b is at least as good.
-pub fn covers_all(a: &[u32], n: usize, b: &[u32], m: usize) -> bool
+fn covers_all(a: &[u32], n: usize, b: &[u32], m: usize) -> bool
     requires { ⌜ (entryAt n ≤ length (now a)) × (entryAt m ≤ length (now b)) ⌝ }
     ensures { λ r. ⌜ (r ≡ true → AllDominated (now (a .entry)) n (now (b .entry)) m) ⌝ }
 {
@@ -107,6 +107,17 @@ pub fn covers_all(a: &[u32], n: usize, b: &[u32], m: usize) -> bool
         }
     }
     true
+}
+
+// Whether something is known, and for each of the first g known entries one of the first n of a front is at least as good.
+pub fn all_matched(known: &[u32], g: usize, front: &[u32], n: usize) -> bool
+    requires { ⌜ (entryAt g ≤ length (now known)) × (entryAt n ≤ length (now front)) ⌝ }
+    ensures { λ r. ⌜ (r ≡ true → (0 < g) × AllDominated (now (known .entry)) g (now (front .entry)) n) ⌝ }
+{
+    if g == 0 {
+        return false;
+    }
+    covers_all(known, g, front, n)
 }
 
 // The entry at p of one slice is copied to q of another.

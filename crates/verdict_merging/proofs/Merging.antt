@@ -10,7 +10,7 @@ use lib.ListN.{length, set}
 use lib.Seq.{set-set, set-getD, getD-set-same, getD-set-other}
 use Rattle.recording.specs.Weeks.{weekOf}
 use Rattle.rules.specs.Reading.{regularMinutes}
-use Rattle.rules_reading.specs.Items.{addedTo}
+use Rattle.rules_items.specs.Items.{addedTo}
 use Rattle.verdict_completion.specs.declared.State.{State}
 use Rattle.verdict_completion.specs.declared.Brought.{Brought}
 use Rattle.verdict_completion.specs.declared.Brought.the-variants.{Broken, To}

@@ -9,7 +9,6 @@ ghost use lib.ListN.{length};
 ghost use Rattle.recording.specs.Scan.{shortRests};
 ghost use Rattle.verdict_completion.specs.Completable.{count, Tries};
 ghost use Rattle.verdict_completion.specs.Better.{AtRest};
-ghost use Rattle.verdict_fronts.specs.Front.{entryAt, AllDominated};
 ghost use Rattle.verdict_search.specs.Search.{courseNow, courseAt, compensating, Later, Sound, Sized, Lent, Before};
 ghost use Rattle.verdict_search.specs.Leading.{Any, Front};
 ghost use Rattle.verdict_merging.specs.Merging.{FindsIf, ToldIf, Trusted, Besides, Knows, Reaches};
@@ -19,17 +18,6 @@ pub struct Both {
     pub yes: bool,
     pub n: usize,
     pub g: usize,
-}
-
-// Whether something is known, and for each of the first g known entries one of the first n of a front is at least as good.
-fn all_matched(known: &[u32], g: usize, front: &[u32], n: usize) -> bool
-    requires { ⌜ (entryAt g ≤ length (now known)) × (entryAt n ≤ length (now front)) ⌝ }
-    ensures { λ r. ⌜ (r ≡ true → (0 < g) × AllDominated (now (known .entry)) g (now (front .entry)) n) ⌝ }
-{
-    if g == 0 {
-        return false;
-    }
-    verdict_fronts::covers_all(known, g, front, n)
 }
 
 // From two fronts before the rest of index j, the question's and the known one, to the next two.
@@ -106,7 +94,7 @@ fn beside_rest(
             g: 0,
         };
     }
-    if all_matched(beside, left.n, next, went.n) {
+    if verdict_fronts::all_matched(beside, left.n, next, went.n) {
         return Both {
             yes: true,
             n: 0,
@@ -226,7 +214,7 @@ fn merge_on(
     ensures { λ r. ⌜ (let c = courseAt starts ends nets compensations s in
         ToldIf (Trusted c j (now (known .entry)) g) (Any c j (now (front .entry)) f) r (Sound c (now (nogoods .exit)))) ⌝ }
 {
-    if all_matched(known, g, front, f) {
+    if verdict_fronts::all_matched(known, g, front, f) {
         return true;
     }
     let last = beside_end(j, starts.len());
@@ -403,16 +391,6 @@ fn known_to(
     last.n
 }
 
-// How many times two rests it is from the rest after that of index j to one past the rest of number x.
-fn pairs_to(j: usize, x: usize) -> usize
-    ensures { λ r. ⌜ (x ≤ j + 1 + 2 * r) × (2 * r ≤ x - j) ⌝ }
-{
-    if x <= j {
-        return 0;
-    }
-    (x - j) / 2
-}
-
 // The same as `ask_to`, where the rest of number x has some minutes more compensation.
 fn try_to(
     starts: &[u32],
@@ -572,7 +550,7 @@ fn asks_beside(
         FindsIf c (Tries c (Later c j) j here (now (outstanding .entry))) (Later d j next (now (outstanding .entry))) r outstanding nogoods
         × (now (compensations .exit) ≡ now (compensations .entry))) ⌝ }
 {
-    let p = pairs_to(j, x);
+    let p = verdict_sweep::pairs_to(j, x);
     let went = try_to(
         starts,
         ends,

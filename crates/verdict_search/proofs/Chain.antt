@@ -18,7 +18,7 @@ use Rattle.rules.specs.declared.Kind.{Kind}
 use Rattle.rules.specs.declared.Kind.the-variants.{Daily, Weekly}
 use Rattle.rules.specs.declared.Standing.{Standing}
 use Rattle.rules.specs.declared.Standing.the-variants.{Regular}
-use Rattle.rules_reading.specs.Items.{standingFor}
+use Rattle.rules_items.specs.Items.{standingFor}
 use Rattle.verdict_completion.specs.declared.State.{State}
 use Rattle.verdict_completion.specs.declared.Brought.{Brought}
 use Rattle.verdict_completion.specs.declared.Brought.the-variants.{Broken, To}

@@ -12,7 +12,7 @@ use Rattle.rules.specs.ReadingRules.{leastNet}
 use Rattle.rules.specs.declared.Kind.{Kind}
 use Rattle.rules.specs.declared.Kind.the-variants.{Daily, Weekly}
 use Rattle.rules.specs.declared.Standing.the-variants.{Regular}
-use Rattle.rules_reading.specs.Items.{standingFor}
+use Rattle.rules_items.specs.Items.{standingFor}
 use Rattle.verdict_completion.specs.declared.State.{State}
 use Rattle.verdict_completion.specs.Completable.{Course, at, count, lengthAt, Counted, ReadDaily, ReadWeekly, Tries}
 use Rattle.verdict_completion.specs.Better.{AtRest}

@@ -10,7 +10,7 @@ use denote.Triple.Both.{Both}
 use Rattle.recording.specs.Rests.{longRestsAtMost}
 use Rattle.recording.specs.Operations.{totalAtMost}
 use Rattle.recording.specs.Weeks.{weekOf}
-use Rattle.rules_reading.specs.Items.{addedTo}
+use Rattle.rules_items.specs.Items.{addedTo}
 use Rattle.verdict_completion.specs.declared.State.{State}
 use Rattle.verdict_completion.specs.Completable.{Course, at, count, Tries, Completable, Lies, Stands}
 use Rattle.verdict_completion.specs.Better.{Small}

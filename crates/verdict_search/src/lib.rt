@@ -2,7 +2,7 @@
 // Each state that follows is put into the next front; what does not fit there is asked at once by the same steps with no front, depth first.
 use rules::Kind;
 use rules::Standing;
-use rules_reading::LongRest;
+use rules_items::LongRest;
 use verdict_completion::Brought;
 use verdict_completion::State;
 ghost use mathlib.Core.Path.{_≡_};
@@ -14,7 +14,7 @@ ghost use Rattle.rules.specs.Reading.{reductionOf};
 ghost use Rattle.rules.specs.ReadingRules.{leastNet};
 ghost use Rattle.rules.specs.declared.Kind.the-variants.{Daily, Weekly};
 ghost use Rattle.rules.specs.declared.Standing.the-variants.{Regular};
-ghost use Rattle.rules_reading.specs.Items.{standingFor, compensationAtMost};
+ghost use Rattle.rules_items.specs.Items.{standingFor, compensationAtMost};
 ghost use Rattle.verdict_completion.specs.Completable.{at, count, lengthAt, Compensates, Closes, ReadDaily, ReadWeekly, Counted, Reads, Tries, Completable};
 ghost use Rattle.verdict_completion.specs.Better.{AtRest};
 ghost use Rattle.verdict_steps.specs.Steps.{Says, outstandingBy};
@@ -41,7 +41,7 @@ fn closes(
     requires { ⌜ (let c = courseNow starts ends nets compensations s in Slots c (count c) n (now outstanding) × Before c (count c) st) ⌝ }
     ensures { λ r. ⌜ (let c = courseAt starts ends nets compensations s in Says (Closes c st (now (outstanding .entry))) r) ⌝ }
 {
-    if st.ended + rules_reading::WEEKLY_GAP < s {
+    if st.ended + rules_items::WEEKLY_GAP < s {
         return false;
     }
     if verdict_steps::overdue(outstanding, n, s + 1) {
@@ -132,7 +132,7 @@ pub fn step(
         let yes = closes(starts, ends, nets, compensations, s, outstanding, st, m);
         return Went { yes: yes, n: n };
     }
-    if st.ended + rules_reading::WEEKLY_GAP < starts[j] {
+    if st.ended + rules_items::WEEKLY_GAP < starts[j] {
         return Went { yes: false, n: n };
     }
     if verdict_steps::overdue(outstanding, m, ends[j]) {
@@ -185,7 +185,7 @@ fn daily(
 {
     let short = verdict_steps::is_short(ends[j] - starts[j], nets[j], compensation);
     let after = verdict_steps::after_daily(here, short);
-    if rules_reading::SHORTENED_AT_MOST < after.short {
+    if rules_items::SHORTENED_AT_MOST < after.short {
         return Went { yes: false, n: n };
     }
     step(
@@ -271,7 +271,7 @@ fn in_week(
     let Brought::To(there) = verdict_steps::advance(starts, ends, j + 1, here, w) else {
         return Went { yes: false, n: n };
     };
-    let rest = rules_reading::holds_week(starts[j], ends[j], w);
+    let rest = rules_items::holds_week(starts[j], ends[j], w);
     let after = verdict_steps::after_weekly(
         there,
         rest,
@@ -427,11 +427,11 @@ fn choose(
 {
     let start = starts[j];
     let end = ends[j];
-    if end - start < rules_reading::DAILY_NET + compensation {
+    if end - start < rules_items::DAILY_NET + compensation {
         return Went { yes: false, n: n };
     }
     let weekly = verdict_steps::as_weekly(start, end, compensation);
-    if rules_reading::REGULAR + compensation <= end - start {
+    if rules_items::REGULAR + compensation <= end - start {
         return read_as(
             starts,
             ends,
@@ -469,7 +469,7 @@ fn choose(
     if went.yes {
         return went;
     }
-    if end - start < rules_reading::WEEKLY_NET + compensation {
+    if end - start < rules_items::WEEKLY_NET + compensation {
         return went;
     }
     read_as(

@@ -2,3 +2,4 @@ pub mod SpanLaws
 pub mod FromMondays
 pub mod Seats
 pub mod Putting
+pub mod Taking

@@ -225,6 +225,7 @@ module _ (ws : List ℕ) (room : ℕ) where
     records = ap (λ (k : ℕ). firstOf k (weeksIn f)) (r .none) ∙ sym (ap newOf g);
     fits = omega (arith, r .none);
     few = omega (arith, r .none);
+    start = r .start;
   }
 
   pub found-refused : {n m : ℕ} {f : Found} → measured ws ≡ refused n → RefusedWith m f → m ≡ n → Finds ws room f
@@ -239,8 +240,8 @@ module _ (ws : List ℕ) (room : ℕ) where
     unfolding spansGiven
     found-short h r = turned-away (rw (q, lt-ltb room (length (breachSpans (minutesOf ws))) (omega (arith, size))) refl) r
 
-    pub found-done : s .count ≤ room → Finds ws room (record { answer = filling.Written (s .count); count = s .count; firsts = s .firsts; lasts = s .lasts })
+    pub found-done : s .count ≤ room → Finds ws room (record { answer = filling.Written (s .count); count = s .count; at = 0; span = span 0 0; firsts = s .firsts; lasts = s .lasts })
     unfolding spansGiven
     found-done h =
         let t = le-ltb room (length (breachSpans (minutesOf ws))) (omega (arith, size)) in
-        record { answer = rw (q, t) (ap answered size); records = rw (q, t) (k .records); fits = h; few = k .few }
+        record { answer = rw (q, t) (ap answered size); records = rw (q, t) (k .records); fits = h; few = k .few; start = refl }

@@ -4,7 +4,7 @@
 use recording::Filling;
 use recording::Weighing;
 use rules::Weeks;
-use verdict::Judgement;
+use verdict_judging::Judgement;
 ghost use mathlib.Core.Path.{_≡_};
 ghost use Prim.Native.Nat.{_-_, _≤_, _<_};
 ghost use lib.ListN.{length, drop};
@@ -14,9 +14,9 @@ ghost use Rattle.recording.specs.Operations.{totalAtMost, written};
 ghost use Rattle.rules.specs.Verdict.{verdict};
 ghost use Rattle.rules.specs.Operations.{findingOf};
 ghost use Rattle.rules.specs.Spans.{weeksBegun, spansGiven};
-ghost use Rattle.verdict.specs.Judgements.{findingBy};
+ghost use Rattle.verdict_judging.specs.Judgements.{findingBy};
 ghost use Rattle.verdict_spans.specs.Mondays.{weeksAtMost, Sound, lastBy, Seated, Reaches, Filled, InFront};
-ghost use Rattle.verdict_spans.specs.Found.{weeksIn, Lists, RefusedWith, Finds};
+ghost use Rattle.verdict_spans.specs.Found.{weeksIn, Lists, RefusedWith, Finds, Ready, nextOf};
 
 // The most weeks that a recording can begin.
 pub const WEEKS: usize = (recording::TOTAL_AT_MOST / recording::WEEK_MINUTES) as usize;
@@ -37,10 +37,13 @@ pub struct Spans {
     pub lasts: [u32; WEEKS],
 }
 
-// What was found for a list: the answer, how many records are to be written, none on a refusal, and the spans as above.
+// What was found for a list, and how far the listing has come: the answer, how many records are to be written, none on a refusal, the place of the next
+// record, the record taken last, and the spans as above.
 pub struct Found {
     pub answer: Filling,
     pub count: usize,
+    pub at: usize,
+    pub span: Weeks,
     pub firsts: [u32; WEEKS],
     pub lasts: [u32; WEEKS],
 }
@@ -271,6 +274,8 @@ fn refused_with(n: u32) -> Found
     Found {
         answer: Filling::Refused(n),
         count: 0,
+        at: 0,
+        span: Weeks { first: 0, last: 0 },
         firsts: none,
         lasts: none,
     }
@@ -294,6 +299,8 @@ pub fn spans_of(words: &[u32], room: usize) -> Found
     Found {
         answer: Filling::Written(count as u32),
         count,
+        at: 0,
+        span: Weeks { first: 0, last: 0 },
         firsts,
         lasts,
     }
@@ -310,6 +317,26 @@ pub fn weeks_at(found: Found, i: usize) -> Weeks
     }
 }
 
+// The next record taken. All are found already, so the words are not looked at.
+fn next_of(_words: &[u32], found: Found) -> Found
+    requires { ⌜ Ready found ⌝ }
+    ensures { λ r. ⌜ r ≡ nextOf found ⌝ }
+{
+    let at = found.at;
+    let mut next = found;
+    next.span = weeks_at(found, at);
+    next.at = at + 1;
+    next
+}
+
+// The record taken last.
+fn span_of(found: Found) -> Weeks
+    ensures { λ r. ⌜ r ≡ found .span ⌝ }
+{
+    let span = found.span;
+    span
+}
+
 // The answer of what was found.
 fn answer_of(found: Found) -> Filling
     ensures { λ r. ⌜ r ≡ found .answer ⌝ }
@@ -324,11 +351,12 @@ pub fn breach_spans(words: &[u32], list: &mut [Weeks]) -> Filling
     ensures { λ r. ⌜ written r ≡ counted (spansGiven (now (words .entry)) (length (now (list .entry)))) ⌝ }
     ensures { λ r. ⌜ now (list .exit) ≡ filled (spansGiven (now (words .entry)) (length (now (list .entry)))) (now (list .entry)) ⌝ }
 {
-    let found = spans_of(words, list.len());
+    let mut found = spans_of(words, list.len());
     let count = found.count;
     let mut i = 0;
     while i < count {
-        list[i] = weeks_at(found, i);
+        found = next_of(words, found);
+        list[i] = span_of(found);
         i += 1;
     }
     answer_of(found)

@@ -11,7 +11,7 @@ use borrow.Author.Tests.{leb-true}
 use Rattle.recording.specs.Tests.{anyOf}
 use Rattle.recording.specs.Weeks.{weekStart, week, weekOf, inside}
 use Rattle.recording.proofs.TestLaws.{and-left, and-right, or-cases, or-left, or-right, clash, is-false, same-test, less-or-not}
-use Rattle.rules_reading.specs.Items.{spanAt, spansFrom, spansIn, restWeeks}
+use Rattle.rules_items.specs.Items.{spanAt, spansFrom, spansIn, restWeeks}
 use Rattle.verdict_completion.specs.Completable.{Course, at, Lies}
 use Rattle.verdict_steps.specs.Steps.{Ordered}
 

@@ -19,7 +19,7 @@ use Rattle.verdict_completion.specs.declared.Brought.the-variants.{Broken, To}
 use Rattle.verdict_completion.specs.States.{pairKept, nextWeek, advance, afterDaily}
 use Rattle.verdict_completion.specs.Completable.{at, reductionUnit, deadlineOf, outstandingOf, Overdue}
 use Rattle.verdict_completion.specs.Better.{Small}
-use Rattle.rules_reading.specs.Items.{standingFor}
+use Rattle.rules_items.specs.Items.{standingFor}
 use Rattle.verdict_steps.specs.Steps.{Says, Fits, NoneFrom, outstandingBy}
 
 pub no-more : (n : ℕ) → n ≤ regularAtLeast → n ≡ min regularAtLeast (n + 0)

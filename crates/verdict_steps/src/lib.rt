@@ -1,7 +1,7 @@
 // The steps of the search for a lawful reading: from rest to rest and from week to week, and what is outstanding.
 use rules::Kind;
 use rules::Standing;
-use rules_reading::LongRest;
+use rules_items::LongRest;
 use verdict_completion::Brought;
 use verdict_completion::Counts;
 use verdict_completion::State;
@@ -14,7 +14,7 @@ ghost use Rattle.recording.specs.Weeks.{week, weekOf, inside};
 ghost use Rattle.rules.specs.Reading.{isRegular, reductionOf};
 ghost use Rattle.rules.specs.ReadingRules.{shortenedAtMost, weeklyAtLeast, regularAtLeast};
 ghost use Rattle.rules.specs.declared.Kind.the-variants.{Daily, Weekly};
-ghost use Rattle.rules_reading.specs.Items.{compensationAtMost, standingFor, spanAt, spansIn, restWeeks};
+ghost use Rattle.rules_items.specs.Items.{compensationAtMost, standingFor, spanAt, spansIn, restWeeks};
 ghost use Rattle.verdict_completion.specs.States.{freshCounts, countedMore, startState, pairKept, nextWeek, advance as advanced, afterDaily, afterWeekly};
 ghost use Rattle.verdict_completion.specs.Completable.{at, deadlineOf, Overdue};
 ghost use Rattle.verdict_completion.specs.Better.{Small, bestState};
@@ -58,11 +58,11 @@ fn counted_more(rest: bool, regular: bool, c: Counts) -> Counts
     if rest {
         return c;
     }
-    let weekly = one_more(c.weekly, rules_reading::WEEKLY_AT_LEAST);
+    let weekly = one_more(c.weekly, rules_items::WEEKLY_AT_LEAST);
     if regular {
         return Counts {
             weekly: weekly,
-            regular: one_more(c.regular, rules_reading::REGULAR_AT_LEAST),
+            regular: one_more(c.regular, rules_items::REGULAR_AT_LEAST),
         };
     }
     Counts {
@@ -94,8 +94,8 @@ pub fn best_state(start: u32) -> State
     ensures { λ r. ⌜ r ≡ bestState start ⌝ }
 {
     let full = Counts {
-        weekly: rules_reading::WEEKLY_AT_LEAST,
-        regular: rules_reading::REGULAR_AT_LEAST,
+        weekly: rules_items::WEEKLY_AT_LEAST,
+        regular: rules_items::REGULAR_AT_LEAST,
     };
     State {
         ended: start,
@@ -116,10 +116,10 @@ fn pair_kept(st: State) -> bool
     }
     let before = st.before;
     let current = st.current;
-    if before.weekly + current.weekly < rules_reading::WEEKLY_AT_LEAST {
+    if before.weekly + current.weekly < rules_items::WEEKLY_AT_LEAST {
         return false;
     }
-    rules_reading::REGULAR_AT_LEAST <= before.regular + current.regular
+    rules_items::REGULAR_AT_LEAST <= before.regular + current.regular
 }
 
 // The state in the next week, of rest minutes only or not.
@@ -146,7 +146,7 @@ fn in_rest(starts: &[u32], ends: &[u32], j: usize, w: u32) -> bool
     if starts.len() <= j {
         return false;
     }
-    rules_reading::holds_week(starts[j], ends[j], w)
+    rules_items::holds_week(starts[j], ends[j], w)
 }
 
 // Whether the week w, between the starts of the long rests before j and of j, is one of rest minutes only.
@@ -253,7 +253,7 @@ fn compensable(reduction: u32, compensation: u32, minutes: u32) -> bool
     if reduction == 0 {
         return false;
     }
-    rules_reading::DAILY_NET + (compensation + reduction % REDUCTION_UNIT) <= minutes
+    rules_items::DAILY_NET + (compensation + reduction % REDUCTION_UNIT) <= minutes
 }
 
 // The first slot from i on, below n, whose reduction fits, or n.
@@ -295,7 +295,7 @@ pub fn as_weekly(start: u32, end: u32, compensation: u32) -> LongRest
     requires { ⌜ (start ≤ end) × (compensation ≤ compensationAtMost) ⌝ }
     ensures { λ r. ⌜ r .kind ≡ Weekly (standingFor (end - start) compensation) ⌝ }
 {
-    let standing = rules_reading::standing_of(end - start, compensation);
+    let standing = rules_items::standing_of(end - start, compensation);
     LongRest {
         start: start,
         end: end,
@@ -320,7 +320,7 @@ pub fn outstanding_of(standing: Standing, w: u32) -> u32
 {
     match standing {
         Standing::Regular => 0,
-        Standing::Reduced(minutes) => (w + rules_reading::WEEKS_TO_COMPENSATE) * REDUCTION_UNIT
+        Standing::Reduced(minutes) => (w + rules_items::WEEKS_TO_COMPENSATE) * REDUCTION_UNIT
             + minutes,
     }
 }

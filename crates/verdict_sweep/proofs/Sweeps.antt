@@ -8,7 +8,7 @@ use native.Mathlib.Omega.{arith}
 use lib.ListN.{length, take, replicate, length-take, length-replicate}
 use Rattle.recording.specs.Rests.{longRestsAtMost}
 use Rattle.recording.specs.Weeks.{weekOf}
-use Rattle.rules_reading.specs.Items.{Zeros}
+use Rattle.rules_items.specs.Items.{Zeros}
 use Rattle.rules_reading.proofs.LaterLaws.{zeros-at}
 use Rattle.verdict_completion.specs.declared.State.{State}
 use Rattle.verdict_completion.specs.Completable.{Course, at, count, restWeek, lengthAt, Compensates, Reads, Tries, Completable, Lies}

@@ -198,6 +198,16 @@ pub fn sweep_on(
     Swept { yes: false, at: i }
 }
 
+// How many times two rests it is from the rest after that of index j to one past the rest of number x.
+pub fn pairs_to(j: usize, x: usize) -> usize
+    ensures { λ r. ⌜ (x ≤ j + 1 + 2 * r) × (2 * r ≤ x - j) ⌝ }
+{
+    if x <= j {
+        return 0;
+    }
+    (x - j) / 2
+}
+
 // From the front before the rest of index j, of f states, p times two rests on.
 pub fn sweep_pairs(
     starts: &[u32],
@@ -423,7 +433,7 @@ pub fn possible(
     requires { ⌜ (let c = courseNow starts ends nets compensations s in Lent c (now outstanding)) ⌝ }
     ensures { λ r. ⌜ (let c = courseAt starts ends nets compensations s in Finds c (Completable c (count c) 0 (startState (restWeek c 0)) (now (outstanding .entry))) (r .yes) outstanding nogoods) ⌝ }
 {
-    let rest = rules_reading::rest_week(starts, ends, starts.len(), 0);
+    let rest = rules_items::rest_week(starts, ends, starts.len(), 0);
     completes(
         starts,
         ends,

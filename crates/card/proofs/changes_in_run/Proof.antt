@@ -2,7 +2,7 @@
 use mathlib.Core.Path.{sym, ap, _∙_}
 use Prim.Native.Nat.{_-_}
 use Rattle.recording.specs.Tests.{one}
-use Rattle.card.specs.Passes.{changesInRun}
+use Rattle.card.specs.Sizes.{changesInRun}
 use native.Mathlib.Omega.{arith}
 use borrow.Author.Needs.{needs}
 use Rattle.card.proofs.changes_in_run.Statement.{statement}

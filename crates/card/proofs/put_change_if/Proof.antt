@@ -1,6 +1,6 @@
 -- `card::put_change_if` meets its contract. Assumes nothing.
 use Prim.Native.Nat.{_/_, _%_}
-use Rattle.card.specs.Form.{byteValues}
+use Rattle.card_reader.specs.Form.{byteValues}
 use Rattle.card.proofs.Putting.{put-two, put-none, two-length}
 use borrow.Author.Needs.{needs}
 use Rattle.card.proofs.put_change_if.Statement.{statement}

@@ -1,7 +1,7 @@
 -- `desk_report::card_page` meets its contract. Assumes nothing.
 use native.Mathlib.Omega.{arith}
 use lib.ListN.{length}
-use Rattle.card.specs.Reading.{cardRead}
+use Rattle.card_reader.specs.Reading.{cardRead}
 use Rattle.desk_report.specs.Composing.{cardWords}
 use Rattle.desk_report.proofs.Answered.{blank, within-words, card-read}
 use borrow.Author.Needs.{needs}

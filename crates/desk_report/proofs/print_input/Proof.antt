@@ -1,42 +1,33 @@
 -- `desk_report::print_input` meets its contract. Assumes nothing.
-use Rattle.desk_report.proofs.Answered.{input-size, front-size, front-fits, front-short, front-handed}
+use native.Mathlib.Omega.{arith}
+use mathlib.Core.Path.{refl}
+use denote.Ref.{now}
+use Rattle.desk_report.proofs.Answered.{input-size, in-place}
 use borrow.Author.Needs.{needs}
 use Rattle.desk_report.proofs.print_input.Statement.{statement}
 use Rattle.desk_report.proofs.print_input.Tie as tie
 
-array-share-prefix-page : tie.Need-array-share-prefix-page
-array-share-prefix-page c =
-    let start = c .before .before .before .before .before in
-    front-fits (input-size (start .args .card) (start .args .spans) (start .args .input .now)) (c .before .input-page .ensures)
+cast-n : tie.Need-cast-t13
+cast-n c =
+    let start = c .before .before .before .before .before .before .before .before in
+    omega (arith, c .before .before .input-page .ensures .next-is, input-size (start .args .card) (start .args .spans) (now (start .args .input)))
 
-slice-aggregate-hand-over : tie.Need-slice-aggregate-hand-over
-slice-aggregate-hand-over c =
-    let composed = c .before .before in
-    let start = composed .before .before .before .before in
-    front-size (input-size (start .args .card) (start .args .spans) (start .args .input .now)) (composed .input-page .ensures)
-
-hand-over-requires : tie.Need-hand-over-requires
-hand-over-requires c κs =
-    let composed = c .before .before .before in
-    let start = composed .before .before .before .before in
-    front-short (input-size (start .args .card) (start .args .spans) (start .args .input .now)) (composed .input-page .ensures)
-
-returns : tie.Need-returns
-returns c =
-    let composed = c .before .before .before .before .before .before in
-    let start = composed .before .before .before .before in
-    let handed = c .before .before .hand-over .ensures in
-    let k = front-handed (input-size (start .args .card) (start .args .spans) (start .args .input .now)) (composed .input-page .ensures) (start .args .out .now) (handed .0) (handed .1) in
+returns-2 : tie.Need-returns-2
+returns-2 c =
+    let start = c .before .before .before .before .before .before .before .before in
+    let fits = c .before .before .before .before .before .page-room .ensures (now (start .args .input)) refl in
+    let k = in-place _ (now (start .args .out)) (omega (arith, fits)) (c .before .before .input-page .ensures) in
     (k .answer, k .content)
 
 pub print-input-spec : {M : Type 1} → statement M
 print-input-spec =
     tie.close
     (tie.spec
+    (λ c κs. search needs)
+    (λ c κs. search needs)
+    (λ c. search needs)
     (λ c. search needs)
     (λ c κs. search needs)
-    array-share-prefix-page
-    slice-aggregate-hand-over
-    hand-over-requires
+    cast-n
     (λ c. search needs)
-    returns)
+    returns-2)

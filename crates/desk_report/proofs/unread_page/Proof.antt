@@ -1,7 +1,7 @@
 -- `desk_report::unread_page` meets its contract. Assumes nothing.
 use native.Mathlib.Omega.{arith}
 use mathlib.Core.Path.{sym, ap, _∙_}
-use Rattle.verdict.specs.Judgements.{findingBy}
+use Rattle.verdict_judging.specs.Judgements.{findingBy}
 use Rattle.desk_report.specs.Composing.{readingRoom}
 use Rattle.desk_report.proofs.Answered.{breached-text, refused-text}
 use borrow.Author.Needs.{needs}

@@ -1,7 +1,7 @@
 -- `interface::verdict_code` meets its contract. Assumes nothing.
 use mathlib.Core.Path.{sym, ap}
 use borrow.Author.Needs.{needs}
-use Rattle.verdict.specs.Judgements.{findingBy}
+use Rattle.verdict_judging.specs.Judgements.{findingBy}
 use Rattle.interface.specs.Codes.{codeOf, findingValue}
 use Rattle.interface.proofs.verdict_code.Statement.{statement}
 use Rattle.interface.proofs.verdict_code.Tie as tie

@@ -3,7 +3,8 @@ use Prim.Native.Nat.{_-_}
 use native.Mathlib.Omega.{arith}
 use lib.ListN.{length}
 use borrow.Author.Needs.{needs}
-use Rattle.recording.proofs.Scanning.{Walking, start-walking, run-room, walk-on, walk-done}
+use Rattle.recording.specs.Scan.{Walking}
+use Rattle.recording.proofs.Scanning.{start-walking, run-room, walk-on, walk-done}
 use Rattle.recording.proofs.place_of.Statement.{statement}
 use Rattle.recording.proofs.place_of.Tie as tie
 

@@ -6,7 +6,8 @@ use native.Mathlib.Omega.{arith}
 use lib.ListN.{length, drop}
 use borrow.Author.Needs.{needs}
 use Rattle.recording.specs.Scan.{origin, writtenFrom}
-use Rattle.recording.proofs.Scanning.{Walking, walk-done, write-done, same-length, first-room, first-walking, first-written, next-room, next-walking, next-written}
+use Rattle.recording.specs.Scan.{Walking}
+use Rattle.recording.proofs.Scanning.{walk-done, write-done, same-length, first-room, first-walking, first-written, next-room, next-walking, next-written}
 use Rattle.recording.proofs.scan_from.Statement.{statement}
 use Rattle.recording.proofs.scan_from.Tie as tie
 

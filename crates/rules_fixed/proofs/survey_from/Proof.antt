@@ -1,6 +1,6 @@
 -- `rules_fixed::survey_from` meets its contract. Assumes nothing.
 use mathlib.Core.Path.{ap, _∙_}
-use Rattle.rules_fixed.specs.Account.{accountFrom, opening}
+use Rattle.rules_limits.specs.Account.{accountFrom, opening}
 use Rattle.rules_fixed.proofs.Surveying.{all-there}
 use borrow.Author.Needs.{needs}
 use Rattle.rules_fixed.proofs.survey_from.Statement.{statement}

@@ -6,8 +6,8 @@ use Prim.Native.Nat.{_≤_, _+_}
 use borrow.Author.Tests.{not-true, not-false}
 use Rattle.recording.specs.Tests.{_or_}
 use Rattle.recording.specs.Weeks.{weekOf}
-use Rattle.rules_reading.specs.Items.{enoughWith, rule11With, restWeeks, spansIn}
-use Rattle.rules_reading.proofs.PairLaws.{Pairing, pair-on, pair-broken, pair-done}
+use Rattle.rules_items.specs.Items.{enoughWith, rule11With, restWeeks, spansIn}
+use Rattle.rules_items.proofs.PairLaws.{Pairing, pair-on, pair-broken, pair-done}
 use mathlib.Core.Bool.{not}
 use lib.Dec.{leb}
 use Rattle.recording.specs.Weeks.{weekStart}

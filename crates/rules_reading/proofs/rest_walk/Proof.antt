@@ -6,7 +6,7 @@ use Prim.Native.Nat.{_-_, _≤_}
 use lib.ListN.{length}
 use borrow.Author.Tests.{not-true, not-false}
 use Rattle.rules_reading.proofs.WalkLaws.{Walking, walk-start, item-sane, too-short, walk-on, walk-through, compensate-room}
-use Rattle.rules_reading.proofs.TallyLaws.{addedTo-length}
+use Rattle.rules_items.proofs.TallyLaws.{addedTo-length}
 use Rattle.rules_reading.proofs.rest_walk.Statement.{statement}
 use Rattle.rules_reading.proofs.rest_walk.Tie as tie
 

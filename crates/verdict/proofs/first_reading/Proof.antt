@@ -2,7 +2,7 @@
 use borrow.Author.Needs.{needs}
 use denote.Ref.{now}
 use Rattle.recording.proofs.Listing.{refused-there, measured-there}
-use Rattle.verdict.proofs.Answers.{told-refused}
+use Rattle.verdict_judging.proofs.Answers.{told-refused}
 use Rattle.verdict.proofs.first_reading.Statement.{statement}
 use Rattle.verdict.proofs.first_reading.Tie as tie
 

@@ -2,8 +2,8 @@
 use native.Mathlib.Omega.{arith}
 use denote.Ref.{now}
 use borrow.Author.Needs.{needs}
-use Rattle.verdict.proofs.Answers.{within, total-is}
-use Rattle.verdict.proofs.Slices.{roomy-short, roomy-long}
+use Rattle.verdict_judging.proofs.Answers.{within, total-is}
+use Rattle.verdict_breach.proofs.Slices.{roomy-short, roomy-long}
 use Rattle.verdict.proofs.reading_within.Statement.{statement}
 use Rattle.verdict.proofs.reading_within.Tie as tie
 

@@ -3,7 +3,7 @@ use mathlib.Core.List.{_∷_}
 use native.Mathlib.Omega.{arith}
 use denote.Ref.{now}
 use borrow.Author.Needs.{needs}
-use Rattle.verdict.proofs.Slices.{roomy-short, roomy-long}
+use Rattle.verdict_breach.proofs.Slices.{roomy-short, roomy-long}
 use Rattle.verdict.proofs.verdict_from.Statement.{statement}
 use Rattle.verdict.proofs.verdict_from.Tie as tie
 

@@ -1,7 +1,7 @@
 -- `verdict::verdict_within` meets its contract. Assumes nothing.
 use denote.Ref.{now}
 use Rattle.recording.specs.Words.{minutesOf}
-use Rattle.verdict.proofs.Answers.{within, total-is, verdict-found}
+use Rattle.verdict_judging.proofs.Answers.{within, total-is, verdict-found}
 use borrow.Author.Needs.{needs}
 use Rattle.verdict.proofs.verdict_within.Statement.{statement}
 use Rattle.verdict.proofs.verdict_within.Tie as tie

@@ -12,7 +12,7 @@ use Rattle.rules.specs.declared.Standing.the-variants.{Regular}
 use Rattle.verdict_completion.specs.Completable.{at, lengthAt}
 use Rattle.verdict_search.specs.Search.{courseOf}
 use Rattle.verdict_search.proofs.Slots.{to-start}
-use Rattle.verdict_first_reading.proofs.Placing.{limited, lent-same, sound-with, with-sound, weekly-same, at-rest-with}
+use Rattle.verdict_choosing.proofs.Placing.{limited, lent-same, sound-with, with-sound, weekly-same, at-rest-with}
 use Rattle.verdict_first_reading.proofs.Stepping.{at-rest, stepped-broken, stepped-short, stepped-as-daily, stepped-weekly, stepped-same, sound-renewed}
 use Rattle.verdict_first_reading.proofs.Stepping.{put-same, put-daily-same, limited-same, fits-same}
 use Rattle.verdict_first_reading.proofs.place.Statement.{statement}

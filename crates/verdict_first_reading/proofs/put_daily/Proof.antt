@@ -8,7 +8,7 @@ use Rattle.verdict_completion.specs.declared.State.{State}
 use Rattle.verdict_completion.specs.States.{afterDaily}
 use Rattle.verdict_search.specs.Search.{courseOf}
 use Rattle.verdict_search.proofs.Slots.{before-daily}
-use Rattle.verdict_first_reading.proofs.Placing.{before-here}
+use Rattle.verdict_choosing.proofs.Placing.{before-here}
 use Rattle.verdict_first_reading.proofs.put_daily.Statement.{statement}
 use Rattle.verdict_first_reading.proofs.put_daily.Tie as tie
 

@@ -8,15 +8,16 @@ use native.Mathlib.Omega.{arith}
 use lib.Dec.{leb}
 use denote.Ref.{now}
 use Rattle.rules.specs.Reading.{weeklyKind, regularMinutes, byteValues}
-use Rattle.rules_reading.specs.Items.{addedTo}
+use Rattle.rules_items.specs.Items.{addedTo}
 use Rattle.verdict_completion.specs.declared.State.{State}
 use Rattle.verdict_completion.specs.States.{afterWeekly}
 use Rattle.verdict_completion.specs.Completable.{at, restWeek, lengthAt}
 use Rattle.verdict_search.specs.Search.{courseOf, withCompensations}
 use Rattle.verdict_search.proofs.Slots.{brought, before-weekly, to-counted}
 use Rattle.verdict_merging.proofs.Merging.{addedTo-none}
-use Rattle.verdict_first_reading.specs.Choices.{withEntry, Limited}
-use Rattle.verdict_first_reading.proofs.Placing.{before-here, before-with, limited-with, broken-not-to, to-same, counted-state}
+use Rattle.rules_entries.specs.Entries.{withEntry}
+use Rattle.verdict_choosing.specs.Choices.{Limited}
+use Rattle.verdict_choosing.proofs.Placing.{before-here, before-with, limited-with, broken-not-to, to-same, counted-state}
 use Rattle.verdict_first_reading.proofs.put_weekly.Statement.{statement}
 use Rattle.verdict_first_reading.proofs.put_weekly.Tie as tie
 

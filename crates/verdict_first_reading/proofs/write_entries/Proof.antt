@@ -8,12 +8,12 @@ use native.Mathlib.Omega.{arith}
 use lib.ListN.{length}
 use denote.Ref.{now}
 use Rattle.rules.specs.Reading.{entryBytes}
-use Rattle.rules_reading.specs.Items.{Zeros}
+use Rattle.rules_items.specs.Items.{Zeros}
 use Rattle.verdict_completion.specs.States.{startState}
 use Rattle.verdict_search.specs.Search.{courseOf, Sound, Lent, Before, withCompensations}
 use Rattle.verdict_search.proofs.Slots.{before-start}
-use Rattle.verdict_first_reading.specs.First.{Least, restsOnly}
-use Rattle.verdict_first_reading.proofs.Placing.{Progress, progress-start, progress-on, progress-end}
+use Rattle.verdict_choosing.specs.First.{Least, restsOnly}
+use Rattle.verdict_choosing.proofs.Placing.{Progress, progress-start, progress-on, progress-end}
 use Rattle.verdict_first_reading.proofs.write_entries.Statement.{statement}
 use Rattle.verdict_first_reading.proofs.write_entries.Tie as tie
 

@@ -7,7 +7,7 @@ use Rattle.recording.specs.Scan.{shortRests}
 use Rattle.verdict_search.specs.Search.{courseOf}
 use Rattle.verdict_search.proofs.Memory.{empty-sound}
 use Rattle.verdict_sweep.proofs.Sweeps.{noneOf, none-size, none-zeros}
-use Rattle.verdict_first_reading.proofs.Placing.{lent-start}
+use Rattle.verdict_choosing.proofs.Placing.{lent-start}
 use Rattle.verdict_first_reading.proofs.write_short.Statement.{statement}
 use Rattle.verdict_first_reading.proofs.write_short.Tie as tie
 

@@ -10,7 +10,7 @@ use Rattle.verdict_merging.proofs.Merging as merging
 use mathlib.Core.Bool.{false≢true, true≢false}
 use mathlib.Core.List.{List}
 use Rattle.verdict_completion.specs.Better.{AtRest}
-use Rattle.rules_reading.specs.Items.{addedTo}
+use Rattle.rules_items.specs.Items.{addedTo}
 use Rattle.verdict_search.specs.Leading.{Front}
 use Rattle.verdict_merging.proofs.asks_beside.Statement.{statement}
 use Rattle.verdict_merging.proofs.asks_beside.Tie as tie

@@ -61,7 +61,7 @@ use Rattle.verdict_search.proofs.+choose+compensate+count_in+daily+in_w
 use Rattle.verdict_fronts.proofs.put.Reads as put-reads
 use Rattle.verdict_nogoods.proofs.known.Reads as known-reads
 use Rattle.verdict_nogoods.proofs.remember.Reads as remember-reads
-use Rattle.rules_reading.proofs.holds_week.Reads as holds-week-reads
+use Rattle.rules_items.proofs.holds_week.Reads as holds-week-reads
 use Rattle.verdict_search.proofs.closes.Reads as closes-reads
 use Rattle.verdict_steps.proofs.advance.Reads as advance-reads
 use Rattle.verdict_steps.proofs.after_daily.Reads as after-daily-reads

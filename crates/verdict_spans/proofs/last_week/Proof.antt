@@ -1,7 +1,7 @@
 -- `verdict_spans::last_week` meets its contract. Assumes nothing.
 use mathlib.Core.Path.{refl, ap, subst}
 use native.Mathlib.Omega.{arith}
-use Rattle.verdict.specs.Judgements.{findingBy}
+use Rattle.verdict_judging.specs.Judgements.{findingBy}
 use Rattle.verdict_spans.specs.Mondays.{Sound}
 use borrow.Author.Needs.{needs}
 use Rattle.verdict_spans.proofs.last_week.Statement.{statement}

@@ -8,7 +8,7 @@ use borrow.Author.Needs.{needs}
 use borrow.Author.Tests.{not-true, not-false}
 use Prim.Native.Nat.{_-_, _≤_}
 use denote.Ref.{now}
-use Rattle.rules_reading.specs.Items.{spansIn, restWeeks}
+use Rattle.rules_items.specs.Items.{spansIn, restWeeks}
 use Rattle.verdict_completion.specs.declared.State.{State}
 use Rattle.verdict_completion.specs.States.{advance, nextWeek}
 use Rattle.verdict_completion.specs.Better.{Small}

@@ -1,8 +1,0 @@
--- `card::more_if` meets its contract. Assumes nothing.
-use native.Mathlib.Omega.{arith}
-use borrow.Author.Needs.{needs}
-use Rattle.card.proofs.more_if.Statement.{statement}
-use Rattle.card.proofs.more_if.Tie as tie
-
-pub more-if-spec : {M : Type 1} → statement M
-more-if-spec = tie.close (tie.spec (λ c. search needs) (λ c. rw (c .if1 .taken)) (λ c. rw (c .if1 .left) (omega arith)))

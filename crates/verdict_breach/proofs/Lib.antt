@@ -1,0 +1,9 @@
+pub mod JudgedEnds
+pub mod Slices
+pub mod Lawfulness
+pub mod Cuts
+pub mod Least
+pub mod Days
+pub mod Halving
+pub mod Demands
+pub mod Actives
