@@ -125,8 +125,6 @@ pub fn run(s: Account, activity: u32, n: u32) -> Account
     t
 }
 
-// In the walks below a recording is a first word, also one of no minutes, and then words.
-
 // The account of no minutes.
 pub fn opening_account() -> Account
     ensures { λ r. ⌜ r ≡ opening ⌝ }

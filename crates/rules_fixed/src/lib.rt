@@ -29,6 +29,8 @@ pub enum Tested {
 // The refusal of a stretch that is over N.
 const STRETCH_OVER: u32 = 5;
 
+// In the walks below a recording is a first word, also one of no minutes, and then words.
+
 // The account of the first m minutes, in one walk over the words.
 fn account_of(head: u32, words: &[u32], m: u32) -> Account
     requires { ⌜ length (minutesOf (head ∷ now words)) ≤ totalAtMost ⌝ }

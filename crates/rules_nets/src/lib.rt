@@ -88,7 +88,7 @@ fn day_on(d: OpenDay, p: Place, activity: u32, n: u32, nets: &mut [u32]) -> Open
     }
 }
 
-// The number by rule 9 of each long rest, in one walk over the words. The first word ends no rest.
+// The number by rule 9 of each long rest, in one walk over a recording: a first word, also one of no minutes, which ends no rest, and then words.
 pub fn put_nets(head: u32, words: &[u32], nets: &mut [u32])
     requires { ⌜ length (minutesOf (head ∷ now words)) ≤ totalAtMost ⌝ }
     ensures { λ _. ⌜ now (nets .exit) ≡ sets (now (nets .entry)) 0 (netsOf (minutesOf (head ∷ now (words .entry)))) ⌝ }

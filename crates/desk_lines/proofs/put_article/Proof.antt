@@ -1,4 +1,4 @@
--- `desk_report::put_article` meets its contract. Assumes nothing.
+-- `desk_lines::put_article` meets its contract. Assumes nothing.
 use borrow.Author.Tests.{ne-eqb}
 use Rattle.desk_lines.specs.Lines.{articleText}
 use borrow.Author.Needs.{needs}

@@ -1,4 +1,4 @@
--- `desk_report::put_numbered` meets its contract. Assumes nothing.
+-- `desk_lines::put_numbered` meets its contract. Assumes nothing.
 use Rattle.text.proofs.Puts.{put-then}
 use Rattle.desk_lines.specs.Lines.{numbered}
 use borrow.Author.Needs.{needs}

@@ -1,4 +1,4 @@
--- `desk_report::put_rest` meets its contract. Assumes nothing.
+-- `desk_lines::put_rest` meets its contract. Assumes nothing.
 use borrow.Author.Tests.{eq-eqb, ne-eqb}
 use Rattle.desk_lines.specs.Lines.{restText}
 use borrow.Author.Needs.{needs}

@@ -1,4 +1,4 @@
--- `desk_report::put_spaced` meets its contract. Assumes nothing.
+-- `desk_lines::put_spaced` meets its contract. Assumes nothing.
 use Rattle.text.proofs.Puts.{put-then}
 use borrow.Author.Needs.{needs}
 use Rattle.desk_lines.proofs.put_spaced.Statement.{statement}

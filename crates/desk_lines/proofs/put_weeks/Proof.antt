@@ -1,4 +1,4 @@
--- `desk_report::put_weeks` meets its contract. Assumes nothing.
+-- `desk_lines::put_weeks` meets its contract. Assumes nothing.
 use Rattle.text.proofs.Puts.{put-then}
 use Rattle.desk_lines.specs.Lines.{weeksText}
 use borrow.Author.Needs.{needs}
