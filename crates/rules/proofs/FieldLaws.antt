@@ -1,12 +1,12 @@
 -- The bytes of a reading and its fields: each says the other. Assumes nothing.
-use mathlib.Core.Path.{_≡_, refl, ap, ap₂, _∙_}
+use mathlib.Core.Path.{_≡_, refl}
 use mathlib.Core.List.{List, [], _∷_}
-use Prim.Native.Nat.{ℕ, zero, suc, _+_, _*_, _/_, _%_, _≤_, _<_}
+use Prim.Native.Nat.{ℕ, zero, suc, _+_, _*_, _/_, _%_, _<_}
 use native.Mathlib.Omega.{arith}
-use lib.ListN.{length, drop, getD, replicate}
+use lib.ListN.{length, getD, replicate}
 use Rattle.rules.specs.Reading.{entryFields, entryBytes, byteValues, carrierOf, fieldsIn, bytesOf}
-use Rattle.rules.specs.Order.{Bounded, Bytes, fieldBounds, Fields}
-use Rattle.rules.proofs.FirstLaws.{fields-length, zeroFields}
+use Rattle.rules.specs.Order.{Bytes, Fields}
+use Rattle.rules.proofs.FirstLaws.{zeroFields}
 
 -- the bytes of one entry more
 pub entry-more : (n : ℕ) → entryBytes * suc n ≡ suc (suc (suc (suc (entryBytes * n))))
