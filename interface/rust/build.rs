@@ -1,4 +1,4 @@
-//! Links the desk's static library, which `rt staticlib interface` makes.
+//! Links the desk's static library, which `interface/library` makes.
 
 use std::path::Path;
 
@@ -8,7 +8,7 @@ fn main() {
     let archive = format!("{folder}/libinterface.a");
     assert!(
         Path::new(&archive).exists(),
-        "no {archive}: `rt staticlib interface` makes it"
+        "no {archive}: `interface/library` makes it"
     );
     println!("cargo:rustc-link-search=native={folder}");
     println!("cargo:rustc-link-lib=static=interface");

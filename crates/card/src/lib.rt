@@ -1,4 +1,6 @@
 // The card's own day record: writing words as days. What is said of it stands in specs/, of its form in card_reader/specs.
+#![tactic(auto)]
+
 ghost use Rattle.std.specs.Prelude.{◌≡◌, ◌*◌, ◌≤◌, ◌<◌, length};
 ghost use Rattle.std.proofs.lemmas.List.Edits.{sets};
 ghost use Rattle.recording.specs.Tests.{pick};
@@ -12,7 +14,7 @@ ghost use Rattle.card.specs.Sizes.{changes_in_run, changes_counted, sized, refus
 use recording::Filling;
 
 // What the first pass over the words finds: a refusal, or how many changes are written.
-#[derive(Drop)]
+#[derive(Clone, Copy)]
 pub enum Size {
     Refused(u32),
     Changes(u32),

@@ -10,9 +10,9 @@ use lib.Dec.{eqb, ltb}
 use lib.ListN.{length, drop, get_or, set, length-drop, length-append, length-replicate}
 use lib.Seq.{drop-cons, sets, length-sets}
 use borrow.Author.Tests.{eqb-true, eq-eqb, ne_eqb, ltb-true, ltb-false, lt-ltb, le-ltb}
-use Rattle.recording.specs.Tests.{◌and◌, ◌or◌, pick, one, any_of, count_of}
+use Rattle.recording.specs.Tests.{◌and◌, ◌or◌, pick, any_of, count_of}
 use Rattle.recording.specs.Answers.{Answer, refused, answered, refuse_if, counted, filled}
-use Rattle.recording.specs.Words.{activities, word_of, minutes_of}
+use Rattle.recording.specs.Words.{word_of, minutes_of}
 use Rattle.recording.specs.Operations.{total_at_most, unless_fault}
 use Rattle.recording.proofs.TestLaws.{and_left, and_right, or_cases, same_test, one_most}
 use Rattle.recording.proofs.WordLaws.{minutes_in_lem, unless_some}

@@ -1,4 +1,6 @@
 // The card's own day record: reading it into words. What is said of it stands in specs/.
+#![tactic(auto)]
+
 ghost use Rattle.std.specs.Prelude.{◌≡◌, ◌+◌, ◌-◌, ◌≤◌, ◌<◌, length, drop};
 ghost use Rattle.std.proofs.lemmas.List.Edits.{sets};
 ghost use Rattle.recording.specs.Tests.{◌and◌, pick, one};
@@ -13,7 +15,7 @@ use recording::Filling;
 
 // What the first pass over a record finds: whether each change follows the one before, whether each activity is known, how many
 // days begin; and the minute of the last change.
-#[derive(Drop)]
+#[derive(Clone, Copy)]
 pub struct Judgement {
     pub ordered: bool,
     pub known: bool,

@@ -1,4 +1,6 @@
 // The verdict and the first reading with fronts of other capacities, for tests: the answers are the same whatever room the search has.
+#![tactic(auto)]
+
 ghost use Rattle.std.specs.Prelude.{◌≡◌, length};
 ghost use Rattle.recording.specs.Answers.{counted, filled};
 ghost use Rattle.recording.specs.Operations.{written};

@@ -1,124 +1,109 @@
 // The cases of document 01, "On the edge", that concern the fixed rules, and those in which several break at one minute: each line has N, S and k,
 // what the fixed test answers for the stretch before the edge and at it, and what the article test does.
-use libc::STDOUT_FILENO;
+#![tactic(auto)]
+
 use recording::Weighing;
 use rules_fixed::Tested;
+use std::io;
 
-fn show_number(n: u32) {
-    io::print_decimal(STDOUT_FILENO, n as u64);
-}
-
-fn show_weighing(w: Weighing) {
+fn show_weighing(out: &impl Print, w: Weighing) -> io::Result<()> {
     match w {
-        Weighing::Refused(n) => {
-            io::write_all(STDOUT_FILENO, b"refused ");
-            show_number(n);
-        }
+        Weighing::Refused(n) => print!(out; "refused {n}"),
         Weighing::Weighed(m) => {
-            show_number(m.total);
-            io::write_all(STDOUT_FILENO, b" ");
-            show_number(m.judged);
-            io::write_all(STDOUT_FILENO, b" ");
-            show_number(m.count);
+            let total = m.total;
+            let judged = m.judged;
+            let count = m.count;
+            print!(out; "{total} {judged} {count}")
         }
     }
 }
 
-fn show_tested(m: u32, t: Tested) {
-    io::write_all(STDOUT_FILENO, b"; ");
-    show_number(m);
+fn show_tested(out: &impl Print, m: u32, t: Tested) -> io::Result<()> {
     match t {
-        Tested::Refused(n) => {
-            io::write_all(STDOUT_FILENO, b" refused ");
-            show_number(n);
-        }
-        Tested::Answer(n) => {
-            io::write_all(STDOUT_FILENO, b": ");
-            show_number(n);
-        }
+        Tested::Refused(n) => print!(out; "; {m} refused {n}"),
+        Tested::Answer(n) => print!(out; "; {m}: {n}"),
     }
 }
 
 // What the recording weighs, and both tests for m minutes and for one more.
-fn show(name: &[u8], words: &[u32], m: u32) {
-    io::write_all(STDOUT_FILENO, name);
-    io::write_all(STDOUT_FILENO, b": ");
-    show_weighing(recording::weigh(words));
-    show_tested(m, rules_fixed::fixed_test(words, m));
+fn show(out: &impl Print, name: &str, words: &[u32], m: u32) -> io::Result<()> {
+    print!(out; "{name}: ")?;
+    show_weighing(out, recording::weigh(words))?;
+    show_tested(out, m, rules_fixed::fixed_test(words, m))?;
     if m < 4294967295 {
         let next = m + 1;
-        show_tested(next, rules_fixed::fixed_test(words, next));
+        show_tested(out, next, rules_fixed::fixed_test(words, next))?;
     }
-    io::write_all(STDOUT_FILENO, b"; articles");
-    show_tested(m, rules_fixed::article_test(words, m));
+    print!(out; "; articles")?;
+    show_tested(out, m, rules_fixed::article_test(words, m))?;
     if m < 4294967295 {
         let next = m + 1;
-        show_tested(next, rules_fixed::article_test(words, next));
+        show_tested(out, next, rules_fixed::article_test(words, next))?;
     }
-    io::write_all(STDOUT_FILENO, b"\n");
+    println!(out)
 }
 
-fn main() {
+fn main(rt: HostRuntime) -> io::Result<()> {
     let d270 = [1083u32];
-    show(b"empty", &d270[..0], 0);
-    show(b"d270", &d270, 269);
+    show(&rt, "empty", &d270[..0], 0)?;
+    show(&rt, "d270", &d270, 269)?;
     let d271 = [1087u32];
-    show(b"d271", &d271, 270);
+    show(&rt, "d271", &d271, 270)?;
     let split = [543u32, 60, 543, 120, 1083];
-    show(b"d135 r15 d135 r30 d270", &split, 584);
+    show(&rt, "d135 r15 d135 r30 d270", &split, 584)?;
     let short_first = [543u32, 56, 543, 120, 1083];
-    show(b"d135 r14 d135 r30 d270", &short_first, 314);
+    show(&rt, "d135 r14 d135 r30 d270", &short_first, 314)?;
     let short_second = [543u32, 120, 543, 60, 7];
-    show(b"d135 r30 d135 r15 d1", &short_second, 315);
+    show(&rt, "d135 r30 d135 r15 d1", &short_second, 315)?;
     let available = [1083u32, 181, 7];
-    show(b"d270 a45 d1", &available, 315);
+    show(&rt, "d270 a45 d1", &available, 315)?;
     let full = [1083u32, 180, 7];
-    show(b"d270 r45 d1", &full, 315);
+    show(&rt, "d270 r45 d1", &full, 315)?;
     let not_full = [1083u32, 176, 7];
-    show(b"d270 r44 d1", &not_full, 314);
+    show(&rt, "d270 r44 d1", &not_full, 314)?;
     let before_driving = [60u32, 1083, 120, 7];
-    show(b"r15 d270 r30 d1", &before_driving, 315);
+    show(&rt, "r15 d270 r30 d1", &before_driving, 315)?;
     let after_work = [242u32, 241, 60, 1083, 120, 7];
-    show(b"w60 a60 r15 d270 r30 d1", &after_work, 435);
+    show(&rt, "w60 a60 r15 d270 r30 d1", &after_work, 435)?;
     let after_a_minute = [60u32, 7, 60, 1079, 120, 7];
-    show(b"r15 d1 r15 d269 r30 d1", &after_a_minute, 330);
+    show(&rt, "r15 d1 r15 d269 r30 d1", &after_a_minute, 330)?;
     let too_short = [60u32, 7, 56, 1079, 120, 7];
-    show(b"r15 d1 r14 d269 r30 d1", &too_short, 329);
+    show(&rt, "r15 d1 r14 d269 r30 d1", &too_short, 329)?;
     let after_clearing = [7u32, 180, 242, 60, 1083, 120, 7];
-    show(b"d1 r45 w60 r15 d270 r30 d1", &after_clearing, 421);
+    show(&rt, "d1 r45 w60 r15 d270 r30 d1", &after_clearing, 421)?;
     let before_clearing = [7u32, 60, 7, 180, 1083, 120, 7];
-    show(b"d1 r15 d1 r45 d270 r30 d1", &before_clearing, 362);
+    show(&rt, "d1 r15 d1 r45 d270 r30 d1", &before_clearing, 362)?;
     let w900 = [3602u32];
-    show(b"w900", &w900, 899);
+    show(&rt, "w900", &w900, 899)?;
     let w901 = [3606u32];
-    show(b"w901", &w901, 900);
+    show(&rt, "w901", &w901, 900)?;
     let r539 = [3602u32, 2156, 6];
-    show(b"w900 r539 w1", &r539, 1439);
+    show(&rt, "w900 r539 w1", &r539, 1439)?;
     let r540 = [3602u32, 2160, 6];
-    show(b"w900 r540 w1", &r540, 1440);
+    show(&rt, "w900 r540 w1", &r540, 1440)?;
     let d600 = [1083u32, 180, 1083, 180, 247];
-    show(b"d270 r45 d270 r45 d61", &d600, 690);
+    show(&rt, "d270 r45 d270 r45 d61", &d600, 690)?;
     // rule 5 breaks first, then rule 1 too: the smaller is named
     let both = [3606u32, 1087];
-    show(b"w901 d271", &both, 1171);
+    show(&rt, "w901 d271", &both, 1171)?;
     // several break at one minute, or one after another: the tests may name different articles
     let breaks_and_day = [1083u32, 180, 243, 180, 1087];
-    show(b"d270 r45 d60 r45 d271", &breaks_and_day, 690);
+    show(&rt, "d270 r45 d60 r45 d271", &breaks_and_day, 690)?;
     let breaks_and_rest = [2522u32, 1087];
-    show(b"w630 d271", &breaks_and_rest, 900);
+    show(&rt, "w630 d271", &breaks_and_rest, 900)?;
     let day_and_rest = [1083u32, 180, 1083, 1020, 247];
-    show(b"d270 r45 d270 r255 d61", &day_and_rest, 900);
+    show(&rt, "d270 r45 d270 r255 d61", &day_and_rest, 900)?;
     let three = [1083u32, 180, 243, 1020, 1087];
-    show(b"d270 r45 d60 r255 d271", &three, 900);
+    show(&rt, "d270 r45 d60 r255 d271", &three, 900)?;
     let one_after_another = [1087u32, 1323];
-    show(b"d271 d330", &one_after_another, 600);
+    show(&rt, "d271 d330", &one_after_another, 600)?;
     let split_word = [543u32, 543, 1];
-    show(b"d135 d135 and a word of no minutes", &split_word, 0);
+    show(&rt, "d135 d135 and a word of no minutes", &split_word, 0)?;
     let long = [240000u32, 1896962];
-    show(b"r60000 w474240", &long, 534240);
+    show(&rt, "r60000 w474240", &long, 534240)?;
     let too_long = [240000u32, 1896966, 0];
-    show(b"r60000 w474241 and a word of no minutes", &too_long, 0);
+    show(&rt, "r60000 w474241 and a word of no minutes", &too_long, 0)?;
     let huge = [4294967295u32, 4294967295];
-    show(b"two words of 1073741823 minutes", &huge, 0);
-    show(b"the largest m", &w900, 4294967295);
+    show(&rt, "two words of 1073741823 minutes", &huge, 0)?;
+    show(&rt, "the largest m", &w900, 4294967295)
 }

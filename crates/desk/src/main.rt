@@ -1,63 +1,75 @@
 // The desk program: bracket text from standard input, or with `--card` a card's day record, and to standard output what is printed of its verdict, or with
 // `--spans` of its spans of weeks. It reads one byte more than an input may have, so that a longer one is seen.
-use libc::{STDERR_FILENO, STDIN_FILENO, STDOUT_FILENO};
+#![tactic(auto)]
+
 use recording::Filling;
+use std::env::FillError;
+use std::io::Read;
+use std::rt::Env;
 
 const ENOUGH: usize = desk_report::INPUT_BYTES + 1;
 
 // What was read: so many bytes in front of the buffer, or an error.
-#[derive(Drop)]
-enum Input {
+#[derive(Clone, Copy)]
+enum Given {
     Bytes(usize),
     Failed,
 }
 
 // Reads until the buffer is full, the input ends or a read fails.
-fn read_input(buffer: &mut [u8]) -> Input {
+fn read_input(source: &mut impl Read, buffer: &mut [u8]) -> Given {
     let mut done = 0;
     while done < buffer.len() {
-        let part = &mut buffer[done..];
-        let got = libc::read(STDIN_FILENO, part);
-        if got < 0 {
-            return Input::Failed;
+        match source.read(&mut buffer[done..]) {
+            Err(_) => return Given::Failed,
+            Ok(n) => {
+                if n == 0 {
+                    return Given::Bytes(done);
+                }
+                done += n;
+            }
         }
-        let n = io::count(got, part);
-        if n == 0 {
-            return Input::Bytes(done);
-        }
-        done += n;
     }
-    Input::Bytes(done)
+    Given::Bytes(done)
 }
 
-fn write_page(page: &[u8]) {
-    if !io::write_all(STDOUT_FILENO, page) {
-        io::write_all(STDERR_FILENO, b"desk: the answer cannot be written\n");
+fn write_page(rt: &(impl Print + Eprint), page: &[u8]) {
+    if rt.write_all(page).is_err() {
+        let _ = eprintln!(rt; "desk: the answer cannot be written");
     }
 }
 
 // What an argument says.
-#[derive(Drop)]
+#[derive(Clone, Copy)]
 enum Argument {
+    Missing,
     Card,
     Spans,
     Other,
 }
 
-fn said_at(i: usize) -> Argument {
-    let mut bytes = [0u8; 8];
-    let n = os::arg(i, &mut bytes);
-    if check::same(&bytes[..n], b"--card") {
+fn said(bytes: &[u8]) -> Argument {
+    if check::same(bytes, b"--card") {
         return Argument::Card;
     }
-    if check::same(&bytes[..n], b"--spans") {
+    if check::same(bytes, b"--spans") {
         return Argument::Spans;
     }
     Argument::Other
 }
 
+// One that is longer than any known argument is another.
+fn said_at(rt: &impl Env, i: usize) -> Argument {
+    let mut bytes = [0u8; 8];
+    match rt.arg(i, &mut bytes) {
+        Ok(n) => said(&bytes[..n]),
+        Err(FillError::TooLong) => Argument::Other,
+        Err(FillError::NotPresent) => Argument::Missing,
+    }
+}
+
 // What the arguments ask for: a card's day record in place of a text, the spans of weeks in place of the verdict; and whether all of them are known.
-#[derive(Drop)]
+#[derive(Clone, Copy)]
 struct Asked {
     card: bool,
     spans: bool,
@@ -65,9 +77,9 @@ struct Asked {
 }
 
 // The same with one argument more; the same one twice is not known.
-fn with(asked: Asked, i: usize) -> Asked {
-    let said = said_at(i);
+fn with(asked: Asked, said: Argument) -> Asked {
     match said {
+        Argument::Missing => asked,
         Argument::Card => Asked {
             card: true,
             spans: asked.spans,
@@ -86,21 +98,19 @@ fn with(asked: Asked, i: usize) -> Asked {
     }
 }
 
-fn what_is_asked() -> Asked {
-    let count = os::arg_count();
+// At most two arguments are known.
+fn what_is_asked(rt: &impl Env) -> Asked {
     let none = Asked {
         card: false,
         spans: false,
-        known: count < 4,
+        known: true,
     };
-    if count < 2 {
-        return none;
+    let one = with(none, said_at(rt, 1));
+    let two = with(one, said_at(rt, 2));
+    match said_at(rt, 3) {
+        Argument::Missing => two,
+        _ => with(two, Argument::Other),
     }
-    let one = with(none, 1);
-    if count < 3 {
-        return one;
-    }
-    with(one, 2)
 }
 
 fn print_verdict(card: bool, input: &[u8], page: &mut [u8]) -> Filling {
@@ -125,69 +135,68 @@ fn print(asked: Asked, input: &[u8], page: &mut [u8]) -> Filling {
 }
 
 // The answer by way of a lent page.
-fn answer_in(asked: Asked, input: &[u8], page: &mut [u8]) {
+fn answer_in(rt: &(impl Print + Eprint), asked: Asked, input: &[u8], page: &mut [u8]) {
     let printed = print(asked, input, page);
     match printed {
         Filling::Refused(_) => (),
         Filling::Written(n) => {
             let count = n as usize;
             if count <= page.len() {
-                write_page(&page[..count]);
+                write_page(rt, &page[..count]);
             }
         }
     }
 }
 
-fn answer_short(asked: Asked, input: &[u8]) {
+fn answer_short(rt: &(impl Print + Eprint), asked: Asked, input: &[u8]) {
     let mut page = [0u8; desk_report::SHORT_PAGE_BYTES];
-    answer_in(asked, input, &mut page);
+    answer_in(rt, asked, input, &mut page);
 }
 
-fn answer_middle(asked: Asked, input: &[u8]) {
+fn answer_middle(rt: &(impl Print + Eprint), asked: Asked, input: &[u8]) {
     let mut page = [0u8; desk_report::MIDDLE_PAGE_BYTES];
-    answer_in(asked, input, &mut page);
+    answer_in(rt, asked, input, &mut page);
 }
 
-fn answer_long(asked: Asked, input: &[u8]) {
+fn answer_long(rt: &(impl Print + Eprint), asked: Asked, input: &[u8]) {
     let mut page = [0u8; desk_report::PAGE_BYTES];
-    answer_in(asked, input, &mut page);
+    answer_in(rt, asked, input, &mut page);
 }
 
 // The same with the shortest page that is surely enough.
-fn answer(asked: Asked, input: &[u8]) {
+fn answer(rt: &(impl Print + Eprint), asked: Asked, input: &[u8]) {
     let enough = desk_report::page_room(asked.card, asked.spans, input.len());
     if enough <= desk_report::SHORT_PAGE_BYTES {
-        answer_short(asked, input);
+        answer_short(rt, asked, input);
     } else if enough <= desk_report::MIDDLE_PAGE_BYTES {
-        answer_middle(asked, input);
+        answer_middle(rt, asked, input);
     } else {
-        answer_long(asked, input);
+        answer_long(rt, asked, input);
     }
 }
 
-fn run(asked: Asked) {
+fn run(rt: &(impl Input + Print + Eprint), asked: Asked) {
     let mut buffer = [0u8; ENOUGH];
-    let input = read_input(&mut buffer);
+    let input = read_input(&mut rt.reader(), &mut buffer);
     match input {
-        Input::Bytes(n) => {
+        Given::Bytes(n) => {
             if n <= ENOUGH {
-                answer(asked, &buffer[..n]);
+                answer(rt, asked, &buffer[..n]);
             }
         }
-        Input::Failed => {
-            io::write_all(STDERR_FILENO, b"desk: standard input cannot be read\n");
+        Given::Failed => {
+            let _ = eprintln!(rt; "desk: standard input cannot be read");
         }
     }
 }
 
-fn main() {
-    let asked = what_is_asked();
+fn main(rt: HostRuntime) {
+    let asked = what_is_asked(&rt);
     if asked.known {
-        run(asked);
+        run(&rt, asked);
     } else {
-        io::write_all(
-            STDERR_FILENO,
-            b"desk: the arguments are --card, for a card's day record, and --spans, for the spans of weeks\n",
+        let _ = eprintln!(&rt;
+            "desk: the arguments are --card, for a card's day record, and --spans, for the spans of weeks"
         );
     }
 }

@@ -1,4 +1,6 @@
 // The lines that the desk program prints, each put at a place of a buffer. What is said of them stands in specs/.
+#![tactic(auto)]
+
 ghost use Rattle.std.specs.Prelude.{◌+◌, ◌≤◌, length};
 ghost use Rattle.text.specs.Passes.{Put, places, roomy};
 ghost use Rattle.desk_lines.specs.Lines.{spaced, numbered, span_text, daily_text, weekly_text, rest_text, article_text, breach_text, weeks_text};

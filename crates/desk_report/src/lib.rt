@@ -1,4 +1,6 @@
 // What the desk program prints, composed in a buffer. What is said of it stands in specs/.
+#![tactic(auto)]
+
 ghost use Rattle.std.specs.Prelude.{◌≡◌, true, false, List, ℕ, ◌+◌, ◌*◌, ◌≤◌, length};
 ghost use Rattle.recording.specs.Answers.{refused, counted, filled};
 ghost use Rattle.recording.specs.Words.{minutes_of};

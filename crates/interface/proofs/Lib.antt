@@ -1,3 +1,2 @@
 pub mod CodeLaws
-pub mod HandOn
 pub mod ReadBack

@@ -1,4 +1,6 @@
 // The operations for callers in C: numbers and slices of numbers or of records in, one number out.
+#![tactic(auto)]
+
 ghost use Rattle.std.specs.Prelude.{◌≡◌, ℕ, ◌<◌, length};
 ghost use Rattle.recording.specs.Answers.{answered, counted, filled};
 ghost use Rattle.recording.specs.Operations.{measured, listed, written};
@@ -75,8 +77,7 @@ pub fn verdict_code(j: Judgement) -> u64
 }
 
 // Weighing: a refusal's number; or ANSWER, N, 2^20 × S and 2^40 × k.
-#[unsafe(no_mangle)]
-pub extern "C" fn desk_weigh(words: &[u32]) -> u64
+pub fn desk_weigh(words: &[u32]) -> u64
     ensures { result ≡ code_of measure_value (measured words.now) }
 {
     let weighing = recording::weigh(words);
@@ -88,8 +89,7 @@ pub extern "C" fn desk_weigh(words: &[u32]) -> u64
 }
 
 // Listing long rests: a refusal's number; or ANSWER and their count.
-#[unsafe(no_mangle)]
-pub extern "C" fn desk_list(words: &[u32], list: &mut [Span]) -> u64
+pub fn desk_list(words: &[u32], list: &mut [Span]) -> u64
     ensures value { result ≡ code_of itself (counted (listed words.now (length list.old))) }
     ensures list_after { list.new ≡ filled (listed words.now (length list.old)) list.old }
 {
@@ -97,32 +97,28 @@ pub extern "C" fn desk_list(words: &[u32], list: &mut [Span]) -> u64
 }
 
 // Testing fixed rules for a stretch of m: a refusal's number; or ANSWER and the smallest broken rule, or 0.
-#[unsafe(no_mangle)]
-pub extern "C" fn desk_fixed_test(words: &[u32], m: u32) -> u64
+pub fn desk_fixed_test(words: &[u32], m: u32) -> u64
     ensures { result ≡ code_of itself (fixed_tested words.now m) }
 {
     rule_code(rules_fixed::fixed_test(words, m))
 }
 
 // The article test for a stretch of m: a refusal's number; or ANSWER and the place of the first broken article, or 0.
-#[unsafe(no_mangle)]
-pub extern "C" fn desk_article_test(words: &[u32], m: u32) -> u64
+pub fn desk_article_test(words: &[u32], m: u32) -> u64
     ensures { result ≡ code_of itself (article_tested words.now m) }
 {
     rule_code(rules_fixed::article_test(words, m))
 }
 
 // Testing a reading: a refusal's number; or ANSWER and the smallest broken rule, or 0.
-#[unsafe(no_mangle)]
-pub extern "C" fn desk_reading_test(words: &[u32], reading: &[u8]) -> u64
+pub fn desk_reading_test(words: &[u32], reading: &[u8]) -> u64
     ensures { result ≡ code_of itself (reading_tested words.now reading.now) }
 {
     rule_code(rules_reading::reading_test(words, reading))
 }
 
 // Entry of a reading: a refusal's number; or ANSWER and the place of its four bytes in the reading.
-#[unsafe(no_mangle)]
-pub extern "C" fn desk_entry(reading: &[u8], number: usize) -> u64
+pub fn desk_entry(reading: &[u8], number: usize) -> u64
     ensures { result ≡ entry_code reading.now number }
 {
     let part = rules_entries::entry(reading, number);
@@ -133,16 +129,14 @@ pub extern "C" fn desk_entry(reading: &[u8], number: usize) -> u64
 }
 
 // Its companion: 0, or the refusal's number.
-#[unsafe(no_mangle)]
-pub extern "C" fn desk_entry_refusal(reading: &[u8], number: usize) -> u64
+pub fn desk_entry_refusal(reading: &[u8], number: usize) -> u64
     ensures { result ≡ entry_refusal (entry_at reading.now number) }
 {
     rules_entries::entry_refusal(reading, number) as u64
 }
 
 // Reading text: a refusal's number; or ANSWER and the count of words.
-#[unsafe(no_mangle)]
-pub extern "C" fn desk_read_text(text: &[u8], words: &mut [u32]) -> u64
+pub fn desk_read_text(text: &[u8], words: &mut [u32]) -> u64
     ensures value { result ≡ code_of itself (counted (text_read text.now (length words.old))) }
     ensures words_after { words.new ≡ filled (text_read text.now (length words.old)) words.old }
 {
@@ -150,8 +144,7 @@ pub extern "C" fn desk_read_text(text: &[u8], words: &mut [u32]) -> u64
 }
 
 // Writing text: a refusal's number; or ANSWER and the text's length.
-#[unsafe(no_mangle)]
-pub extern "C" fn desk_write_text(words: &[u32], text: &mut [u8]) -> u64
+pub fn desk_write_text(words: &[u32], text: &mut [u8]) -> u64
     ensures value { result ≡ code_of itself (counted (text_written words.now (length text.old))) }
     ensures text_after { text.new ≡ filled (text_written words.now (length text.old)) text.old }
 {
@@ -159,8 +152,7 @@ pub extern "C" fn desk_write_text(words: &[u32], text: &mut [u8]) -> u64
 }
 
 // Reading a card's day record: a refusal's number; or ANSWER and the count of words.
-#[unsafe(no_mangle)]
-pub extern "C" fn desk_read_card(bytes: &[u8], words: &mut [u32]) -> u64
+pub fn desk_read_card(bytes: &[u8], words: &mut [u32]) -> u64
     ensures value { result ≡ code_of itself (counted (card_read bytes.now (length words.old))) }
     ensures words_after { words.new ≡ filled (card_read bytes.now (length words.old)) words.old }
 {
@@ -168,8 +160,7 @@ pub extern "C" fn desk_read_card(bytes: &[u8], words: &mut [u32]) -> u64
 }
 
 // Writing a card's day record: a refusal's number; or ANSWER and the count of bytes.
-#[unsafe(no_mangle)]
-pub extern "C" fn desk_write_card(words: &[u32], bytes: &mut [u8]) -> u64
+pub fn desk_write_card(words: &[u32], bytes: &mut [u8]) -> u64
     ensures value { result ≡ code_of itself (counted (card_written words.now (length bytes.old))) }
     ensures bytes_after { bytes.new ≡ filled (card_written words.now (length bytes.old)) bytes.old }
 {
@@ -177,16 +168,14 @@ pub extern "C" fn desk_write_card(words: &[u32], bytes: &mut [u8]) -> u64
 }
 
 // The verdict: a refusal's number; ANSWER for a pass; or 2 × ANSWER, 8 × the minute and the article of a breach.
-#[unsafe(no_mangle)]
-pub extern "C" fn desk_verdict(words: &[u32]) -> u64
+pub fn desk_verdict(words: &[u32]) -> u64
     ensures { result ≡ code_of finding_value (verdict_given words.now) }
 {
     verdict_code(verdict::verdict(words))
 }
 
 // The first lawful reading: a refusal's number; or ANSWER and the count of its bytes.
-#[unsafe(no_mangle)]
-pub extern "C" fn desk_first_reading(words: &[u32], reading: &mut [u8]) -> u64
+pub fn desk_first_reading(words: &[u32], reading: &mut [u8]) -> u64
     ensures value { result ≡ code_of itself (counted (first_reading_given words.now (length reading.old))) }
     ensures reading_after { reading.new ≡ filled (first_reading_given words.now (length reading.old)) reading.old }
 {
@@ -194,8 +183,7 @@ pub extern "C" fn desk_first_reading(words: &[u32], reading: &mut [u8]) -> u64
 }
 
 // A stored reading of three bytes an entry carried over to four: a refusal's number; or ANSWER and the count of bytes.
-#[unsafe(no_mangle)]
-pub extern "C" fn desk_widen_reading(old: &[u8], wide: &mut [u8]) -> u64
+pub fn desk_widen_reading(old: &[u8], wide: &mut [u8]) -> u64
     ensures value { result ≡ code_of itself (counted (reading_widened old.now (length wide.old))) }
     ensures wide_after { wide.new ≡ filled (reading_widened old.now (length wide.old)) wide.old }
 {
@@ -203,8 +191,7 @@ pub extern "C" fn desk_widen_reading(old: &[u8], wide: &mut [u8]) -> u64
 }
 
 // The same back: a refusal's number; or ANSWER and the count of bytes.
-#[unsafe(no_mangle)]
-pub extern "C" fn desk_narrow_reading(wide: &[u8], old: &mut [u8]) -> u64
+pub fn desk_narrow_reading(wide: &[u8], old: &mut [u8]) -> u64
     ensures value { result ≡ code_of itself (counted (reading_narrowed wide.now (length old.old))) }
     ensures after { old.new ≡ filled (reading_narrowed wide.now (length old.old)) old.old }
 {
@@ -212,8 +199,7 @@ pub extern "C" fn desk_narrow_reading(wide: &[u8], old: &mut [u8]) -> u64
 }
 
 // The spans of weeks that are a breach while no shorter span inside them is one: a refusal's number; or ANSWER and their count.
-#[unsafe(no_mangle)]
-pub extern "C" fn desk_breach_spans(words: &[u32], list: &mut [Weeks]) -> u64
+pub fn desk_breach_spans(words: &[u32], list: &mut [Weeks]) -> u64
     ensures value { result ≡ code_of itself (counted (spans_given words.now (length list.old))) }
     ensures list_after { list.new ≡ filled (spans_given words.now (length list.old)) list.old }
 {

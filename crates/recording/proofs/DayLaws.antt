@@ -79,27 +79,27 @@ unfolding days_from
 day_ends p s [] = refl
 day_ends p s (r ∷ rs) = ap (λ (l : List ℕ). r.start ∷ l) (day_ends r.end s rs)
 
-ends_on : (p : ℕ) {s from : ℕ} {rs : List Span} → Ordered s from rs → from ≤ s → (d : Span) → In d (days_from p s rs) → from ≤ d.end
+ends_on : {s : ℕ} (p : ℕ) {from : ℕ} {rs : List Span} → Ordered s from rs → from ≤ s → (d : Span) → In d (days_from p s rs) → from ≤ d.end
 unfolding days_from
-ends_on p {s} {from} none h d i = at (Memᴰ.cases_cons i)
+ends_on {s} p {from} none h d i = at (Memᴰ.cases_cons i)
   where
     at : (d ≡ record { start = p; end = s }) ⊎ In d [] → from ≤ d.end
     at (inl e) = rw e h
     at (inr j) = absurd (Memᴰ.not-nil j)
-ends_on p {s} {from} (next {r = r} {rs = rs} l n e o) h d i = at (Memᴰ.cases_cons i) (λ j. ends_on r.end o e d j)
+ends_on {s} p {from} (next {r = r} {rs = rs} l n e o) h d i = at (Memᴰ.cases_cons i) (λ j. ends_on r.end o e d j)
   where
     at : (d ≡ record { start = p; end = r.start }) ⊎ In d (days_from r.end s rs) → (In d (days_from r.end s rs) → suc r.end ≤ d.end) → from ≤ d.end
     at (inl q) ih = rw q l
     at (inr j) ih = omega (arith, ih j)
 
-day_starts : (p : ℕ) {s from : ℕ} {rs : List Span} → Ordered s from rs → (d : Span) → In d (days_from p s rs) → d.start ≡ latest_end_from p rs d.end
+day_starts : {s : ℕ} (p : ℕ) {from : ℕ} {rs : List Span} → Ordered s from rs → (d : Span) → In d (days_from p s rs) → d.start ≡ latest_end_from p rs d.end
 unfolding days_from latest_end_from
-day_starts p {s} none d i = at (Memᴰ.cases_cons i)
+day_starts {s} p none d i = at (Memᴰ.cases_cons i)
   where
     at : (d ≡ record { start = p; end = s }) ⊎ In d [] → d.start ≡ p
     at (inl e) = ap (λ (x : Span). x.start) e
     at (inr j) = absurd (Memᴰ.not-nil j)
-day_starts p {s} (next {r = r} {rs = rs} l n e o) d i = at (Memᴰ.cases_cons i) (λ j. day_starts r.end o d j)
+day_starts {s} p (next {r = r} {rs = rs} l n e o) d i = at (Memᴰ.cases_cons i) (λ j. day_starts r.end o d j)
   where
     at : (d ≡ record { start = p; end = r.start }) ⊎ In d (days_from r.end s rs)
         → (In d (days_from r.end s rs) → d.start ≡ latest_end_from r.end rs d.end)

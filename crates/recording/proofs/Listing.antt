@@ -17,7 +17,6 @@ use Rattle.recording.specs.declared.Weighing.TheVariants as weighing
 use Rattle.recording.specs.declared.Place.{Place}
 use Rattle.recording.specs.declared.Measure.{Measure}
 use Rattle.recording.specs.declared.Span.{Span}
-use Rattle.recording.specs.declared.Filling.TheVariants as filling
 use Rattle.recording.proofs.Slices.{put_in_front}
 use Rattle.recording.proofs.WordLaws.{total_is}
 use Rattle.recording.proofs.Scanning.{scan_end, scan_count}

@@ -1,4 +1,6 @@
 // A recording of a driver's activity, minute by minute. What is said of it stands in specs/.
+#![tactic(auto)]
+
 ghost use Rattle.std.specs.Prelude.{◌≡◌, ◌∷◌, ◌+◌, ◌≤◌, min, length, set};
 ghost use Rattle.recording.specs.Tests.{pick};
 ghost use Rattle.recording.specs.Words.{minutes_of};
@@ -7,14 +9,14 @@ ghost use Rattle.recording.specs.Scan.{totalled, fault_in, refusal_in, ends_rest
 
 // The minutes from `start` up to `end`, which is not included. Callers in C lend a list of them.
 #[repr(C)]
-#[derive(Drop)]
+#[derive(Clone, Copy)]
 pub struct Span {
     pub start: u32,
     pub end: u32,
 }
 
 // What weighing gives: the total N, the judged end S and the number k of long rests.
-#[derive(Drop)]
+#[derive(Clone, Copy)]
 pub struct Measure {
     pub total: u32,
     pub judged: u32,
@@ -22,21 +24,21 @@ pub struct Measure {
 }
 
 // What weighing answers.
-#[derive(Drop)]
+#[derive(Clone, Copy)]
 pub enum Weighing {
     Refused(u32),
     Weighed(Measure),
 }
 
 // What an operation answers that fills a lent buffer: a refusal, or the count of what it wrote.
-#[derive(Drop)]
+#[derive(Clone, Copy)]
 pub enum Filling {
     Refused(u32),
     Written(u32),
 }
 
 // The total of a recording, or the refusal of its first word at fault.
-#[derive(Drop)]
+#[derive(Clone, Copy)]
 pub enum Total {
     Refused(u32),
     Minutes(u32),
@@ -44,7 +46,7 @@ pub enum Total {
 
 // A place in the walk over a recording: the minute reached, where the rest under way started or one could start, and the long
 // rests that have ended.
-#[derive(Drop)]
+#[derive(Clone, Copy)]
 pub struct Place {
     pub now: u32,
     pub from: u32,

@@ -1,4 +1,6 @@
 // The long rests of a recording into a lent list of records. Only the last function takes the list, and it decides nothing.
+#![tactic(auto)]
+
 ghost use Rattle.std.specs.Prelude.{◌≡◌, length};
 ghost use Rattle.recording.specs.Answers.{counted, filled};
 ghost use Rattle.recording.specs.Operations.{listed, written};
@@ -8,7 +10,7 @@ use recording::{Filling, Place, Span, Weighing};
 
 // What a scan for a list found, and how far the listing has walked: the answer, how many records are to be written, none on a refusal, the index of the
 // next word, the place before it, and the long rest that ended last.
-#[derive(Drop)]
+#[derive(Clone, Copy)]
 pub struct Found {
     pub answer: Filling,
     pub count: usize,

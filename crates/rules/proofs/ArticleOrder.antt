@@ -63,6 +63,7 @@ rule_most b = place_most 0 (by_number b)
 
 -- ---- in either order 0 says that none of the five is broken
 none_in : (n : ℕ) (broken : List Bool) → first_from (suc n) broken ≡ 0 → (x : Bool) → In x broken → x ≡ false
+none_in n [] e x i = elim i [ ]
 none_in n (true ∷ later) e x i = absurd (omega arith)
 none_in n (false ∷ later) e x (here q) = q
 none_in n (false ∷ later) e x (there i) = none_in (suc n) later e x i

@@ -42,7 +42,7 @@ module _ (n p : ℕ) (earlier : List Entry) (r : Span) (rs : List Span) (fields 
   before_is m (inl q) later ih = rw (q, lt-leb r.end r.start m) refl
   before_is m (inr j) later ih = rw (le-leb r.end e.span.start (omega (arith, later j))) (ih j)
 
-starts_after : (n p : ℕ) (earlier : List Entry) (fields : List ℕ) {to from : ℕ} {rs : List Span} → Ordered to from rs
+starts_after : {to : ℕ} (n p : ℕ) (earlier : List Entry) (fields : List ℕ) {from : ℕ} {rs : List Span} → Ordered to from rs
     → (e : Entry) → In e (entries_from n p earlier rs fields) → from ≤ e.span.start
 unfolding entries_from
 starts_after n p earlier fields none e i = absurd (Memᴰ.not-nil i)
@@ -50,7 +50,7 @@ starts_after n p earlier fields (next {r = r} {rs = rs} l m d o) e i =
     starts_on n p earlier r rs fields e l (omega arith) (Memᴰ.cases_cons i)
     (λ j. starts_after (suc n) r.end (entry_of n p earlier r fields ∷ earlier) (drop entry_fields fields) o e j)
 
-before-from : (n p : ℕ) (earlier : List Entry) (fields : List ℕ) {to from : ℕ} {rs : List Span} → Ordered to from rs
+before-from : {to : ℕ} (n p : ℕ) (earlier : List Entry) (fields : List ℕ) {from : ℕ} {rs : List Span} → Ordered to from rs
     → (e : Entry) → In e (entries_from n p earlier rs fields) → e.before ≡ latest_end_from p rs e.span.start
 unfolding entries_from latest_end_from
 before-from n p earlier fields none e i = absurd (Memᴰ.not-nil i)

@@ -31,10 +31,10 @@ module _ (n p : ℕ) (earlier : List Entry) (fields : List ℕ) (to : ℕ) (r : 
       let a = k.1 in
       (suc k.0, record { within = omega (arith, a.within); number = omega (arith, a.number); ordered = a.ordered; over = a.over; before = a.before; start = a.start; end = a.end })
 
-pub entry_at : (n p : ℕ) (earlier : List Entry) (fields : List ℕ) {to from : ℕ} {rs : List Span} → Ordered to from rs → (e : Entry) → In e (entries_from n p earlier rs fields)
+pub entry_at : {to : ℕ} (n p : ℕ) (earlier : List Entry) (fields : List ℕ) {from : ℕ} {rs : List Span} → Ordered to from rs → (e : Entry) → In e (entries_from n p earlier rs fields)
     → (i : ℕ) × EntryAt to n p rs i e
 unfolding entries_from
 entry_at n p earlier fields none e i = absurd (Memᴰ.not-nil i)
-entry_at n p earlier fields {to = to} (next {r = r} {rs = rs} l m d o) e i =
+entry_at {to = to} n p earlier fields (next {r = r} {rs = rs} l m d o) e i =
     this_or_later n p earlier fields to r rs e (omega arith) d (Memᴰ.cases_cons i)
     (λ j. entry_at (suc n) r.end (entry_of n p earlier r fields ∷ earlier) (drop entry_fields fields) o e j)

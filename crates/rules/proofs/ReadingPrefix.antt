@@ -13,7 +13,7 @@ use lib.Seq.{take-append-le}
 use borrow.Author.Tests.{leb-true, leb-false, le-leb, ltb-true, lt-ltb, eqb-true, eqb-false, ne_eqb}
 use Rattle.recording.specs.Tests.{◌and◌, ◌or◌, pick, one, all_of, count_of}
 use Rattle.recording.specs.Rests.{judged_end, closed_rests}
-use Rattle.recording.specs.Weeks.{week_start, week, is_rest, touches, rest_only}
+use Rattle.recording.specs.Weeks.{week_start, is_rest, touches, rest_only}
 use Rattle.recording.specs.declared.Span.{Span}
 use Rattle.recording.proofs.TestLaws.{and_left, and_right, and_both, or_cases, or_left, or_right, or_else, is_false, below_at, at_below}
 use Rattle.recording.proofs.LongRests.{Ordered, none, next}
@@ -73,7 +73,7 @@ pub data Starts (s : ℕ) : List Entry → Type 0 where
   nil : Starts s []
   cons : {e : Entry} {es : List Entry} → s ≤ e.span.start → Starts s es → Starts s (e ∷ es)
 
-starts : (s n p : ℕ) (earlier : List Entry) (fields : List ℕ) {to from : ℕ} {qs : List Span} → s ≤ from → Ordered to from qs → Starts s (entries_from n p earlier qs fields)
+starts : {to : ℕ} (s n p : ℕ) (earlier : List Entry) (fields : List ℕ) {from : ℕ} {qs : List Span} → s ≤ from → Ordered to from qs → Starts s (entries_from n p earlier qs fields)
 unfolding entries_from
 starts s n p earlier fields h none = nil
 starts s n p earlier fields h (next {r = r} l m e o) =
@@ -192,7 +192,7 @@ counts_cut k xs ys e h =
 first9 : (g : Entry → Bool) (n : ℕ) (es fs : List Entry) → rule9_from g n (es ++ fs) ≡ true → rule9_from g n es ≡ true
 unfolding rule9_from
 first9 g n [] fs t = refl
-first9 g n (e ∷ es) fs t = and_both _ _ (and_left _ _ t) (first9 g _ es fs (and_right _ _ t))
+first9 g n (e ∷ es) fs t = and_both _ _ (and_left _ _ t) (first9 g (pick (is_weekly (as_read e)) 0 (n + one (g e))) es fs (and_right _ _ t))
 
 cut9 : (f : Entry → Bool) (k n : ℕ) (es : List Entry) → rule9_from f n (map (cut k) es) ≡ rule9_from (λ e. f (cut k e)) n es
 unfolding rule9_from as_read
@@ -223,7 +223,7 @@ gap_past q s' s h (cons {e = e} {es = fs} l f) t =
 pub prefix10 : (k q s' s : ℕ) (es : List Entry) {fs : List Entry} → s' ≤ s → Starts s' fs → rule10_from q s (es ++ fs) ≡ true → rule10_from q s' (map (cut k) es) ≡ true
 unfolding rule10_from as_read
 prefix10 k q s' s [] h f t = gap_past q s' s h f t
-prefix10 k q s' s (e ∷ es) h f t = and_both _ _ (and_left _ _ t) (prefix10 k _ s' s es h f (and_right _ _ t))
+prefix10 k q s' s (e ∷ es) h f t = and_both _ _ (and_left _ _ t) (prefix10 k (pick (is_weekly (as_read e)) e.span.end q) s' s es h f (and_right _ _ t))
 
 -- ---- rule 11
 pub rest_only_prefix : (xs ys : List ℕ) (w : ℕ) → week_start (w + 1) ≤ length xs → rest_only xs w ≡ rest_only (xs ++ ys) w

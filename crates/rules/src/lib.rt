@@ -1,7 +1,8 @@
 // The rules of driving times and rests, and readings of a recording. What is said of them stands in specs/.
+#![tactic(auto)]
 
 // The driving sum of rule 1, and whether a split break has begun.
-#[derive(Drop)]
+#[derive(Clone, Copy)]
 pub struct Accumulated {
     pub sum: u32,
     pub split: bool,
@@ -9,7 +10,7 @@ pub struct Accumulated {
 
 // Which of the fixed rules are broken, in the regulation's order: a day's driving, 6(1), a week's, 6(2), and a fortnight's, 6(3), the breaks
 // of article 7, and the daily rests of 8(2).
-#[derive(Drop)]
+#[derive(Clone, Copy)]
 pub struct Breaches {
     pub daily: bool,
     pub weekly: bool,
@@ -19,14 +20,14 @@ pub struct Breaches {
 }
 
 // What a weekly rest is: regular, or reduced by so many minutes.
-#[derive(Drop)]
+#[derive(Clone, Copy)]
 pub enum Standing {
     Regular,
     Reduced(u32),
 }
 
 // What a reading takes a long rest for.
-#[derive(Drop)]
+#[derive(Clone, Copy)]
 pub enum Kind {
     Daily,
     Weekly(Standing),
@@ -34,7 +35,7 @@ pub enum Kind {
 
 // A span of consecutive weeks: its first and its last, from 0. Callers in C lend a list of them.
 #[repr(C)]
-#[derive(Drop)]
+#[derive(Clone, Copy)]
 pub struct Weeks {
     pub first: u32,
     pub last: u32,

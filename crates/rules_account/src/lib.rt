@@ -1,4 +1,6 @@
 // The account of the fixed rules, run by run, in the regulation's order: articles 6(1), 6(2), 6(3), 7, 8(2), which are rules 2, 3, 4, 1 and 5.
+#![tactic(auto)]
+
 ghost use Rattle.std.specs.Prelude.{◌≡◌, ◌+◌, ◌<◌, ◌≤◌};
 ghost use Rattle.recording.specs.Operations.{total_at_most};
 ghost use Rattle.rules_limits.specs.Account.{opening};

@@ -1,4 +1,6 @@
 // The entry of a reading: the four bytes of a long rest, in the caller's own slice.
+#![tactic(auto)]
+
 ghost use Rattle.std.specs.Prelude.{◌≡◌, ◌+◌, ◌*◌, ◌<◌, length};
 ghost use Rattle.rules.specs.Operations.{entry_at, EntryInReading, entry_part, entry_refusal};
 ghost use Rattle.rules.specs.Order.{carrier_values};

@@ -107,7 +107,7 @@ net_most split p start end h = at (leb (start + needed_portion split) (p + daily
     at true false = omega arith
     at false split = omega arith
 
-most_from : (closed : List Span) (p : ℕ) {to from : ℕ} {rs : List Span} → Ordered to from rs → to ≤ total_at_most → (i : ℕ) → i < length rs
+most_from : {to : ℕ} (closed : List Span) (p : ℕ) {from : ℕ} {rs : List Span} → Ordered to from rs → to ≤ total_at_most → (i : ℕ) → i < length rs
     → get_or (nets_from closed p rs) i 0 ≤ net_at_most
 unfolding nets_from
 most_from closed p none h i l = absurd (omega arith)

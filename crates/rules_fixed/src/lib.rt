@@ -1,5 +1,7 @@
 // The fixed rules in one walk over a recording, in the regulation's order: articles 6(1), 6(2), 6(3), 7, 8(2), which are rules 2, 3, 4, 1 and 5;
 // and what the later rules ask of its long rests.
+#![tactic(auto)]
+
 ghost use Rattle.std.specs.Prelude.{◌≡◌, ◌∷◌, ◌≤◌, length, take};
 ghost use Rattle.recording.specs.Words.{minutes_of};
 ghost use Rattle.recording.specs.Operations.{total_at_most};
@@ -12,14 +14,14 @@ use recording::{Place, Weighing};
 use rules_limits::Account;
 
 // What is found of a recording: the place at its end, with the long rests' count, and the account.
-#[derive(Drop)]
+#[derive(Clone, Copy)]
 pub struct Survey {
     pub place: Place,
     pub account: Account,
 }
 
 // What the tests answer.
-#[derive(Drop)]
+#[derive(Clone, Copy)]
 pub enum Tested {
     Refused(u32),
     Answer(u32),

@@ -53,6 +53,6 @@ formed_carried k x e l s t z n =
 pub kind_is : (x : Item) {r : LongRest} {m : Kind} → r ≡ rest_by x → r.kind ≡ m → as_read (entry_by x) ≡ m
 kind_is x e q = sym (ap (λ (r : LongRest). r.kind) e) ∙ q
 
-pub added_to_suc : (compensations : List ℕ) (c d : ℕ) → (c ≡ 0 → ⊥) → added_to compensations c d ≡ set compensations (c - 1) (get_or compensations (c - 1) 0 + d)
-added_to_suc compensations zero d h = absurd (h refl)
-added_to_suc compensations (suc c) d h = let e : c ≡ suc c - 1 = omega arith in ap (λ (n : ℕ). set compensations n (get_or compensations n 0 + d)) e
+pub added_to-suc : (compensations : List ℕ) (c d : ℕ) → (c ≡ 0 → ⊥) → added_to compensations c d ≡ set compensations (c - 1) (get_or compensations (c - 1) 0 + d)
+added_to-suc compensations zero d h = absurd (h refl)
+added_to-suc compensations (suc c) d h = let e : c ≡ suc c - 1 = omega arith in ap (λ (n : ℕ). set compensations n (get_or compensations n 0 + d)) e

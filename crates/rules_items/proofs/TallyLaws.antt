@@ -150,9 +150,9 @@ same_suc c j = at (eqb c j) refl
     at true e = sym (eq-eqb (suc c) (suc j) (ap suc (eqb-true c j e)))
     at false e = sym (ne_eqb (suc c) (suc j) (λ q. eqb-false c j e (omega arith)))
 
-pub added_to_at : (compensations : List ℕ) (c d j : ℕ) → j < length compensations → get_or (added_to compensations c d) j 0 ≡ pick (eqb c (suc j)) d 0 + get_or compensations j 0
-added_to_at compensations zero d j h = rw (ne_eqb 0 (suc j) (λ q. omega arith)) (omega arith)
-added_to_at compensations (suc c) d j h = set_at compensations c d j h ∙ ap (λ (b : Bool). pick b d 0 + get_or compensations j 0) (same_suc c j)
+pub added_to-at : (compensations : List ℕ) (c d j : ℕ) → j < length compensations → get_or (added_to compensations c d) j 0 ≡ pick (eqb c (suc j)) d 0 + get_or compensations j 0
+added_to-at compensations zero d j h = rw (ne_eqb 0 (suc j) (λ q. omega arith)) (omega arith)
+added_to-at compensations (suc c) d j h = set_at compensations c d j h ∙ ap (λ (b : Bool). pick b d 0 + get_or compensations j 0) (same_suc c j)
 
 pub added_to-length : (compensations : List ℕ) (c d : ℕ) → length (added_to compensations c d) ≡ length compensations
 added_to-length compensations zero d = refl
@@ -162,11 +162,11 @@ pick_le : (b : Bool) (d n : ℕ) → d ≤ n → pick b d 0 ≤ n
 pick_le true d n h = h
 pick_le false d n h = omega arith
 
-pub added_to_below : (compensations : List ℕ) (c d n m : ℕ) → ((i : ℕ) → get_or compensations i 0 ≤ n) → d ≤ m → (i : ℕ) → get_or (added_to compensations c d) i 0 ≤ n + m
-added_to_below compensations c d n m f h i = at (less_or_not i (length compensations))
+pub added_to-below : (compensations : List ℕ) (c d n m : ℕ) → ((i : ℕ) → get_or compensations i 0 ≤ n) → d ≤ m → (i : ℕ) → get_or (added_to compensations c d) i 0 ≤ n + m
+added_to-below compensations c d n m f h i = at (less_or_not i (length compensations))
   where
     at : (i < length compensations) ⊎ (length compensations ≤ i) → get_or (added_to compensations c d) i 0 ≤ n + m
-    at (inl l) = omega (arith, added_to_at compensations c d i l, f i, pick_le (eqb c (suc i)) d m h)
+    at (inl l) = omega (arith, added_to-at compensations c d i l, f i, pick_le (eqb c (suc i)) d m h)
     at (inr l) = omega (arith, get_or-eq_default (added_to compensations c d) 0 {n = i} (rw (added_to-length compensations c d) l))
 
 pub incremented_at : (b : Bool) (counts : List ℕ) (w v : ℕ) → v < length counts → get_or (incremented b counts w) v 0 ≡ one (b and eqb w v) + get_or counts v 0
@@ -190,9 +190,9 @@ incremented_below b counts w n f i = at (less_or_not i (length counts))
     at (inr l) = omega (arith, get_or-eq_default (incremented b counts w) 0 {n = i} (rw (incremented-length b counts w) l))
 
 -- ---- a rest that is long enough is reduced by no more than a regular one has
-pub is_outstanding_little : (e : Entry) → leb (least_net (as_read e) + e.compensation) (minutes e) ≡ true → reduction_of (as_read e) ≤ regular_minutes
+pub is_outstanding-little : (e : Entry) → leb (least_net (as_read e) + e.compensation) (minutes e) ≡ true → reduction_of (as_read e) ≤ regular_minutes
 unfolding as_read
-is_outstanding_little e t = at (eqb e.kind weekly_kind) (ltb (minutes e) (regular_minutes + e.compensation)) t
+is_outstanding-little e t = at (eqb e.kind weekly_kind) (ltb (minutes e) (regular_minutes + e.compensation)) t
   where
     at : (a b : Bool) → leb (least_net (kind_of a (standing_of b (regular_minutes + e.compensation - minutes e))) + e.compensation) (minutes e) ≡ true
         → reduction_of (kind_of a (standing_of b (regular_minutes + e.compensation - minutes e))) ≤ regular_minutes

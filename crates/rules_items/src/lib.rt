@@ -1,4 +1,6 @@
 // A reading's entries as items, one by one: what rules 6 to 11 ask of each, and of each week and pair of weeks.
+#![tactic(auto)]
+
 ghost use Rattle.std.specs.Prelude.{◌≡◌, ◌+◌, ◌*◌, ◌<◌, ◌≤◌, not, length, get_or, leb};
 ghost use Rattle.recording.specs.Tests.{pick, ◌or◌};
 ghost use Rattle.recording.specs.Weeks.{week_start, week, inside};
@@ -15,7 +17,7 @@ use rules::{Kind, Standing};
 
 // A long rest with its entry: its number from 1, the end of the long rest before it or 0, its start and end, the least net length
 // at which it is no shortened daily rest, its entry's fields, and the compensation that it gives, the document's load.
-#[derive(Drop)]
+#[derive(Clone, Copy)]
 pub struct Item {
     pub number: u32,
     pub before: u32,
@@ -29,7 +31,7 @@ pub struct Item {
 }
 
 // A long rest as a reading takes it.
-#[derive(Drop)]
+#[derive(Clone, Copy)]
 pub struct LongRest {
     pub start: u32,
     pub end: u32,
@@ -38,7 +40,7 @@ pub struct LongRest {
 
 // What the walk over the rests keeps for rules 8 to 10: the smallest broken rule or 0, the shortened daily rests since the last
 // weekly rest, and where that ended.
-#[derive(Drop)]
+#[derive(Clone, Copy)]
 pub struct Tally {
     pub rule: u32,
     pub short: u32,
@@ -46,7 +48,7 @@ pub struct Tally {
 }
 
 // What the walk over the rests finds: one that breaks rule 7, or that all are through.
-#[derive(Drop)]
+#[derive(Clone, Copy)]
 pub enum Walk {
     TooShort,
     AllThrough(Tally),

@@ -49,20 +49,20 @@ pub record Past (to last : ℕ) (d : Span) : Type 0 where
   pub starts : d.start ≤ d.end
   pub before : d.start ≤ last
 
-last_from : (p : ℕ) {to from : ℕ} {rs : List Span} → Ordered to from rs → p ≤ from → p ≤ last_end p rs
+last_from : {to : ℕ} (p : ℕ) {from : ℕ} {rs : List Span} → Ordered to from rs → p ≤ from → p ≤ last_end p rs
 unfolding last_end
 last_from p none h = le_refl _
 last_from p (next {r = r} l n e o) h = omega (arith, last_from r.end o (omega arith))
 
-last_to : (p : ℕ) {to from : ℕ} {rs : List Span} → Ordered to from rs → p ≤ to → last_end p rs ≤ to
+last_to : {to : ℕ} (p : ℕ) {from : ℕ} {rs : List Span} → Ordered to from rs → p ≤ to → last_end p rs ≤ to
 unfolding last_end
 last_to p none h = h
 last_to p (next {r = r} l n e o) h = last_to r.end o (omega arith)
 
-done_past : (p : ℕ) {to from : ℕ} {rs : List Span} → Ordered to from rs → p ≤ from → (d : Span) → In d (done_days p rs) → Past to (last_end p rs) d
+done_past : {to : ℕ} (p : ℕ) {from : ℕ} {rs : List Span} → Ordered to from rs → p ≤ from → (d : Span) → In d (done_days p rs) → Past to (last_end p rs) d
 unfolding done_days last_end
 done_past p none h d i = absurd (Memᴰ.not-nil i)
-done_past p {to} (next {r = r} {rs = rs} l n e o) h d i = at (Memᴰ.cases_cons i) (λ j. done_past r.end o (omega arith) d j)
+done_past {to} p (next {r = r} {rs = rs} l n e o) h d i = at (Memᴰ.cases_cons i) (λ j. done_past r.end o (omega arith) d j)
   where
     at : (d ≡ span p r.start) ⊎ In d (done_days r.end rs) → (In d (done_days r.end rs) → Past to (last_end r.end rs) d) → Past to (last_end r.end rs) d
     at (inl q) later = rw q (record { ends = omega arith; starts = omega arith; before = omega (arith, last_from r.end o (omega arith)) })

@@ -1,5 +1,7 @@
 // The limits of articles 6(1), 6(2), 6(3), 7 and 8(2), which are rules 2, 3, 4, 1 and 5: what a part of a run adds to the account of each rule, and what
 // it breaks.
+#![tactic(auto)]
+
 ghost use Rattle.std.specs.Prelude.{◌≡◌, [], ◌∷◌, ◌+◌, ◌≤◌};
 ghost use Rattle.recording.specs.Operations.{total_at_most};
 ghost use Rattle.rules.specs.Broken.{first_place};
@@ -10,7 +12,7 @@ ghost use Rattle.rules_limits.specs.Parts.{driving_of, day_more, week_more, accu
 use rules::{Accumulated, Breaches};
 
 // The day that runs: its start P, its driving, and how many days that began in its week were extended.
-#[derive(Drop)]
+#[derive(Clone, Copy)]
 pub struct Day {
     pub start: u32,
     pub driving: u32,
@@ -18,7 +20,7 @@ pub struct Day {
 }
 
 // The week that runs: its end, its driving, and the driving of the week before.
-#[derive(Drop)]
+#[derive(Clone, Copy)]
 pub struct Week {
     pub end: u32,
     pub driving: u32,
@@ -26,7 +28,7 @@ pub struct Week {
 }
 
 // The first breach: the length of the shortest stretch that breaks a fixed rule, and that rule; rule 0 where there is none.
-#[derive(Drop)]
+#[derive(Clone, Copy)]
 pub struct Break {
     pub at: u32,
     pub rule: u32,
@@ -34,7 +36,7 @@ pub struct Break {
 
 // The account of a stretch: the minute reached, where the rest under way started or one could start, the account of each rule,
 // which rules are broken, and the first breach.
-#[derive(Drop)]
+#[derive(Clone, Copy)]
 pub struct Account {
     pub now: u32,
     pub from: u32,
@@ -46,14 +48,14 @@ pub struct Account {
 }
 
 // Which rules are broken, and the first breach.
-#[derive(Drop)]
+#[derive(Clone, Copy)]
 pub struct Breached {
     pub broken: Breaches,
     pub first: Break,
 }
 
 // A part of a run: its minutes, and the account after it.
-#[derive(Drop)]
+#[derive(Clone, Copy)]
 pub struct Part {
     pub minutes: u32,
     pub account: Account,

@@ -1,4 +1,6 @@
 // Stored readings of three bytes an entry, carried over to the form of four bytes and back. What is said of it stands in specs/.
+#![tactic(auto)]
+
 ghost use Rattle.std.specs.Prelude.{◌≡◌, [], ◌∷◌, ◌+◌, ◌<◌, ltb, length};
 ghost use Rattle.std.proofs.lemmas.List.Edits.{sets};
 ghost use Rattle.recording.specs.Tests.{◌or◌, pick};
@@ -12,7 +14,7 @@ ghost use Rattle.rules_moves.specs.Passes.{place_values, low_bytes};
 use rules_entries::ENTRY_BYTES;
 
 // What a move answers: a refusal, or the count of the bytes written. A lent slice can have more bytes than 32 bits count.
-#[derive(Drop)]
+#[derive(Clone, Copy)]
 pub enum Moved {
     Refused(u32),
     Written(usize),

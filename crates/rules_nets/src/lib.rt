@@ -1,4 +1,6 @@
 // What rule 9 asks of each long rest: the least net length at which it is no shortened daily rest, by the day that it ends.
+#![tactic(auto)]
+
 ghost use Rattle.std.specs.Prelude.{◌≡◌, ◌∷◌, ◌≤◌, length};
 ghost use Rattle.std.proofs.lemmas.List.Edits.{sets};
 ghost use Rattle.recording.specs.Tests.{pick};
@@ -10,7 +12,7 @@ ghost use Rattle.rules_nets.specs.Nets.{regular_net, span_of, nets_of, fresh_day
 use recording::Place;
 
 // The day that runs, as rule 9 asks of it: its start P, and whether it has held a rest of 180 to 539 minutes.
-#[derive(Drop)]
+#[derive(Clone, Copy)]
 pub struct OpenDay {
     pub start: u32,
     pub held: bool,

@@ -21,7 +21,7 @@ use Rattle.rules.proofs.FieldLaws.{entry_fields_lem}
 use Rattle.rules_nets.specs.Nets.{counts_by}
 use Rattle.rules_items.specs.declared.LongRest.{LongRest}
 use Rattle.rules_items.specs.declared.Tally.{Tally}
-use Rattle.rules_items.proofs.TallyLaws.{test_next, end_of_spans, added_to_at, added_to-length, added_to_below, incremented_at, incremented-length, incremented_below, is_outstanding_little}
+use Rattle.rules_items.proofs.TallyLaws.{test_next, end_of_spans, added_to-at, added_to-length, added_to-below, incremented_at, incremented-length, incremented_below, is_outstanding-little}
 use Rattle.rules_items.specs.Items.{entry_by, end_before, item_at, compensation_at_most, Sane, rest_by, enough_by, end_at, Below, short_by, short_after, tally_by, added_to, incremented, span_at}
 use Rattle.rules_items.specs.Items.{spans_from, spans_in, Laid, Zeros, test_from, fresh_tally, Through}
 
@@ -174,9 +174,9 @@ last_on short s end t e h l = at (is_weekly (as_read e))
     at true = h
     at false = l
 
-is_outstanding_here : (e : Entry) {d : ℕ} → long_enough e ≡ true → d ≡ reduction_of (as_read e) → d ≤ regular_minutes
+is_outstanding-here : (e : Entry) {d : ℕ} → long_enough e ≡ true → d ≡ reduction_of (as_read e) → d ≤ regular_minutes
 unfolding long_enough
-is_outstanding_here e t q = rw q (is_outstanding_little e t)
+is_outstanding-here e t q = rw q (is_outstanding-little e t)
 
 -- ---- rules 7 to 10 and the counts: what the walk keeps at index i
 module _ (starts ends nets reading : List ℕ) (k s : ℕ) where
@@ -287,7 +287,7 @@ module _ (starts ends nets reading : List ℕ) (k s : ℕ) where
         let carried : x.carrier ≡ this.compensated_by = ap (λ (y : Entry). y.compensated_by) here_item in
         let long : long_enough this ≡ true = sym (enough_here b (qb ∙ ap (λ (y : LongRest). enough_by y (get_or compensations i 0)) qr)) ∙ eb in
         let is_outstanding : d ≡ reduction_of (as_read this) = qd ∙ ap reduction_of kind in
-        let little : d ≤ regular_minutes = is_outstanding_here this long is_outstanding in
+        let little : d ≤ regular_minutes = is_outstanding-here this long is_outstanding in
         let size : length compensations' ≡ length compensations = ap length ql ∙ added_to-length compensations x.carrier d in
         record {
           earlier = this ∷ w.earlier;
@@ -303,9 +303,9 @@ module _ (starts ends nets reading : List ℕ) (k s : ℕ) where
             numbered = w.laid.numbered;
           };
           outstanding = λ j g l.
-              ap (λ (y : List ℕ). get_or y j 0) ql ∙ added_to_at compensations x.carrier d j (omega (arith, w.laid.compensations_in))
+              ap (λ (y : List ℕ). get_or y j 0) ql ∙ added_to-at compensations x.carrier d j (omega (arith, w.laid.compensations_in))
               ∙ ap₂ ◌+◌ (ap₂ (λ (c e : ℕ). pick (eqb c (suc j)) e 0) carried is_outstanding) (w.outstanding j (omega arith) l);
-          below = λ j. let z = added_to_below compensations x.carrier d (regular_minutes * i) regular_minutes w.below little j in omega (arith, ap (λ (y : List ℕ). get_or y j 0) ql);
+          below = λ j. let z = added_to-below compensations x.carrier d (regular_minutes * i) regular_minutes w.below little j in omega (arith, ap (λ (y : List ℕ). get_or y j 0) ql);
           seven = w.seven ∙ ap (all_of long_enough) next ∙ rw long refl;
           tally =
               w.tally ∙ ap (test_from (counts_by nets) s (spans_in starts ends k) t) next
@@ -328,7 +328,7 @@ module _ (starts ends nets reading : List ℕ) (k s : ℕ) where
     compensate_room {r} {b} qr qb eb qd =
         let kind : r.kind ≡ as_read this = ap (λ (y : LongRest). y.kind) qr ∙ ap as_read here_item in
         let long : long_enough this ≡ true = sym (enough_here b (qb ∙ ap (λ (y : LongRest). enough_by y (get_or compensations i 0)) qr)) ∙ eb in
-        (le_trans (is_outstanding_here this long (qd ∙ ap reduction_of kind)) (omega arith), λ j. omega (arith, w.below j, w.laid.few))
+        (le_trans (is_outstanding-here this long (qd ∙ ap reduction_of kind)) (omega arith), λ j. omega (arith, w.below j, w.laid.few))
 
   pub walk_through : {i : ℕ} {t : Tally} {compensations weekly regular : List ℕ} → Walking i t compensations weekly regular → k ≤ i → i ≤ k
       → Through (counts_by nets) s (spans_in starts ends k) (entries (spans_in starts ends k) (fields_in reading)) t weekly regular

@@ -1,4 +1,6 @@
 // The reading test.
+#![tactic(auto)]
+
 ghost use Rattle.std.specs.Prelude.{◌≡◌, ◌*◌, ◌≤◌, length};
 ghost use Rattle.recording.specs.Answers.{answered};
 ghost use Rattle.recording.specs.Operations.{total_at_most, measured};

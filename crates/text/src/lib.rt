@@ -1,4 +1,6 @@
 // Bracket text: reading it into words, and writing words as text. What is said of it stands in specs/ and in crates/text_lines/specs.
+#![tactic(auto)]
+
 ghost use Rattle.std.specs.Prelude.{◌≡◌, [], ◌+◌, ◌≤◌, ◌<◌, eqb, length};
 ghost use Rattle.std.proofs.lemmas.List.Edits.{sets};
 ghost use Rattle.recording.specs.Tests.{pick};
@@ -13,14 +15,14 @@ ghost use Rattle.text.specs.Passes.{Judged, Put, places, roomy, InFront, part_li
 use recording::{Filling, Weighing};
 
 // What the first pass over a text finds: whether it is of the form, and its run lines.
-#[derive(Drop)]
+#[derive(Clone, Copy)]
 pub struct Judgement {
     pub formed: bool,
     pub runs: usize,
 }
 
 // The words in front that have one activity: how many, and their minutes.
-#[derive(Drop)]
+#[derive(Clone, Copy)]
 pub struct Ahead {
     pub words: usize,
     pub minutes: u32,

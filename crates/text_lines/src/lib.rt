@@ -1,5 +1,7 @@
 // The lines of bracket text: what a line is, where the reader stands after it, and reading line by line. What is said of them stands in
 // specs/.
+#![tactic(auto)]
+
 ghost use Rattle.std.specs.Prelude.{◌≡◌, ◌≤◌, ◌<◌, length};
 ghost use Rattle.std.proofs.lemmas.List.Edits.{sets};
 ghost use Rattle.recording.specs.Words.{activities, word_of};
@@ -8,7 +10,7 @@ ghost use Rattle.text_lines.specs.Reading.{number_from, number_after, line_of, o
 ghost use Rattle.text_lines.specs.LineByLine.{line_length, FirstLine, begun, LineRead};
 
 // A line of the text; a run with its word.
-#[derive(Drop)]
+#[derive(Clone, Copy)]
 pub enum Line {
     Recording,
     Week,
@@ -19,7 +21,7 @@ pub enum Line {
 
 // Where the reader stands. Between and within weeks: the minutes that the last week can still take, and the weeks that may
 // still follow.
-#[derive(Drop)]
+#[derive(Clone, Copy)]
 pub enum Stage {
     Before,
     Between(u32, u32),
@@ -29,7 +31,7 @@ pub enum Stage {
 }
 
 // The first line of a text, and how far the next one lies.
-#[derive(Drop)]
+#[derive(Clone, Copy)]
 pub struct Found {
     pub line: Line,
     pub next: usize,
@@ -37,7 +39,7 @@ pub struct Found {
 
 // What reading carries from line to line: whether a line is left, and its place; where the reader stands; the line read last, and
 // the place of its word; and the run lines so far.
-#[derive(Drop)]
+#[derive(Clone, Copy)]
 pub struct Progress {
     pub going: bool,
     pub next: usize,

@@ -1,12 +1,14 @@
 // The text reader: few functions over a struct that holds the lent text, and one above them with plain parameters, which serves every
 // caller. What is said of them stands in crates/text_lines/specs.
+#![tactic(auto)]
+
 ghost use Rattle.std.specs.Prelude.{◌≡◌, ◌≤◌, ◌<◌, length};
 ghost use Rattle.text_lines.specs.LineByLine.{LineRead, Through};
 
 use text_lines::Progress;
 
 // The lent text, and the place of the next line.
-#[derive(Drop)]
+#[derive(Clone, Copy)]
 pub struct Reader<'a> {
     pub text: &'a [u8],
     pub at: usize,

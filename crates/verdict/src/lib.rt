@@ -1,4 +1,6 @@
 // Two operations on a recording: the verdict, a pass or a breach with its minute and article; and its first lawful reading.
+#![tactic(auto)]
+
 ghost use Rattle.std.specs.Prelude.{◌≡◌, ◌∷◌, ◌≤◌, length};
 ghost use Rattle.recording.specs.Words.{minutes_of};
 ghost use Rattle.recording.specs.Answers.{answered, counted, filled};

@@ -1,4 +1,6 @@
 // The breach of a recording without a lawful reading: its minute, searched day by day over the long rests, and its article.
+#![tactic(auto)]
+
 ghost use Rattle.std.specs.Prelude.{◌≡◌, ◌∷◌, ℕ, ◌+◌, ◌≤◌, ◌<◌, length};
 ghost use Rattle.recording.specs.Scan.{short_rests};
 ghost use Rattle.recording.specs.Words.{minutes_of};
@@ -16,14 +18,14 @@ use rules_limits::Break;
 use verdict_sweep::Swept;
 
 // A breach: the length of the shortest stretch without a lawful reading, and its article, 1 to 6.
-#[derive(Drop)]
+#[derive(Clone, Copy)]
 pub struct Breach {
     pub minute: u32,
     pub article: u32,
 }
 
 // The long rests of a recording: how many, its judged end, the smallest fixed rule that it breaks, or 0, and the first such breach.
-#[derive(Drop)]
+#[derive(Clone, Copy)]
 pub struct Rests {
     pub count: usize,
     pub judged: u32,

@@ -172,9 +172,9 @@ before_best c lies j {st} inside e =
     }))
 
 module _ (c : Course) (j : ℕ) where
-  added_to_low : Limited c → (x : ℕ) → x ≤ count c → Room c j x → (i : ℕ) → at (added_to c.compensations x (reduction_at c j)) i ≤ total_at_most
-  added_to_low s zero l r i = s.compensations_low i
-  added_to_low s (suc y) l r i = by (less_or_not y i)
+  added_to-low : Limited c → (x : ℕ) → x ≤ count c → Room c j x → (i : ℕ) → at (added_to c.compensations x (reduction_at c j)) i ≤ total_at_most
+  added_to-low s zero l r i = s.compensations_low i
+  added_to-low s (suc y) l r i = by (less_or_not y i)
     where
       v : ℕ
       v = at c.compensations y + reduction_at c j
@@ -202,7 +202,7 @@ module _ (c : Course) (j : ℕ) where
     outstanding_too = added_to-length c.compensations x (reduction_at c j) ∙ s.compensations_too;
     few = s.few;
     judged = s.judged;
-    compensations_low = added_to_low s x l r;
+    compensations_low = added_to-low s x l r;
   }
 
   -- what can be gone on with has room

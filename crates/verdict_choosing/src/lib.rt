@@ -1,4 +1,6 @@
 // The first reading, entry by entry: which entry of a rest is the first that can be gone on with.
+#![tactic(auto)]
+
 ghost use Rattle.std.specs.Prelude.{◌≡◌, true, ◌⊎◌, ◌+◌, ◌-◌, ◌<◌, ◌≤◌};
 ghost use Rattle.recording.specs.Weeks.{week_start};
 ghost use Rattle.rules.specs.Reading.{regular_minutes};
@@ -9,7 +11,7 @@ ghost use Rattle.rules_items.specs.Items.{compensation_at_most};
 ghost use Rattle.verdict_completion.specs.Completable.{at, count, length_at};
 ghost use Rattle.verdict_completion.specs.Better.{AtRest};
 ghost use Rattle.verdict_steps.specs.Steps.{Says};
-ghost use Rattle.verdict_search.specs.Search.{course_now, course_at, Sound, Lent, Before};
+ghost use Rattle.verdict_search.specs.Search.{course_of, Sound, Lent, Before};
 ghost use Rattle.verdict_merging.specs.Merging.{FindsIf};
 ghost use Rattle.verdict_choosing.specs.Choices.{CanBeRead, CanBeDaily, CanBeWeekly, FirstWeekly, FirstOf, Limited, Room, Carries, CanHave};
 
@@ -17,7 +19,7 @@ use rules::Kind;
 use verdict_completion::{Brought, State};
 
 // A week in which a weekly rest is counted, and the number of its carrier: 0, or a later rest, or past all rests where there is no choice.
-#[derive(Drop)]
+#[derive(Clone, Copy)]
 pub struct Choice {
     pub week: u32,
     pub carrier: usize,
@@ -48,10 +50,10 @@ pub fn can_be_daily(
     j: usize,
     here: State,
 ) -> bool
-    requires { let c = course_now starts ends nets compensations s in
+    requires { let c = course_of starts.now ends.now nets.now compensations.old s in
         Lent c outstanding.old × AtRest c j here × (least_net Daily + at compensations.old j ≤ length_at c j) × Sound c nogoods.old }
-    ensures { let c = course_at starts ends nets compensations s in FindsIf c (CanBeRead c j here outstanding.old)
-        (CanBeDaily c j here outstanding.old) result outstanding nogoods
+    ensures { let c = course_of starts.now ends.now nets.now compensations.old s in FindsIf c (CanBeRead c j here outstanding.old)
+        (CanBeDaily c j here outstanding.old) result outstanding.old outstanding.new nogoods.new
         × (compensations.new ≡ compensations.old) }
 {
     let short = verdict_steps::is_short(ends[j] - starts[j], nets[j], compensations[j]);
@@ -90,8 +92,8 @@ fn carries(
     w: u32,
     x: usize,
 ) -> bool
-    requires { let c = course_now starts ends nets compensations s in Limited c × (j < count c) × (week_start w < at ends.now j) × (x ≤ count c) × (0 < x → j + 1 < x) }
-    ensures { let c = course_at starts ends nets compensations s in Says (Carries c j w x) result }
+    requires { let c = course_of starts.now ends.now nets.now compensations.now s in Limited c × (j < count c) × (week_start w < at ends.now j) × (x ≤ count c) × (0 < x → j + 1 < x) }
+    ensures { let c = course_of starts.now ends.now nets.now compensations.now s in Says (Carries c j w x) result }
 {
     let deadline = recording::WEEK_MINUTES * (w + rules_items::WEEKS_TO_COMPENSATE);
     let less = lacking(ends[j] - starts[j], compensations[j]);
@@ -130,10 +132,10 @@ fn can_have(
     next: State,
     x: usize,
 ) -> bool
-    requires { let c = course_now starts ends nets compensations s in Lent c outstanding.old × AtRest c j here × Before c (j + 1) next × (week_start w < at ends.now j)
+    requires { let c = course_of starts.now ends.now nets.now compensations.old s in Lent c outstanding.old × AtRest c j here × Before c (j + 1) next × (week_start w < at ends.now j)
         × (x ≤ count c) × (0 < x → j + 1 < x) × Sound c nogoods.old }
-    ensures { let c = course_at starts ends nets compensations s in FindsIf c (CanBeRead c j here outstanding.old)
-        (CanHave c j w next outstanding.old x) result outstanding nogoods
+    ensures { let c = course_of starts.now ends.now nets.now compensations.old s in FindsIf c (CanBeRead c j here outstanding.old)
+        (CanHave c j w next outstanding.old x) result outstanding.old outstanding.new nogoods.new
         × (result ≡ true → Room c j x) × (compensations.new ≡ compensations.old) }
 {
     if !carries(starts, ends, nets, compensations, s, j, w, x) {
@@ -189,9 +191,9 @@ fn first_carrier(
     w: u32,
     next: State,
 ) -> usize
-    requires { let c = course_now starts ends nets compensations s in
+    requires { let c = course_of starts.now ends.now nets.now compensations.old s in
         Lent c outstanding.old × AtRest c j here × Before c (j + 1) next × (week_start w < at ends.now j) × Sound c nogoods.old }
-    ensures { let c = course_at starts ends nets compensations s in FirstOf (CanBeRead c j here outstanding.old) (CanHave c j w next outstanding.old) (Room c j)
+    ensures { let c = course_of starts.now ends.now nets.now compensations.old s in FirstOf (CanBeRead c j here outstanding.old) (CanHave c j w next outstanding.old) (Room c j)
         (count c) result
         × (outstanding.new ≡ outstanding.old) × (compensations.new ≡ compensations.old) × Sound c nogoods.new }
 {
@@ -239,9 +241,9 @@ fn carrier_in(
     here: State,
     w: u32,
 ) -> usize
-    requires { let c = course_now starts ends nets compensations s in Lent c outstanding.old × AtRest c j here × (least_net (Weekly Regular) + at compensations.old j ≤ length_at c j)
+    requires { let c = course_of starts.now ends.now nets.now compensations.old s in Lent c outstanding.old × AtRest c j here × (least_net (Weekly Regular) + at compensations.old j ≤ length_at c j)
         × (at starts.now j < week_start (w + 1)) × (week_start w < at ends.now j) × Sound c nogoods.old }
-    ensures { let c = course_at starts ends nets compensations s in
+    ensures { let c = course_of starts.now ends.now nets.now compensations.old s in
         FirstOf (CanBeRead c j here outstanding.old) (CanBeWeekly c j here outstanding.old w) (Room c j) (count c) result
         × (outstanding.new ≡ outstanding.old) × (compensations.new ≡ compensations.old) × Sound c nogoods.new }
 {
@@ -286,9 +288,9 @@ pub fn first_weekly(
     j: usize,
     here: State,
 ) -> Choice
-    requires { let c = course_now starts ends nets compensations s in
+    requires { let c = course_of starts.now ends.now nets.now compensations.old s in
         Lent c outstanding.old × AtRest c j here × (least_net (Weekly Regular) + at compensations.old j ≤ length_at c j) × Sound c nogoods.old }
-    ensures { let c = course_at starts ends nets compensations s in FirstWeekly c j here outstanding.old result.week result.carrier
+    ensures { let c = course_of starts.now ends.now nets.now compensations.old s in FirstWeekly c j here outstanding.old result.week result.carrier
         × (outstanding.new ≡ outstanding.old) × (compensations.new ≡ compensations.old) × Sound c nogoods.new }
 {
     let end = ends[j];

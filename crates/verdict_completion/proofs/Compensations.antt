@@ -217,9 +217,9 @@ module _ (F : ℕ → List ℕ → Type 0) (minutes number total : ℕ) (carrier
     beyond = λ x a. l.beyond x (omega arith);
   }
 
-  left_added_to : {m i : ℕ} {outstanding left : List ℕ} → 0 < at outstanding i → carrier i ≡ number → Left number carrier m (i + 1) (set outstanding i 0) left → Left number carrier
+  left-added_to : {m i : ℕ} {outstanding left : List ℕ} → 0 < at outstanding i → carrier i ≡ number → Left number carrier m (i + 1) (set outstanding i 0) left → Left number carrier
       (suc m) i outstanding left
-  left_added_to {m} {i} {outstanding} {left} h c l = record {
+  left-added_to {m} {i} {outstanding} {left} h c l = record {
     size = l.size ∙ length-set outstanding i 0;
     gone = λ x a b e. ⊎_elim
         (λ r. l.gone x (omega arith) (omega arith) e)
@@ -263,4 +263,4 @@ module _ (F : ℕ → List ℕ → Type 0) (minutes number total : ℕ) (carrier
           let s : share number (carrier i) (at outstanding i) ≡ amount_of (at outstanding i) = share_here number (carrier i) (at outstanding i) c in
           let r : brought number carrier (set outstanding i 0) m (i + 1) ≡ brought number carrier outstanding m (i + 1) =
           brought_same number carrier carrier (set outstanding i 0) outstanding m (i + 1) (λ x a b. ap (share number (carrier x)) (set_other outstanding i x 0 (λ q. omega arith))) in
-          inl (h, omega arith, compensate (omega arith) (λ left l. k left (left_added_to h c l)))
+          inl (h, omega arith, compensate (omega arith) (λ left l. k left (left-added_to h c l)))

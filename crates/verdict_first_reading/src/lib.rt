@@ -1,4 +1,6 @@
 // The first lawful reading of long rests, entry by entry: for each rest the first entry with which the later rests can still be read.
+#![tactic(auto)]
+
 ghost use Rattle.std.specs.Prelude.{◌≡◌, List, ℕ, suc, ◌+◌, ◌*◌, ◌<◌, ◌≤◌, length};
 ghost use Rattle.recording.specs.Scan.{short_rests};
 ghost use Rattle.recording.specs.Rests.{long_rests_at_most};
@@ -7,7 +9,7 @@ ghost use Rattle.rules.specs.Reading.{entry_bytes, bytes_of};
 ghost use Rattle.rules_items.specs.Items.{added_to, Zeros};
 ghost use Rattle.verdict_completion.specs.Completable.{at, count, Lies};
 ghost use Rattle.verdict_completion.specs.Better.{AtRest};
-ghost use Rattle.verdict_search.specs.Search.{course_now, course_at, with_compensations, Sound, Lent, Before};
+ghost use Rattle.verdict_search.specs.Search.{course_of, with_compensations, Sound, Lent, Before};
 ghost use Rattle.verdict_choosing.specs.First.{Least, rests_only};
 ghost use Rattle.verdict_choosing.specs.Choices.{Renewed, Limited, Fits, PutDaily, PutWeekly, Stepped};
 
@@ -40,8 +42,8 @@ fn put_daily(
     j: usize,
     here: State,
 ) -> State
-    requires { let c = course_now starts ends nets compensations s in Limited c × AtRest c j here × (length reading.old ≡ entry_bytes * count c) }
-    ensures { let c = course_at starts ends nets compensations s in PutDaily c j here reading.old reading.new result }
+    requires { let c = course_of starts.now ends.now nets.now compensations.now s in Limited c × AtRest c j here × (length reading.old ≡ entry_bytes * count c) }
+    ensures { let c = course_of starts.now ends.now nets.now compensations.now s in PutDaily c j here reading.old reading.new result }
 {
     rules_entries::put_entry(reading, j, DAILY_KIND, 0, 0);
     let short = verdict_steps::is_short(ends[j] - starts[j], nets[j], compensations[j]);
@@ -65,8 +67,8 @@ fn put_weekly(
     w: u32,
     x: usize,
 ) -> State
-    requires { let c = course_now starts ends nets compensations s in Limited c × AtRest c j here × (length reading.old ≡ entry_bytes * count c) × (x ≤ count c → Fits c j w x) }
-    ensures { let c = course_at starts ends nets compensations s in let d = with_compensations c compensations.new in
+    requires { let c = course_of starts.now ends.now nets.now compensations.old s in Limited c × AtRest c j here × (length reading.old ≡ entry_bytes * count c) × (x ≤ count c → Fits c j w x) }
+    ensures { let c = course_of starts.now ends.now nets.now compensations.old s in let d = with_compensations c compensations.new in
         PutWeekly c d j here w x reading.old reading.new result }
 {
     if starts.len() < x {
@@ -120,9 +122,9 @@ fn place(
     j: usize,
     st: State,
 ) -> State
-    requires { let c = course_now starts ends nets compensations s in
+    requires { let c = course_of starts.now ends.now nets.now compensations.old s in
         Lent c outstanding.old × Zeros outstanding.old × Before c j st × (j < count c) × (length reading.old ≡ entry_bytes * count c) × Sound c nogoods.old }
-    ensures { let c = course_at starts ends nets compensations s in let d = with_compensations c compensations.new in
+    ensures { let c = course_of starts.now ends.now nets.now compensations.old s in let d = with_compensations c compensations.new in
         Stepped c d j st outstanding.old outstanding.new nogoods.new reading.old reading.new result }
 {
     let Brought::To(here) = verdict_steps::advance(
@@ -200,7 +202,7 @@ fn write_entries(
     beside: &mut [u32],
     reading: &mut [u8],
 )
-    requires { let c = course_now starts ends nets compensations s in
+    requires { let c = course_of starts.now ends.now nets.now compensations.old s in
         Lent c outstanding.old × Zeros compensations.old × Zeros outstanding.old × (length reading.old ≡ entry_bytes * count c) × Sound c nogoods.old }
     ensures { let c = rests_only starts.now ends.now nets.now s in
         (f : List ℕ) → Least c f → reading.new ≡ bytes_of f }

@@ -1,5 +1,7 @@
 // Fronts: the states before a rest that no other makes needless, in one lent slice. An entry has the words of one in the table of nogoods; its week
 // is that in which the rest starts. The first n entries are in use; the slice may have any length, and holds as many as it has room for.
+#![tactic(auto)]
+
 ghost use Rattle.std.specs.Prelude.{◌≡◌, true, ◌+◌, ◌<◌, ◌≤◌, length};
 ghost use Rattle.rules_items.specs.Items.{Zeros};
 ghost use Rattle.verdict_nogoods.specs.Table.{reductions_at_most, entry_words, reductions_of};
@@ -9,7 +11,7 @@ use verdict_completion::{Counts, State};
 use verdict_nogoods::{ENTRY_WORDS, REDUCTION_AT, REDUCTIONS_AT, REDUCTIONS_AT_MOST};
 
 // How many entries are in use after a state was put into a front, and whether it found its place there or needs none.
-#[derive(Drop)]
+#[derive(Clone, Copy)]
 pub struct Grown {
     pub n: usize,
     pub fits: bool,

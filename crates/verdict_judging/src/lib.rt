@@ -1,4 +1,6 @@
 // The verdict on a recording from its long rests, with room for them that the caller lends.
+#![tactic(auto)]
+
 ghost use Rattle.std.specs.Prelude.{◌≡◌, ◌∷◌, ◌≤◌, length};
 ghost use Rattle.recording.specs.Words.{minutes_of};
 ghost use Rattle.recording.specs.Answers.{answered};
@@ -11,7 +13,7 @@ ghost use Rattle.verdict_breach.specs.Verdicts.{Roomy, Whole};
 use verdict_breach::{Breach, Rests};
 
 // What the verdict answers.
-#[derive(Drop)]
+#[derive(Clone, Copy)]
 pub enum Judgement {
     Refused(u32),
     Passed,

@@ -94,23 +94,23 @@ module _ (c : Course) (compensations : List ℕ) where
   }
 
 -- ---- a compensation tried
-pub added_to_none : (p : List ℕ) (x d : ℕ) → x ≡ 0 → added_to p x d ≡ p
-added_to_none p x d e = ap (λ (y : ℕ). added_to p y d) e
+pub added_to-none : (p : List ℕ) (x d : ℕ) → x ≡ 0 → added_to p x d ≡ p
+added_to-none p x d e = ap (λ (y : ℕ). added_to p y d) e
 
-pub added_to_some : (p : List ℕ) (x d : ℕ) → (x ≡ 0 → ⊥) → added_to p x d ≡ set p (x - 1) (at p (x - 1) + d)
-added_to_some p zero d n = absurd (n refl)
-added_to_some p (suc i) d n = let e : i ≡ suc i - 1 = omega arith in ap (λ (y : ℕ). set p y (at p y + d)) e
+pub added_to-some : (p : List ℕ) (x d : ℕ) → (x ≡ 0 → ⊥) → added_to p x d ≡ set p (x - 1) (at p (x - 1) + d)
+added_to-some p zero d n = absurd (n refl)
+added_to-some p (suc i) d n = let e : i ≡ suc i - 1 = omega arith in ap (λ (y : ℕ). set p y (at p y + d)) e
 
-pub added_to_fits : (p : List ℕ) (x d most : ℕ) → (x ≡ 0 → ⊥) → x ≤ length p → ((i : ℕ) → at (added_to p x d) i ≤ most) → at p (x - 1) + d ≤ most
-added_to_fits p zero d most n l h = absurd (n refl)
-added_to_fits p (suc i) d most n l h =
+pub added_to-fits : (p : List ℕ) (x d most : ℕ) → (x ≡ 0 → ⊥) → x ≤ length p → ((i : ℕ) → at (added_to p x d) i ≤ most) → at p (x - 1) + d ≤ most
+added_to-fits p zero d most n l h = absurd (n refl)
+added_to-fits p (suc i) d most n l h =
     let e : i ≡ suc i - 1 = omega arith in
     subst (λ (y : ℕ). at p y + d ≤ most) e (omega (arith, h i, get_or-set_same p i (at p i + d) 0 (omega arith)))
 
 -- the compensations of the rests from that of index x on are as they were
-pub added_to_later : (p : List ℕ) (x d i : ℕ) → x ≤ i → at (added_to p x d) i ≡ at p i
-added_to_later p zero d i l = refl
-added_to_later p (suc x) d i l = get_or-set_other p x i (at p x + d) 0 (λ e. omega arith)
+pub added_to-later : (p : List ℕ) (x d i : ℕ) → x ≤ i → at (added_to p x d) i ≡ at p i
+added_to-later p zero d i l = refl
+added_to-later p (suc x) d i l = get_or-set_other p x i (at p x + d) 0 (λ e. omega arith)
 
 -- the word is put back
 pub put_back : {p q : List ℕ} (i a : ℕ) → q ≡ set p i a → set q i (at p i) ≡ p

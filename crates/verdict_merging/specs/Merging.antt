@@ -3,7 +3,7 @@
 use Rattle.std.specs.Prelude.{◌≡◌, Bool, true, false, List, ℕ, ◌-◌, ◌<◌}
 use Rattle.verdict_completion.specs.declared.State.{State}
 use Rattle.verdict_completion.specs.Completable.{Course, count, Completable}
-use Rattle.verdict_search.specs.Search.{Loan, Sound}
+use Rattle.verdict_search.specs.Search.{Sound}
 use Rattle.verdict_search.specs.Leading.{Any, Front}
 use Rattle.verdict_search.specs.declared.Went.{Went}
 use Rattle.verdict_sweep.specs.Sweep.{Passed}
@@ -22,9 +22,9 @@ pub record FoundIf (R P : Type 0) (r : Bool) (outstanding outstanding' : List �
   pub same : outstanding' ≡ outstanding
   pub sound : S
 
--- the same, where the reductions and the nogoods are lent
-abbrev pub FindsIf : Course → Type 0 → Type 0 → Bool → Loan → Loan → Type 0
-FindsIf c R P r outstanding nogoods = FoundIf R P r outstanding.entry.now outstanding.exit.now (Sound c nogoods.exit.now)
+-- the same, where the reductions and the nogoods are lent: what is outstanding before and after, and the nogoods after
+abbrev pub FindsIf : Course → Type 0 → Type 0 → Bool → List ℕ → List ℕ → List ℕ → Type 0
+FindsIf c R P r outstanding outstanding' nogoods' = FoundIf R P r outstanding outstanding' (Sound c nogoods')
 
 -- one of the first g entries is known to be good; where there is none, nothing is known
 abbrev pub Trusted : Course → ℕ → List ℕ → ℕ → Type 0
@@ -41,11 +41,11 @@ pub record Beside (P H A H' : Type 0) (r : Bool) (S W Y : Type 0) : Type 0 where
   pub well : W
   pub beside : Y
 
--- the same of two fronts before the rest of index j, and two before that of index i
-abbrev pub Besides : Course → ℕ → Loan → ℕ → Loan → ℕ → ℕ → Loan → Loan → Loan → Both → Type 0
-Besides c j front f known g i next beside nogoods r =
-    Beside (Any c j front.entry.now f) (Trusted c j known.entry.now g) (Any c i next.exit.now r.n) (Trusted c i beside.exit.now r.g) r.yes
-    (Sound c nogoods.exit.now) (Front c i next.exit.now r.n) (Front c i beside.exit.now r.g)
+-- the same of two fronts before the rest of index j, and two before that of index i: the latter and the nogoods as they are after
+abbrev pub Besides : Course → ℕ → List ℕ → ℕ → List ℕ → ℕ → ℕ → List ℕ → List ℕ → List ℕ → Both → Type 0
+Besides c j front f known g i next' beside' nogoods' r =
+    Beside (Any c j front f) (Trusted c j known g) (Any c i next' r.n) (Trusted c i beside' r.g) r.yes
+    (Sound c nogoods') (Front c i next' r.n) (Front c i beside' r.g)
 
 -- H is known where R holds; what is outstanding is as it was
 pub record Knows (R H : Type 0) (outstanding outstanding' : List ℕ) (S W : Type 0) : Type 0 where
@@ -59,8 +59,8 @@ pub record Reached (P A : Type 0) (r : Bool) (outstanding outstanding' : List �
   pub passed : Passed P A r S W
   pub same : outstanding' ≡ outstanding
 
--- the same of a state before the rest of index j, led to the front before that of index i, where they are lent
-abbrev pub Reaches : Course → Course → ℕ → State → ℕ → Loan → Loan → Loan → Went → Type 0
-Reaches c d j st i front outstanding nogoods r =
-    Reached (Completable d (count d - j) j st outstanding.entry.now) (Any d i front.exit.now r.n) r.yes outstanding.entry.now outstanding.exit.now
-    (Sound c nogoods.exit.now) (Front d i front.exit.now r.n)
+-- the same of a state before the rest of index j, led to the front before that of index i, where they are lent: the front after, what is outstanding
+-- before and after, and the nogoods after
+abbrev pub Reaches : Course → Course → ℕ → State → ℕ → List ℕ → List ℕ → List ℕ → List ℕ → Went → Type 0
+Reaches c d j st i front' outstanding outstanding' nogoods' r =
+    Reached (Completable d (count d - j) j st outstanding) (Any d i front' r.n) r.yes outstanding outstanding' (Sound c nogoods') (Front d i front' r.n)

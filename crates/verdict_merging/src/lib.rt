@@ -1,10 +1,12 @@
 // A question of the first reading, swept beside a front that is known to lead to a reading. It ends where each state of that front is matched by one of
 // the question's.
+#![tactic(auto)]
+
 ghost use Rattle.std.specs.Prelude.{◌≡◌, true, ◌+◌, ◌-◌, ◌*◌, ◌<◌, ◌≤◌, length};
 ghost use Rattle.recording.specs.Scan.{short_rests};
 ghost use Rattle.verdict_completion.specs.Completable.{count, Tries};
 ghost use Rattle.verdict_completion.specs.Better.{AtRest};
-ghost use Rattle.verdict_search.specs.Search.{course_now, course_at, compensating, Later, Sound, Sized, Lent, Before};
+ghost use Rattle.verdict_search.specs.Search.{course_of, compensating, Later, Sound, Sized, Lent, Before};
 ghost use Rattle.verdict_search.specs.Leading.{Any, Front};
 ghost use Rattle.verdict_merging.specs.Merging.{FindsIf, ToldIf, Trusted, Besides, Knows, Reaches};
 
@@ -12,7 +14,7 @@ use verdict_completion::State;
 use verdict_search::Went;
 
 // Whether a question was answered yes; how many states its next front has; and how many the known one has, 0 where nothing is known of that.
-#[derive(Drop)]
+#[derive(Clone, Copy)]
 pub struct Both {
     pub yes: bool,
     pub n: usize,
@@ -36,8 +38,8 @@ fn beside_rest(
     f: usize,
     g: usize,
 ) -> Both
-    requires { let c = course_now starts ends nets compensations s in Sized c outstanding.old × Sound c nogoods.old × (j < count c) × Front c j front.now f × Front c j known.now g }
-    ensures { let c = course_at starts ends nets compensations s in Besides c j front f known g (j + 1) next beside nogoods result }
+    requires { let c = course_of starts.now ends.now nets.now compensations.now s in Sized c outstanding.old × Sound c nogoods.old × (j < count c) × Front c j front.now f × Front c j known.now g }
+    ensures { let c = course_of starts.now ends.now nets.now compensations.now s in Besides c j front.now f known.now g (j + 1) next.new beside.new nogoods.new result }
 {
     let went = verdict_sweep::sweep_rest(
         starts,
@@ -124,8 +126,8 @@ fn beside_two(
     f: usize,
     g: usize,
 ) -> Both
-    requires { let c = course_now starts ends nets compensations s in Sized c outstanding.old × Sound c nogoods.old × (j < count c) × Front c j front.old f × Front c j known.old g }
-    ensures { let c = course_at starts ends nets compensations s in Besides c j front f known g (j + 2) front known nogoods result }
+    requires { let c = course_of starts.now ends.now nets.now compensations.now s in Sized c outstanding.old × Sound c nogoods.old × (j < count c) × Front c j front.old f × Front c j known.old g }
+    ensures { let c = course_of starts.now ends.now nets.now compensations.now s in Besides c j front.old f known.old g (j + 2) front.new known.new nogoods.new result }
 {
     let there = beside_rest(
         starts,
@@ -208,9 +210,9 @@ fn merge_on(
     f: usize,
     g: usize,
 ) -> bool
-    requires { let c = course_now starts ends nets compensations s in
+    requires { let c = course_of starts.now ends.now nets.now compensations.now s in
         Sized c outstanding.old × Sound c nogoods.old × (j ≤ count c + 1) × Front c j front.old f × Front c j known.old g }
-    ensures { let c = course_at starts ends nets compensations s in
+    ensures { let c = course_of starts.now ends.now nets.now compensations.now s in
         ToldIf (Trusted c j known.old g) (Any c j front.old f) result (Sound c nogoods.new) }
 {
     if verdict_fronts::all_matched(known, g, front, f) {
@@ -279,8 +281,8 @@ fn ask_to(
     st: State,
     p: usize,
 ) -> Went
-    requires { let c = course_now starts ends nets compensations s in Lent c outstanding.old × Sized c slots.old × Sound c nogoods.old × Before c j st × (j + 2 * p ≤ count c + 1) }
-    ensures { let c = course_at starts ends nets compensations s in Reaches c c j st (j + 2 * p) front outstanding nogoods result }
+    requires { let c = course_of starts.now ends.now nets.now compensations.now s in Lent c outstanding.old × Sized c slots.old × Sound c nogoods.old × Before c j st × (j + 2 * p ≤ count c + 1) }
+    ensures { let c = course_of starts.now ends.now nets.now compensations.now s in Reaches c c j st (j + 2 * p) front.new outstanding.old outstanding.new nogoods.new result }
 {
     let went = verdict_search::step(
         starts,
@@ -332,9 +334,9 @@ fn known_to(
     here: State,
     p: usize,
 ) -> usize
-    requires { let c = course_now starts ends nets compensations s in
+    requires { let c = course_of starts.now ends.now nets.now compensations.now s in
         Lent c outstanding.old × Sized c slots.old × Sound c nogoods.old × AtRest c j here × (j + 1 + 2 * p ≤ count c + 1) }
-    ensures { let c = course_at starts ends nets compensations s in Knows (Tries c (Later c j) j here outstanding.old) (Trusted c (j + 1 + 2 * p) known.new result)
+    ensures { let c = course_of starts.now ends.now nets.now compensations.now s in Knows (Tries c (Later c j) j here outstanding.old) (Trusted c (j + 1 + 2 * p) known.new result)
         outstanding.old outstanding.new (Sound c nogoods.new) (Front c (j + 1 + 2 * p) known.new result) }
 {
     let first = verdict_search::place(
@@ -408,10 +410,10 @@ fn try_to(
     x: usize,
     less: u32,
 ) -> Went
-    requires { let c = course_now starts ends nets compensations s in let d = compensating c x less in
+    requires { let c = course_of starts.now ends.now nets.now compensations.old s in let d = compensating c x less in
         Sized c slots.old × Lent d outstanding.old × Sized d slots.old × Sound c nogoods.old × Before d j st × (j + 2 * p ≤ count c + 1) × (x ≤ count c) }
-    ensures { let c = course_at starts ends nets compensations s in let d = compensating c x less in
-        Reaches c d j st (j + 2 * p) front outstanding nogoods result
+    ensures { let c = course_of starts.now ends.now nets.now compensations.old s in let d = compensating c x less in
+        Reaches c d j st (j + 2 * p) front.new outstanding.old outstanding.new nogoods.new result
         × (compensations.new ≡ compensations.old) }
 {
     if x == 0 {
@@ -474,9 +476,9 @@ fn try_on(
     x: usize,
     less: u32,
 ) -> bool
-    requires { let c = course_now starts ends nets compensations s in let d = compensating c x less in
+    requires { let c = course_of starts.now ends.now nets.now compensations.old s in let d = compensating c x less in
         Sized c slots.old × Sized d slots.old × Sound c nogoods.old × (j ≤ count c + 1) × (x ≤ count c) × Front d j front.old f × Front d j known.old g }
-    ensures { let c = course_at starts ends nets compensations s in let d = compensating c x less in
+    ensures { let c = course_of starts.now ends.now nets.now compensations.old s in let d = compensating c x less in
         ToldIf (Trusted d j known.old g) (Any d j front.old f) result (Sound c nogoods.new)
         × (compensations.new ≡ compensations.old) }
 {
@@ -543,10 +545,10 @@ fn asks_beside(
     x: usize,
     less: u32,
 ) -> bool
-    requires { let c = course_now starts ends nets compensations s in let d = compensating c x less in
+    requires { let c = course_of starts.now ends.now nets.now compensations.old s in let d = compensating c x less in
         Lent c outstanding.old × Lent d outstanding.old × Sized c slots.old × Sized d slots.old × AtRest c j here × Before d (j + 1) next × (x ≤ count c) × Sound c nogoods.old }
-    ensures { let c = course_at starts ends nets compensations s in let d = compensating c x less in
-        FindsIf c (Tries c (Later c j) j here outstanding.old) (Later d j next outstanding.old) result outstanding nogoods
+    ensures { let c = course_of starts.now ends.now nets.now compensations.old s in let d = compensating c x less in
+        FindsIf c (Tries c (Later c j) j here outstanding.old) (Later d j next outstanding.old) result outstanding.old outstanding.new nogoods.new
         × (compensations.new ≡ compensations.old) }
 {
     let p = verdict_sweep::pairs_to(j, x);
@@ -627,10 +629,10 @@ fn asks_short(
     x: usize,
     less: u32,
 ) -> bool
-    requires { let c = course_now starts ends nets compensations s in let d = compensating c x less in
+    requires { let c = course_of starts.now ends.now nets.now compensations.old s in let d = compensating c x less in
         Lent c outstanding.old × Lent d outstanding.old × AtRest c j here × Before d (j + 1) next × (x ≤ count c) × Sound c nogoods.old × (count c ≤ short_rests) }
-    ensures { let c = course_at starts ends nets compensations s in let d = compensating c x less in
-        FindsIf c (Tries c (Later c j) j here outstanding.old) (Later d j next outstanding.old) result outstanding nogoods
+    ensures { let c = course_of starts.now ends.now nets.now compensations.old s in let d = compensating c x less in
+        FindsIf c (Tries c (Later c j) j here outstanding.old) (Later d j next outstanding.old) result outstanding.old outstanding.new nogoods.new
         × (compensations.new ≡ compensations.old) }
 {
     let k = starts.len();
@@ -675,10 +677,10 @@ fn asks_long(
     x: usize,
     less: u32,
 ) -> bool
-    requires { let c = course_now starts ends nets compensations s in let d = compensating c x less in
+    requires { let c = course_of starts.now ends.now nets.now compensations.old s in let d = compensating c x less in
         Lent c outstanding.old × Lent d outstanding.old × AtRest c j here × Before d (j + 1) next × (x ≤ count c) × Sound c nogoods.old }
-    ensures { let c = course_at starts ends nets compensations s in let d = compensating c x less in
-        FindsIf c (Tries c (Later c j) j here outstanding.old) (Later d j next outstanding.old) result outstanding nogoods
+    ensures { let c = course_of starts.now ends.now nets.now compensations.old s in let d = compensating c x less in
+        FindsIf c (Tries c (Later c j) j here outstanding.old) (Later d j next outstanding.old) result outstanding.old outstanding.new nogoods.new
         × (compensations.new ≡ compensations.old) }
 {
     let k = starts.len();
@@ -725,10 +727,10 @@ pub fn completes_beside(
     x: usize,
     less: u32,
 ) -> bool
-    requires { let c = course_now starts ends nets compensations s in let d = compensating c x less in
+    requires { let c = course_of starts.now ends.now nets.now compensations.old s in let d = compensating c x less in
         Lent c outstanding.old × Lent d outstanding.old × AtRest c j here × Before d (j + 1) next × (x ≤ count c) × Sound c nogoods.old }
-    ensures { let c = course_at starts ends nets compensations s in let d = compensating c x less in
-        FindsIf c (Tries c (Later c j) j here outstanding.old) (Later d j next outstanding.old) result outstanding nogoods
+    ensures { let c = course_of starts.now ends.now nets.now compensations.old s in let d = compensating c x less in
+        FindsIf c (Tries c (Later c j) j here outstanding.old) (Later d j next outstanding.old) result outstanding.old outstanding.new nogoods.new
         × (compensations.new ≡ compensations.old) }
 {
     if starts.len() <= recording::SHORT_RESTS {

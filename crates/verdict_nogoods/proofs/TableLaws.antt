@@ -87,28 +87,28 @@ module _ (t : List ℕ) (p : ℕ) (st : State) (n : ℕ) (room : p + entry_words
   stated-at d x l e = written_at (words_of st n) (set t p st.ended) p 1 d x (simp length-set (omega arith)) l e
 
 -- ---- how many reductions there are
-pub outstanding_count_on : (outstanding : List ℕ) (i : ℕ) → outstanding_count outstanding (i + 1) ≡ outstanding_count outstanding i + one (ltb 0 (at outstanding i))
+pub outstanding_count-on : (outstanding : List ℕ) (i : ℕ) → outstanding_count outstanding (i + 1) ≡ outstanding_count outstanding i + one (ltb 0 (at outstanding i))
 unfolding outstanding_count
-outstanding_count_on outstanding i = let e : suc i ≡ i + 1 = omega arith in subst (λ (n : ℕ). outstanding_count outstanding n ≡ outstanding_count outstanding i + one (ltb 0 (at outstanding i))) e refl
+outstanding_count-on outstanding i = let e : suc i ≡ i + 1 = omega arith in subst (λ (n : ℕ). outstanding_count outstanding n ≡ outstanding_count outstanding i + one (ltb 0 (at outstanding i))) e refl
 
-pub outstanding_count_up : (outstanding : List ℕ) (i n : ℕ) → i ≤ n → outstanding_count outstanding i ≤ outstanding_count outstanding n
+pub outstanding_count-up : (outstanding : List ℕ) (i n : ℕ) → i ≤ n → outstanding_count outstanding i ≤ outstanding_count outstanding n
 unfolding outstanding_count
-outstanding_count_up outstanding i zero l = let e : zero ≡ i = omega arith in subst (λ (x : ℕ). outstanding_count outstanding x ≤ outstanding_count outstanding zero) e (le_refl _)
-outstanding_count_up outstanding i (suc n) l = go (eq-or-lt_of_le l) (outstanding_count_up outstanding i n)
+outstanding_count-up outstanding i zero l = let e : zero ≡ i = omega arith in subst (λ (x : ℕ). outstanding_count outstanding x ≤ outstanding_count outstanding zero) e (le_refl _)
+outstanding_count-up outstanding i (suc n) l = go (eq-or-lt_of_le l) (outstanding_count-up outstanding i n)
   where
     go : (i ≡ suc n) ⊎ (i < suc n) → (i ≤ n → outstanding_count outstanding i ≤ outstanding_count outstanding n) → outstanding_count outstanding i ≤ outstanding_count outstanding (suc n)
     go (inl e) up = subst (λ (x : ℕ). outstanding_count outstanding x ≤ outstanding_count outstanding (suc n)) (sym e) (le_refl _)
     go (inr h) up = omega (arith, up (omega arith))
 
 -- where slot i has one there is one reduction more
-pub outstanding_count_more : (outstanding : List ℕ) (i n : ℕ) → i < n → 0 < at outstanding i → outstanding_count outstanding i < outstanding_count outstanding n
-outstanding_count_more outstanding i n l h = omega (arith, outstanding_count_up outstanding (i + 1) n (omega arith), outstanding_count_on outstanding i, ap one (lt-ltb 0 (at outstanding i) h))
+pub outstanding_count-more : (outstanding : List ℕ) (i n : ℕ) → i < n → 0 < at outstanding i → outstanding_count outstanding i < outstanding_count outstanding n
+outstanding_count-more outstanding i n l h = omega (arith, outstanding_count-up outstanding (i + 1) n (omega arith), outstanding_count-on outstanding i, ap one (lt-ltb 0 (at outstanding i) h))
 
-pub outstanding_count_next : (outstanding : List ℕ) (i n r : ℕ) → n ≡ outstanding_count outstanding i → r ≡ one (ltb 0 (at outstanding i)) → n + r ≡ outstanding_count outstanding (i + 1)
-outstanding_count_next outstanding i n r e f = omega (arith, e, f, outstanding_count_on outstanding i)
+pub outstanding_count-next : (outstanding : List ℕ) (i n r : ℕ) → n ≡ outstanding_count outstanding i → r ≡ one (ltb 0 (at outstanding i)) → n + r ≡ outstanding_count outstanding (i + 1)
+outstanding_count-next outstanding i n r e f = omega (arith, e, f, outstanding_count-on outstanding i)
 
-pub outstanding_count_all : (outstanding : List ℕ) (i n d : ℕ) → i ≤ n → n ≤ i → d ≡ outstanding_count outstanding i → d ≡ outstanding_count outstanding n
-outstanding_count_all outstanding i n d a b e = let f : i ≡ n = omega arith in subst (λ (x : ℕ). d ≡ outstanding_count outstanding x) f e
+pub outstanding_count-all : (outstanding : List ℕ) (i n d : ℕ) → i ≤ n → n ≤ i → d ≡ outstanding_count outstanding i → d ≡ outstanding_count outstanding n
+outstanding_count-all outstanding i n d a b e = let f : i ≡ n = omega arith in subst (λ (x : ℕ). d ≡ outstanding_count outstanding x) f e
 
 -- ---- reductions compared
 pub no_later : (a b : ℕ) → a / reduction_unit ≤ b / reduction_unit → deadline_of a ≤ deadline_of b
@@ -181,14 +181,14 @@ put_start t p outstanding = record { count = refl; below = λ x _. refl; above =
 
 module _ {t t₁ t₂ outstanding : List ℕ} {p i d r : ℕ} (few : 0 < at outstanding i → d < reductions_at_most) (put : Put t₁ t₂ p d (at outstanding i) r) (before : PutAll t t₁ p outstanding i d) where
   earlier : (y : ℕ) → y < i → 0 < at outstanding y → reduction_in t₂ p (outstanding_count outstanding y) ≡ at outstanding y
-  earlier y l h = put.other (reduction_place p (outstanding_count outstanding y)) (λ _ e. omega (arith, before.count, outstanding_count_more outstanding y i l h, e)) ∙ before.reduction y l h
+  earlier y l h = put.other (reduction_place p (outstanding_count outstanding y)) (λ _ e. omega (arith, before.count, outstanding_count-more outstanding y i l h, e)) ∙ before.reduction y l h
 
   this : 0 < at outstanding i → reduction_in t₂ p (outstanding_count outstanding i) ≡ at outstanding i
   this h = subst (λ (x : ℕ). reduction_in t₂ p x ≡ at outstanding i) before.count (put.is_outstanding h)
 
   pub put_on : PutAll t t₂ p outstanding (i + 1) r
   put_on = record {
-    count = put.next ∙ ap (λ (x : ℕ). x + one (ltb 0 (at outstanding i))) before.count ∙ sym (outstanding_count_on outstanding i);
+    count = put.next ∙ ap (λ (x : ℕ). x + one (ltb 0 (at outstanding i))) before.count ∙ sym (outstanding_count-on outstanding i);
     below = λ x l. put.other x (λ h e. omega (arith, l, e)) ∙ before.below x l;
     above = λ x l. put.other x (λ h e. omega (arith, l, e, few h)) ∙ before.above x l;
     reduction = λ y l h. go y h (eq-or-lt_of_le (let k : y ≤ i = omega arith in k));
@@ -200,10 +200,10 @@ module _ {t t₁ t₂ outstanding : List ℕ} {p i d r : ℕ} (few : 0 < at outs
 
 module _ {t t₁ outstanding : List ℕ} {p n i d : ℕ} (before : PutAll t t₁ p outstanding i d) (few : outstanding_count outstanding n ≤ reductions_at_most) where
   pub put_few : i ≤ n → d ≤ reductions_at_most
-  put_few l = omega (arith, before.count, outstanding_count_up outstanding i n l)
+  put_few l = omega (arith, before.count, outstanding_count-up outstanding i n l)
 
   pub put_room : i < n → 0 < at outstanding i → d < reductions_at_most
-  put_room l h = omega (arith, before.count, outstanding_count_more outstanding i n l h)
+  put_room l h = omega (arith, before.count, outstanding_count-more outstanding i n l h)
 
 pub put_end : {t t₁ outstanding : List ℕ} {p n i d : ℕ} → i ≤ n → n ≤ i → PutAll t t₁ p outstanding i d → PutAll t t₁ p outstanding n d
 put_end {t} {t₁} {outstanding} {p} {n} {i} {d} a b h = let e : i ≡ n = omega arith in subst (λ (x : ℕ). PutAll t t₁ p outstanding x d) e h
@@ -281,9 +281,9 @@ module _
       few = omega (arith, few, count);
       reductions = record {
         place = outstanding_count outstanding;
-        below = λ i h. subst (λ (x : ℕ). outstanding_count outstanding i < x) (sym reductions.count ∙ sym count) (outstanding_count_more outstanding i n (slot i h) h);
+        below = λ i h. subst (λ (x : ℕ). outstanding_count outstanding i < x) (sym reductions.count ∙ sym count) (outstanding_count-more outstanding i n (slot i h) h);
         reduction = λ i h. kept (reduction_place place (outstanding_count outstanding i)) (omega arith) ∙ reductions.reduction i (slot i h) h;
-        rises = λ i k l h _. outstanding_count_more outstanding i k l h;
+        rises = λ i k l h _. outstanding_count-more outstanding i k l h;
       };
     }
       where

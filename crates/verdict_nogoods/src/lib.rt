@@ -1,4 +1,6 @@
 // Nogoods: the states that the search found cannot be completed, in one lent slice of any length: a level for each long rest, as far as it reaches.
+#![tactic(auto)]
+
 ghost use Rattle.std.specs.Prelude.{◌≡◌, true, ℕ, ◌+◌, ◌<◌, ◌≤◌, length, ltb};
 ghost use Rattle.recording.specs.Tests.{one};
 ghost use Rattle.verdict_completion.specs.Completable.{at};

@@ -1,4 +1,6 @@
 // The first lawful reading of a recording, with room for its long rests that the caller lends.
+#![tactic(auto)]
+
 ghost use Rattle.std.specs.Prelude.{◌≡◌, ◌*◌, ◌≤◌, length};
 ghost use Rattle.recording.specs.Answers.{answered, counted, filled};
 ghost use Rattle.recording.specs.Operations.{total_at_most, measured, written};

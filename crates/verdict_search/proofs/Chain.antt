@@ -387,8 +387,8 @@ module _ (c : Course) (j compensation : ℕ) {kind : Kind} where
   taken_weekly e (TakenAs.weekly _ n) = n
 
 -- the reduction of its standing is that of the question
-pub is_outstanding_as : (c : Course) (j : ℕ) (st : State) (o : List ℕ) (compensation w : ℕ) {standing : Standing} → standing ≡ standing_for (length_at c j) compensation
+pub is_outstanding-as : (c : Course) (j : ℕ) (st : State) (o : List ℕ) (compensation w : ℕ) {standing : Standing} → standing ≡ standing_for (length_at c j) compensation
     → Equal (Later c j st (set o j (outstanding_by standing w))) (Later c j st (set o j (outstanding_of (length_at c j) compensation w)))
-is_outstanding_as c j st o compensation w {standing} e =
+is_outstanding-as c j st o compensation w {standing} e =
     let q : outstanding_by standing w ≡ outstanding_of (length_at c j) compensation w = ap (λ (x : Standing). outstanding_by x w) e ∙ standing_reduction (length_at c j) compensation w in
     record { to = λ h. subst (λ (x : ℕ). Later c j st (set o j x)) q h; from = λ h. subst (λ (x : ℕ). Later c j st (set o j x)) (sym q) h }

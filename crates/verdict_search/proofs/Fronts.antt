@@ -17,7 +17,7 @@ use Rattle.verdict_completion.specs.Better.{Within, Matched, Better, AtRest}
 use Rattle.verdict_completion.proofs.Matching.{within_self}
 use Rattle.verdict_completion.proofs.Monotone.{matched_last, tries_by}
 use Rattle.verdict_nogoods.specs.Table.{reductions_at_most, reductions_of, reduction_in, outstanding_count}
-use Rattle.verdict_nogoods.proofs.TableLaws.{outstanding_count_more}
+use Rattle.verdict_nogoods.proofs.TableLaws.{outstanding_count-more}
 use Rattle.verdict_fronts.specs.Front.{entry_at, state_in, slot_in, outstanding_in, Dominates, Same, Held, Comes, old, fresh, Remains, there, dominated, Stands, itself, other, Placed, PlacedState}
 use Rattle.verdict_fronts.proofs.FrontLaws.{same_first, same_reduction, same_back, no_slot, a_slot, words_length, words_at, words_out, words_same}
 use Rattle.verdict_search.specs.Search.{Later, Slots}
@@ -37,8 +37,8 @@ outstanding_at t p k d few = go (less_or_not d k)
     go (inr l) = words_out (slot_in t p) 0 k d l ∙ sym (no_slot t p d (omega arith))
 
 -- a slot that is not 0 has one of the reductions
-pub is_outstanding_below : (t : List ℕ) (p k d : ℕ) → reductions_of t p ≤ k → 0 < at (outstanding_in t p k) d → d < reductions_of t p
-is_outstanding_below t p k d few h = go (less_or_not d (reductions_of t p))
+pub is_outstanding-below : (t : List ℕ) (p k d : ℕ) → reductions_of t p ≤ k → 0 < at (outstanding_in t p k) d → d < reductions_of t p
+is_outstanding-below t p k d few h = go (less_or_not d (reductions_of t p))
   where
     go : (d < reductions_of t p) ⊎ (reductions_of t p ≤ d) → d < reductions_of t p
     go (inl l) = l
@@ -106,10 +106,10 @@ module _ (c : Course) (lies : Lies c) (j : ℕ) where
     matched = record {
       long = outstanding_length b q (count c);
       to = h.reductions.to;
-      below = λ d l. omega (arith, is_outstanding_below a p (count c) d low_a l, x.below);
-      to_below = λ d l. omega (arith, h.reductions.below d (is_outstanding_below a p (count c) d low_a l), y.below);
-      within = λ d l. within d (is_outstanding_below a p (count c) d low_a l);
-      apart = λ d e l m. apart d e (is_outstanding_below a p (count c) d low_a l) (is_outstanding_below a p (count c) e low_a m) (less_or_not d e) (less_or_not e d);
+      below = λ d l. omega (arith, is_outstanding-below a p (count c) d low_a l, x.below);
+      to_below = λ d l. omega (arith, h.reductions.below d (is_outstanding-below a p (count c) d low_a l), y.below);
+      within = λ d l. within d (is_outstanding-below a p (count c) d low_a l);
+      apart = λ d e l m. apart d e (is_outstanding-below a p (count c) d low_a l) (is_outstanding-below a p (count c) e low_a m) (less_or_not d e) (less_or_not e d);
     }
       where
         within : (d : ℕ) → d < reductions_of a p → Within (at (outstanding_in a p (count c)) d) (at (outstanding_in b q (count c)) (h.reductions.to d))
@@ -188,17 +188,17 @@ module _ (c : Course) (lies : Lies c) (j m : ℕ) (outstanding new : List ℕ) (
       go (inl l) = l
       go (inr l) = absurd (omega (arith, is_outstanding, slots.unused x l))
 
-  outstanding_count_most : (n : ℕ) → outstanding_count outstanding n ≤ n
+  outstanding_count-most : (n : ℕ) → outstanding_count outstanding n ≤ n
   unfolding outstanding_count
-  outstanding_count_most zero = omega arith
-  outstanding_count_most (suc n) = omega (arith, outstanding_count_most n, one_low (ltb 0 (at outstanding n)))
+  outstanding_count-most zero = omega arith
+  outstanding_count-most (suc n) = omega (arith, outstanding_count-most n, one_low (ltb 0 (at outstanding n)))
     where
       one_low : (b : Bool) → one b ≤ 1
       one_low true = omega arith
       one_low false = omega arith
 
   low : reductions_of new 0 ≤ j
-  low = omega (arith, h.count, outstanding_count_most m, slots.below)
+  low = omega (arith, h.count, outstanding_count-most m, slots.below)
 
   few : reductions_of new 0 ≤ count c
   few = omega (arith, low, rest.within)
@@ -226,22 +226,22 @@ module _ (c : Course) (lies : Lies c) (j m : ℕ) (outstanding new : List ℕ) (
       outstanding_is new 0 (count c) d few l ∙ ap (reduction_in new 0) (sym s.2) ∙ h.reduction (slot_from d) s.0 s.1
 
   one_slot : (x y : ℕ) → 0 < at outstanding x → 0 < at outstanding y → outstanding_count outstanding x ≡ outstanding_count outstanding y → (x < y) ⊎ (y ≤ x) → (y < x) ⊎ (x ≤ y) → x ≡ y
-  one_slot x y p q e (inl l) _ = absurd (omega (arith, outstanding_count_more outstanding x y l p))
-  one_slot x y p q e (inr l) (inl f) = absurd (omega (arith, outstanding_count_more outstanding y x f q))
+  one_slot x y p q e (inl l) _ = absurd (omega (arith, outstanding_count-more outstanding x y l p))
+  one_slot x y p q e (inr l) (inl f) = absurd (omega (arith, outstanding_count-more outstanding y x f q))
   one_slot x y p q e (inr l) (inr f) = omega arith
 
   index_low : (x : ℕ) → 0 < at outstanding x → outstanding_count outstanding x < reductions_of new 0
-  index_low x l = omega (arith, h.count, outstanding_count_more outstanding x m (in_first x l) l)
+  index_low x l = omega (arith, h.count, outstanding_count-more outstanding x m (in_first x l) l)
 
   -- the reductions of the entry lie within those of the slots, and the other way round
   entry_matched : Matched (count c) j (outstanding_in new 0 (count c)) outstanding
   entry_matched = record {
     long = slots.sized.outstanding_too;
     to = slot_from;
-    below = λ d l. omega (arith, is_outstanding_below new 0 (count c) d few l, low);
-    to_below = λ d l. omega (arith, (the_slot d (is_outstanding_below new 0 (count c) d few l)).0, slots.below);
-    within = λ d l. subst (Within (at (outstanding_in new 0 (count c)) d)) (same_slot d (is_outstanding_below new 0 (count c) d few l)) (within_self l);
-    apart = λ d e l k q. one_reduction d e (is_outstanding_below new 0 (count c) d few l) (is_outstanding_below new 0 (count c) e few k) q;
+    below = λ d l. omega (arith, is_outstanding-below new 0 (count c) d few l, low);
+    to_below = λ d l. omega (arith, (the_slot d (is_outstanding-below new 0 (count c) d few l)).0, slots.below);
+    within = λ d l. subst (Within (at (outstanding_in new 0 (count c)) d)) (same_slot d (is_outstanding-below new 0 (count c) d few l)) (within_self l);
+    apart = λ d e l k q. one_reduction d e (is_outstanding-below new 0 (count c) d few l) (is_outstanding-below new 0 (count c) e few k) q;
   }
     where
       one_reduction : (d e : ℕ) → d < reductions_of new 0 → e < reductions_of new 0 → slot_from d ≡ slot_from e → d ≡ e

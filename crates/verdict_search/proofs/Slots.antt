@@ -68,8 +68,8 @@ module _ (c : Course) (lies : Lies c) where
   pub slots_none : {o : List ℕ} (j : ℕ) → Lent c o → Slots c j 0 o
   slots_none {o} j h = slots_of j 0 o h refl zero-le h.unused
 
-  pub slot_added_to : {j n : ℕ} {o : List ℕ} (d : ℕ) → d < n → Slots c j n o → Slots c j n (set o d 0)
-  slot_added_to {j} {n} {o} d l h = slots_of j n (set o d 0) h (length-set o d 0) h.below (λ x f. get_or-set_other o d x 0 0 (λ e. omega arith) ∙ h.unused x f)
+  pub slot-added_to : {j n : ℕ} {o : List ℕ} (d : ℕ) → d < n → Slots c j n o → Slots c j n (set o d 0)
+  slot-added_to {j} {n} {o} d l h = slots_of j n (set o d 0) h (length-set o d 0) h.below (λ x f. get_or-set_other o d x 0 0 (λ e. omega arith) ∙ h.unused x f)
 
   pub slot_put : {j n : ℕ} {o : List ℕ} (a : ℕ) → Slots c j n o → Slots c (j + 1) (n + 1) (set o n a)
   slot_put {j} {n} {o} a h =

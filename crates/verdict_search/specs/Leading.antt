@@ -12,7 +12,7 @@ use Rattle.verdict_completion.specs.Completable.{Course, at, count, length_at, C
 use Rattle.verdict_completion.specs.Better.{AtRest}
 use Rattle.verdict_nogoods.specs.Table.{reductions_at_most, reductions_of}
 use Rattle.verdict_fronts.specs.Front.{entry_at, state_in, outstanding_in}
-use Rattle.verdict_search.specs.Search.{Loan, Later, Sound, Slots}
+use Rattle.verdict_search.specs.Search.{Later, Sound, Slots}
 use Rattle.verdict_search.specs.declared.Went.{Went}
 
 module _ (c : Course) (j : ℕ) where
@@ -54,15 +54,10 @@ pub record Led (P A A' : Type 0) (r : Bool) (outstanding outstanding' : List ℕ
   pub sound : S
   pub well : W
 
--- the same of the front before the rest of index i, with n states before
-abbrev pub Leads : Course → (List ℕ → Type 0) → ℕ → ℕ → Loan → Loan → Loan → Went → Type 0
-Leads c P i n front outstanding nogoods r =
-    Led (P outstanding.entry.now) (Any c i front.entry.now n) (Any c i front.exit.now r.n) r.yes outstanding.entry.now outstanding.exit.now
-    (Sound c nogoods.exit.now) (Front c i front.exit.now r.n)
-
--- a slice of which only what it is left with matters
-abbrev pub left : Loan → Loan
-left slice = record { entry = slice.exit; exit = slice.exit }
+-- the same of the front before the rest of index i, with n states before: the front and what is outstanding before and after, and the nogoods after
+abbrev pub Leads : Course → (List ℕ → Type 0) → ℕ → ℕ → List ℕ → List ℕ → List ℕ → List ℕ → List ℕ → Went → Type 0
+Leads c P i n front front' outstanding outstanding' nogoods' r =
+    Led (P outstanding) (Any c i front n) (Any c i front' r.n) r.yes outstanding outstanding' (Sound c nogoods') (Front c i front' r.n)
 
 -- a rest of index j is read as of a kind
 abbrev pub ReadAs : (c : Course) → (State → List ℕ → Type 0) → ℕ → State → ℕ → Kind → List ℕ → Type 0

@@ -1,8 +1,6 @@
 -- Inner: what the search for a lawful reading answers. Nobody has to believe it: proofs/ shows that its answers are those of the question.
 -- Assumes nothing.
 use Rattle.std.specs.Prelude.{◌≡◌, Bool, true, false, List, ℕ, ◌+◌, ◌-◌, ◌≤◌, ◌<◌, length}
-use Rattle.std.specs.Borrow.{Bor}
-use denote.Triple.Both.{Both}
 use Rattle.recording.specs.Rests.{long_rests_at_most}
 use Rattle.recording.specs.Operations.{total_at_most}
 use Rattle.recording.specs.Weeks.{week_of}
@@ -20,22 +18,9 @@ pub record Found (P : Type 0) (r : Bool) (outstanding outstanding' : List ℕ) (
   pub sound : S
 
 -- ---- what a function is lent
--- a slice, as it is passed; and the same at the function's entry and exit
-abbrev pub Slice : Type 0
-Slice = Bor (List ℕ)
-
-abbrev pub Loan : Type 0
-Loan = Both Slice Slice
-
 -- the long rests with their compensations, where the judged end is s
 abbrev pub course_of : List ℕ → List ℕ → List ℕ → List ℕ → ℕ → Course
 course_of starts ends nets compensations s = record { starts = starts; ends = ends; nets = nets; compensations = compensations; judged = s }
-
-abbrev pub course_now : Slice → Slice → Slice → Slice → ℕ → Course
-course_now starts ends nets compensations s = course_of starts.now ends.now nets.now compensations.now s
-
-abbrev pub course_at : Loan → Loan → Loan → Loan → ℕ → Course
-course_at starts ends nets compensations s = course_now starts.entry ends.entry nets.entry compensations.entry s
 
 -- the same with other compensations; and where the rest of number x has some minutes more compensation
 abbrev pub with_compensations : Course → List ℕ → Course
@@ -82,6 +67,6 @@ module _ (c : Course) where
     pub ended : st.ended ≤ c.judged
     pub reached : 0 < j → week_of (at c.starts (j - 1)) ≤ st.week
 
--- r says whether P holds, where the reductions and the nogoods are lent
-abbrev pub Finds : Course → Type 0 → Bool → Loan → Loan → Type 0
-Finds c P r outstanding nogoods = Found P r outstanding.entry.now outstanding.exit.now (Sound c nogoods.exit.now)
+-- r says whether P holds, where the reductions and the nogoods are lent: what is outstanding before and after, and the nogoods after
+abbrev pub Finds : Course → Type 0 → Bool → List ℕ → List ℕ → List ℕ → Type 0
+Finds c P r outstanding outstanding' nogoods' = Found P r outstanding outstanding' (Sound c nogoods')

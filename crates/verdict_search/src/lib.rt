@@ -1,5 +1,7 @@
 // What a state before a long rest leads to: which outstanding reductions the rest compensates for, what kind of rest it is and in which week it counts.
 // Each state that follows is put into the next front; what does not fit there is asked at once by the same steps with no front, depth first.
+#![tactic(auto)]
+
 ghost use Rattle.std.specs.Prelude.{◌≡◌, ◌+◌, ◌-◌, ◌<◌, ◌≤◌, set};
 ghost use Rattle.recording.specs.Operations.{total_at_most};
 ghost use Rattle.recording.specs.Weeks.{week_start};
@@ -11,7 +13,7 @@ ghost use Rattle.rules_items.specs.Items.{standing_for, compensation_at_most};
 ghost use Rattle.verdict_completion.specs.Completable.{at, count, length_at, Compensates, Closes, ReadDaily, ReadWeekly, Counted, Reads, Tries, Completable};
 ghost use Rattle.verdict_completion.specs.Better.{AtRest};
 ghost use Rattle.verdict_steps.specs.Steps.{Says, outstanding_by};
-ghost use Rattle.verdict_search.specs.Search.{course_now, course_at, Later, Slots, Before};
+ghost use Rattle.verdict_search.specs.Search.{course_of, Later, Slots, Before};
 ghost use Rattle.verdict_search.specs.Leading.{Given, Leads, ReadAs, TakenAs};
 
 use rules::{Kind, Standing};
@@ -19,7 +21,7 @@ use rules_items::LongRest;
 use verdict_completion::{Brought, State};
 
 // Whether a question was answered yes; and how many states the next front has.
-#[derive(Drop)]
+#[derive(Clone, Copy)]
 pub struct Went {
     pub yes: bool,
     pub n: usize,
@@ -36,8 +38,8 @@ fn closes(
     st: State,
     n: usize,
 ) -> bool
-    requires { let c = course_now starts ends nets compensations s in Slots c (count c) n outstanding.now × Before c (count c) st }
-    ensures { let c = course_at starts ends nets compensations s in Says (Closes c st outstanding.now) result }
+    requires { let c = course_of starts.now ends.now nets.now compensations.now s in Slots c (count c) n outstanding.now × Before c (count c) st }
+    ensures { let c = course_of starts.now ends.now nets.now compensations.now s in Says (Closes c st outstanding.now) result }
 {
     if st.ended + rules_items::WEEKLY_GAP < s {
         return false;
@@ -59,7 +61,7 @@ fn closes(
 
 // A state in the week in which the rest of index j starts is put into the front before that rest. Where it does not fit it is asked at once, with no
 // front for what follows; a no is remembered.
-#[cycle(choose_compensate_count_in_daily_in_week_place_read_as_step_weekly)]
+#[cycle(leading)]
 pub fn place(
     starts: &[u32],
     ends: &[u32],
@@ -74,8 +76,8 @@ pub fn place(
     m: usize,
     n: usize,
 ) -> Went
-    requires { let c = course_now starts ends nets compensations s in Given c j m outstanding.old nogoods.old j next.old n × AtRest c j here }
-    ensures { let c = course_at starts ends nets compensations s in Leads c (λ o. Tries c (Later c j) j here o) j n next outstanding nogoods result }
+    requires { let c = course_of starts.now ends.now nets.now compensations.now s in Given c j m outstanding.old nogoods.old j next.old n × AtRest c j here }
+    ensures { let c = course_of starts.now ends.now nets.now compensations.now s in Leads c (λ o. Tries c (Later c j) j here o) j n next.old next.new outstanding.old outstanding.new nogoods.new result }
 {
     let put = verdict_fronts::put(next, n, outstanding, m, here);
     let n = put.n;
@@ -110,7 +112,7 @@ pub fn place(
 }
 
 // A state before the rest of index j is led on to that rest, or, where all rests are read, asked at once.
-#[cycle(choose_compensate_count_in_daily_in_week_place_read_as_step_weekly)]
+#[cycle(leading)]
 pub fn step(
     starts: &[u32],
     ends: &[u32],
@@ -125,8 +127,8 @@ pub fn step(
     m: usize,
     n: usize,
 ) -> Went
-    requires { let c = course_now starts ends nets compensations s in Given c j m outstanding.old nogoods.old j next.old n × Before c j st }
-    ensures { let c = course_at starts ends nets compensations s in Leads c (λ o. Completable c (count c - j) j st o) j n next outstanding nogoods result }
+    requires { let c = course_of starts.now ends.now nets.now compensations.now s in Given c j m outstanding.old nogoods.old j next.old n × Before c j st }
+    ensures { let c = course_of starts.now ends.now nets.now compensations.now s in Leads c (λ o. Completable c (count c - j) j st o) j n next.old next.new outstanding.old outstanding.new nogoods.new result }
 {
     if j == starts.len() {
         let yes = closes(starts, ends, nets, compensations, s, outstanding, st, m);
@@ -164,7 +166,7 @@ pub fn step(
 }
 
 // The rest of index j is daily, with a compensation.
-#[cycle(choose_compensate_count_in_daily_in_week_place_read_as_step_weekly)]
+#[cycle(leading)]
 fn daily(
     starts: &[u32],
     ends: &[u32],
@@ -180,9 +182,9 @@ fn daily(
     m: usize,
     n: usize,
 ) -> Went
-    requires { let c = course_now starts ends nets compensations s in
+    requires { let c = course_of starts.now ends.now nets.now compensations.now s in
         Given c j m outstanding.old nogoods.old (j + 1) next.old n × AtRest c j here × (least_net Daily + compensation ≤ length_at c j) }
-    ensures { let c = course_at starts ends nets compensations s in Leads c (λ o. ReadDaily c (Later c j) j here compensation o) (j + 1) n next outstanding nogoods result }
+    ensures { let c = course_of starts.now ends.now nets.now compensations.now s in Leads c (λ o. ReadDaily c (Later c j) j here compensation o) (j + 1) n next.old next.new outstanding.old outstanding.new nogoods.new result }
 {
     let short = verdict_steps::is_short(ends[j] - starts[j], nets[j], compensation);
     let after = verdict_steps::after_daily(here, short);
@@ -206,7 +208,7 @@ fn daily(
 }
 
 // It is weekly, counted in week w, and its reduction is outstanding from now on; one that is due after s needs nothing.
-#[cycle(choose_compensate_count_in_daily_in_week_place_read_as_step_weekly)]
+#[cycle(leading)]
 fn count_in(
     starts: &[u32],
     ends: &[u32],
@@ -223,9 +225,9 @@ fn count_in(
     m: usize,
     n: usize,
 ) -> Went
-    requires { let c = course_now starts ends nets compensations s in
+    requires { let c = course_of starts.now ends.now nets.now compensations.now s in
         Given c j m outstanding.old nogoods.old (j + 1) next.old n × (j < count c) × Before c (j + 1) after × (reduction_of (Weekly standing) ≤ compensation_at_most) × (w < 255) }
-    ensures { let c = course_at starts ends nets compensations s in Leads c (λ o. Later c j after (set o j (outstanding_by standing w))) (j + 1) n next outstanding nogoods result }
+    ensures { let c = course_of starts.now ends.now nets.now compensations.now s in Leads c (λ o. Later c j after (set o j (outstanding_by standing w))) (j + 1) n next.old next.new outstanding.old outstanding.new nogoods.new result }
 {
     let reduction = outstanding[m];
     outstanding[m] = verdict_steps::needed(verdict_steps::outstanding_of(standing, w), s);
@@ -248,7 +250,7 @@ fn count_in(
 }
 
 // It is weekly, in week w.
-#[cycle(choose_compensate_count_in_daily_in_week_place_read_as_step_weekly)]
+#[cycle(leading)]
 fn in_week(
     starts: &[u32],
     ends: &[u32],
@@ -266,10 +268,10 @@ fn in_week(
     m: usize,
     n: usize,
 ) -> Went
-    requires { let c = course_now starts ends nets compensations s in Given c j m outstanding.old nogoods.old (j + 1) next.old n × AtRest c j here
+    requires { let c = course_of starts.now ends.now nets.now compensations.now s in Given c j m outstanding.old nogoods.old (j + 1) next.old n × AtRest c j here
         × (standing ≡ standing_for (length_at c j) compensation) × (least_net (Weekly Regular) + compensation ≤ length_at c j)
         × (at starts.now j < week_start (w + 1)) × (week_start w < at ends.now j) }
-    ensures { let c = course_at starts ends nets compensations s in Leads c (λ o. Counted c (Later c j) j here w compensation o) (j + 1) n next outstanding nogoods result }
+    ensures { let c = course_of starts.now ends.now nets.now compensations.now s in Leads c (λ o. Counted c (Later c j) j here w compensation o) (j + 1) n next.old next.new outstanding.old outstanding.new nogoods.new result }
 {
     let Brought::To(there) = verdict_steps::advance(starts, ends, j + 1, here, w) else {
         return Went { yes: false, n: n };
@@ -300,7 +302,7 @@ fn in_week(
 }
 
 // It is weekly, in one of the weeks in which it has a minute.
-#[cycle(choose_compensate_count_in_daily_in_week_place_read_as_step_weekly)]
+#[cycle(leading)]
 fn weekly(
     starts: &[u32],
     ends: &[u32],
@@ -317,9 +319,9 @@ fn weekly(
     m: usize,
     n: usize,
 ) -> Went
-    requires { let c = course_now starts ends nets compensations s in Given c j m outstanding.old nogoods.old (j + 1) next.old n × AtRest c j here
+    requires { let c = course_of starts.now ends.now nets.now compensations.now s in Given c j m outstanding.old nogoods.old (j + 1) next.old n × AtRest c j here
         × (standing ≡ standing_for (length_at c j) compensation) × (least_net (Weekly Regular) + compensation ≤ length_at c j) }
-    ensures { let c = course_at starts ends nets compensations s in Leads c (λ o. ReadWeekly c (Later c j) j here compensation o) (j + 1) n next outstanding nogoods result }
+    ensures { let c = course_of starts.now ends.now nets.now compensations.now s in Leads c (λ o. ReadWeekly c (Later c j) j here compensation o) (j + 1) n next.old next.new outstanding.old outstanding.new nogoods.new result }
 {
     let end = ends[j];
     let mut w = starts[j] / recording::WEEK_MINUTES;
@@ -355,7 +357,7 @@ fn weekly(
 }
 
 // It is read as of a kind.
-#[cycle(choose_compensate_count_in_daily_in_week_place_read_as_step_weekly)]
+#[cycle(leading)]
 fn read_as(
     starts: &[u32],
     ends: &[u32],
@@ -372,8 +374,8 @@ fn read_as(
     m: usize,
     n: usize,
 ) -> Went
-    requires { let c = course_now starts ends nets compensations s in Given c j m outstanding.old nogoods.old (j + 1) next.old n × AtRest c j here × TakenAs c j compensation rest.kind }
-    ensures { let c = course_at starts ends nets compensations s in Leads c (λ o. ReadAs c (Later c j) j here compensation rest.kind o) (j + 1) n next outstanding nogoods result }
+    requires { let c = course_of starts.now ends.now nets.now compensations.now s in Given c j m outstanding.old nogoods.old (j + 1) next.old n × AtRest c j here × TakenAs c j compensation rest.kind }
+    ensures { let c = course_of starts.now ends.now nets.now compensations.now s in Leads c (λ o. ReadAs c (Later c j) j here compensation rest.kind o) (j + 1) n next.old next.new outstanding.old outstanding.new nogoods.new result }
 {
     let kind = rest.kind;
     match kind {
@@ -412,7 +414,7 @@ fn read_as(
 }
 
 // It is daily or weekly, with a compensation; where it can be a regular weekly rest it need not be daily.
-#[cycle(choose_compensate_count_in_daily_in_week_place_read_as_step_weekly)]
+#[cycle(leading)]
 fn choose(
     starts: &[u32],
     ends: &[u32],
@@ -428,8 +430,8 @@ fn choose(
     m: usize,
     n: usize,
 ) -> Went
-    requires { let c = course_now starts ends nets compensations s in Given c j m outstanding.old nogoods.old (j + 1) next.old n × AtRest c j here × (compensation ≤ total_at_most) }
-    ensures { let c = course_at starts ends nets compensations s in Leads c (λ o. Reads c (Later c j) j here compensation o) (j + 1) n next outstanding nogoods result }
+    requires { let c = course_of starts.now ends.now nets.now compensations.now s in Given c j m outstanding.old nogoods.old (j + 1) next.old n × AtRest c j here × (compensation ≤ total_at_most) }
+    ensures { let c = course_of starts.now ends.now nets.now compensations.now s in Leads c (λ o. Reads c (Later c j) j here compensation o) (j + 1) n next.old next.new outstanding.old outstanding.new nogoods.new result }
 {
     let start = starts[j];
     let end = ends[j];
@@ -497,7 +499,7 @@ fn choose(
 }
 
 // It has a compensation, and compensates for some of the reductions in the slots from i on.
-#[cycle(choose_compensate_count_in_daily_in_week_place_read_as_step_weekly)]
+#[cycle(leading)]
 pub fn compensate(
     starts: &[u32],
     ends: &[u32],
@@ -514,9 +516,9 @@ pub fn compensate(
     m: usize,
     n: usize,
 ) -> Went
-    requires { let c = course_now starts ends nets compensations s in Given c j m outstanding.old nogoods.old (j + 1) next.old n × AtRest c j here × (i ≤ m) × (compensation ≤ total_at_most) }
-    ensures { let c = course_at starts ends nets compensations s in Leads c (λ o. Compensates (Reads c (Later c j) j here) (length_at c j) (j - i) i compensation o) (j + 1) n
-        next outstanding nogoods result }
+    requires { let c = course_of starts.now ends.now nets.now compensations.now s in Given c j m outstanding.old nogoods.old (j + 1) next.old n × AtRest c j here × (i ≤ m) × (compensation ≤ total_at_most) }
+    ensures { let c = course_of starts.now ends.now nets.now compensations.now s in Leads c (λ o. Compensates (Reads c (Later c j) j here) (length_at c j) (j - i) i compensation o) (j + 1) n
+        next.old next.new outstanding.old outstanding.new nogoods.new result }
 {
     let d = verdict_steps::candidate(outstanding, m, i, compensation, ends[j] - starts[j]);
     if d == m {

@@ -1,6 +1,8 @@
 // Document 02, request 6: the spans of weeks that are a breach by themselves while no shorter span inside them is one. A breach from a Monday on stays one
 // when the end moves later, so one verdict from each Monday gives the last week of the shortest breach from there. The Mondays are taken from the last to
 // the first: a span is one of those to list unless one that begins later ends no later.
+#![tactic(auto)]
+
 ghost use Rattle.std.specs.Prelude.{◌≡◌, ◌-◌, ◌≤◌, ◌<◌, length, drop};
 ghost use Rattle.recording.specs.Words.{minutes_in, activity_in, minutes_of};
 ghost use Rattle.recording.specs.Answers.{answered, counted, filled};
@@ -23,14 +25,14 @@ pub const WEEKS: usize = (recording::TOTAL_AT_MOST / recording::WEEK_MINUTES) as
 const LIST_SHORT: u32 = 14;
 
 // Where a minute lies: the index of its word, and the minute at which that word begins.
-#[derive(Drop)]
+#[derive(Clone, Copy)]
 pub struct Seat {
     pub index: usize,
     pub start: u32,
 }
 
 // The spans of a recording: how many there are, and from the front of two arrays on their first and their last weeks.
-#[derive(Drop)]
+#[derive(Clone, Copy)]
 pub struct Spans {
     pub count: usize,
     pub firsts: [u32; WEEKS],
@@ -39,7 +41,7 @@ pub struct Spans {
 
 // What was found for a list, and how far the listing has come: the answer, how many records are to be written, none on a refusal, the place of the next
 // record, the record taken last, and the spans as above.
-#[derive(Drop)]
+#[derive(Clone, Copy)]
 pub struct Found {
     pub answer: Filling,
     pub count: usize,

@@ -1,4 +1,6 @@
 // The steps of the search for a lawful reading: from rest to rest and from week to week, and what is outstanding.
+#![tactic(auto)]
+
 ghost use Rattle.std.specs.Prelude.{◌≡◌, ◌+◌, ◌-◌, ◌<◌, ◌≤◌, min, length, ltb};
 ghost use Rattle.recording.specs.Tests.{pick};
 ghost use Rattle.recording.specs.Weeks.{week, week_of, inside};

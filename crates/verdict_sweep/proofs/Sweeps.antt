@@ -6,7 +6,6 @@ use mathlib.Core.List.{List, [], ◌∷◌}
 use Prim.Native.Nat.{ℕ, zero, suc, ◌+◌, ◌-◌, ◌≤◌}
 use native.Mathlib.Omega.{arith}
 use lib.ListN.{length, take, replicate, length-take, length-replicate}
-use Rattle.recording.specs.Rests.{long_rests_at_most}
 use Rattle.recording.specs.Weeks.{week_of}
 use Rattle.rules_items.specs.Items.{Zeros}
 use Rattle.rules_reading.proofs.LaterLaws.{zeros_at}

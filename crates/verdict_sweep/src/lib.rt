@@ -1,19 +1,21 @@
 // The sweep: whether the long rests can be read, from front to front. It goes through the rests once; from each state of the front before a rest
 // the search puts what follows into the next front.
+#![tactic(auto)]
+
 ghost use Rattle.std.specs.Prelude.{◌+◌, ◌-◌, ◌*◌, ◌<◌, ◌≤◌, length};
 ghost use Rattle.recording.specs.Scan.{short_rests};
 ghost use Rattle.verdict_completion.specs.States.{start_state};
 ghost use Rattle.verdict_completion.specs.Completable.{count, rest_week, Completable};
 ghost use Rattle.verdict_fronts.specs.Front.{entry_at};
-ghost use Rattle.verdict_search.specs.Search.{course_now, course_at, Finds, Sound, Sized, Slots, Lent, Before};
-ghost use Rattle.verdict_search.specs.Leading.{Can, Any, Well, Front, Leads, left};
+ghost use Rattle.verdict_search.specs.Search.{course_of, Finds, Sound, Sized, Slots, Lent, Before};
+ghost use Rattle.verdict_search.specs.Leading.{Can, Any, Well, Front, Leads};
 ghost use Rattle.verdict_sweep.specs.Sweep.{Passes, Told};
 
 use verdict_completion::State;
 use verdict_search::Went;
 
 // What a sweep answers: yes or no; and where it is no, the rest near which no state was left. Nothing is promised of that place.
-#[derive(Drop)]
+#[derive(Clone, Copy)]
 pub struct Swept {
     pub yes: bool,
     pub at: usize,
@@ -34,9 +36,9 @@ fn visit(
     e: usize,
     n: usize,
 ) -> Went
-    requires { let c = course_now starts ends nets compensations s in Sized c outstanding.old × Sound c nogoods.old × (j < count c) × (entry_at (e + 1) ≤ length front.now)
+    requires { let c = course_of starts.now ends.now nets.now compensations.now s in Sized c outstanding.old × Sound c nogoods.old × (j < count c) × (entry_at (e + 1) ≤ length front.now)
         × Well c j front.now (entry_at e) × Front c (j + 1) next.old n }
-    ensures { let c = course_at starts ends nets compensations s in Leads c (λ o. Can c j front.now (entry_at e)) (j + 1) n next (left outstanding) nogoods result }
+    ensures { let c = course_of starts.now ends.now nets.now compensations.now s in Leads c (λ o. Can c j front.now (entry_at e)) (j + 1) n next.old next.new outstanding.new outstanding.new nogoods.new result }
 {
     let p = verdict_nogoods::ENTRY_WORDS * e;
     verdict_fronts::outstanding_in(front, p, outstanding);
@@ -74,8 +76,8 @@ pub fn sweep_rest(
     j: usize,
     f: usize,
 ) -> Went
-    requires { let c = course_now starts ends nets compensations s in Sized c outstanding.old × Sound c nogoods.old × (j < count c) × Front c j front.now f }
-    ensures { let c = course_at starts ends nets compensations s in Passes c j front f (j + 1) next nogoods result }
+    requires { let c = course_of starts.now ends.now nets.now compensations.now s in Sized c outstanding.old × Sound c nogoods.old × (j < count c) × Front c j front.now f }
+    ensures { let c = course_of starts.now ends.now nets.now compensations.now s in Passes c j front.now f (j + 1) next.new nogoods.new result }
 {
     let mut n = 0;
     let mut e = 0;
@@ -117,8 +119,8 @@ fn sweep_two(
     j: usize,
     f: usize,
 ) -> Went
-    requires { let c = course_now starts ends nets compensations s in Sized c outstanding.old × Sound c nogoods.old × (j < count c) × Front c j front.old f }
-    ensures { let c = course_at starts ends nets compensations s in Passes c j front f (j + 2) front nogoods result }
+    requires { let c = course_of starts.now ends.now nets.now compensations.now s in Sized c outstanding.old × Sound c nogoods.old × (j < count c) × Front c j front.old f }
+    ensures { let c = course_of starts.now ends.now nets.now compensations.now s in Passes c j front.old f (j + 2) front.new nogoods.new result }
 {
     let there = sweep_rest(
         starts,
@@ -168,8 +170,8 @@ pub fn sweep_on(
     j: usize,
     f: usize,
 ) -> Swept
-    requires { let c = course_now starts ends nets compensations s in Sized c outstanding.old × Sound c nogoods.old × (j ≤ count c + 1) × Front c j front.old f }
-    ensures { let c = course_at starts ends nets compensations s in Told (Any c j front.old f) result.yes (Sound c nogoods.new) }
+    requires { let c = course_of starts.now ends.now nets.now compensations.now s in Sized c outstanding.old × Sound c nogoods.old × (j ≤ count c + 1) × Front c j front.old f }
+    ensures { let c = course_of starts.now ends.now nets.now compensations.now s in Told (Any c j front.old f) result.yes (Sound c nogoods.new) }
 {
     let mut i = j;
     let mut n = f;
@@ -224,8 +226,8 @@ pub fn sweep_pairs(
     f: usize,
     p: usize,
 ) -> Went
-    requires { let c = course_now starts ends nets compensations s in Sized c outstanding.old × Sound c nogoods.old × (j + 2 * p ≤ count c + 1) × Front c j front.old f }
-    ensures { let c = course_at starts ends nets compensations s in Passes c j front f (j + 2 * p) front nogoods result }
+    requires { let c = course_of starts.now ends.now nets.now compensations.now s in Sized c outstanding.old × Sound c nogoods.old × (j + 2 * p ≤ count c + 1) × Front c j front.old f }
+    ensures { let c = course_of starts.now ends.now nets.now compensations.now s in Passes c j front.old f (j + 2 * p) front.new nogoods.new result }
 {
     let mut i = j;
     let mut n = f;
@@ -267,9 +269,9 @@ fn sweep_short(
     j: usize,
     f: usize,
 ) -> Swept
-    requires { let c = course_now starts ends nets compensations s in Sized c compensations.now × Sound c nogoods.old × (j ≤ count c + 1) × Front c j front.old f
+    requires { let c = course_of starts.now ends.now nets.now compensations.now s in Sized c compensations.now × Sound c nogoods.old × (j ≤ count c + 1) × Front c j front.old f
         × (count c ≤ short_rests) }
-    ensures { let c = course_at starts ends nets compensations s in Told (Any c j front.old f) result.yes (Sound c nogoods.new) }
+    ensures { let c = course_of starts.now ends.now nets.now compensations.now s in Told (Any c j front.old f) result.yes (Sound c nogoods.new) }
 {
     let k = starts.len();
     let mut slots = [0u32; recording::SHORT_RESTS];
@@ -301,8 +303,8 @@ fn sweep_long(
     j: usize,
     f: usize,
 ) -> Swept
-    requires { let c = course_now starts ends nets compensations s in Sized c compensations.now × Sound c nogoods.old × (j ≤ count c + 1) × Front c j front.old f }
-    ensures { let c = course_at starts ends nets compensations s in Told (Any c j front.old f) result.yes (Sound c nogoods.new) }
+    requires { let c = course_of starts.now ends.now nets.now compensations.now s in Sized c compensations.now × Sound c nogoods.old × (j ≤ count c + 1) × Front c j front.old f }
+    ensures { let c = course_of starts.now ends.now nets.now compensations.now s in Told (Any c j front.old f) result.yes (Sound c nogoods.new) }
 {
     let k = starts.len();
     let mut slots = [0u32; recording::LONG_RESTS];
@@ -337,8 +339,8 @@ fn solve(
     st: State,
     n: usize,
 ) -> Swept
-    requires { let c = course_now starts ends nets compensations s in Slots c j n outstanding.old × Sound c nogoods.old × Before c j st }
-    ensures { let c = course_at starts ends nets compensations s in Finds c (Completable c (count c - j) j st outstanding.old) result.yes outstanding nogoods }
+    requires { let c = course_of starts.now ends.now nets.now compensations.now s in Slots c j n outstanding.old × Sound c nogoods.old × Before c j st }
+    ensures { let c = course_of starts.now ends.now nets.now compensations.now s in Finds c (Completable c (count c - j) j st outstanding.old) result.yes outstanding.old outstanding.new nogoods.new }
 {
     let went = verdict_search::step(
         starts,
@@ -399,8 +401,8 @@ fn completes(
     j: usize,
     st: State,
 ) -> Swept
-    requires { let c = course_now starts ends nets compensations s in Lent c outstanding.old × Before c j st }
-    ensures { let c = course_at starts ends nets compensations s in Finds c (Completable c (count c - j) j st outstanding.old) result.yes outstanding nogoods }
+    requires { let c = course_of starts.now ends.now nets.now compensations.now s in Lent c outstanding.old × Before c j st }
+    ensures { let c = course_of starts.now ends.now nets.now compensations.now s in Finds c (Completable c (count c - j) j st outstanding.old) result.yes outstanding.old outstanding.new nogoods.new }
 {
     verdict_nogoods::clear(nogoods, starts.len());
     solve(
@@ -431,8 +433,8 @@ pub fn possible(
     front: &mut [u32],
     other: &mut [u32],
 ) -> Swept
-    requires { let c = course_now starts ends nets compensations s in Lent c outstanding.old }
-    ensures { let c = course_at starts ends nets compensations s in Finds c (Completable c (count c) 0 (start_state (rest_week c 0)) outstanding.old) result.yes outstanding nogoods }
+    requires { let c = course_of starts.now ends.now nets.now compensations.now s in Lent c outstanding.old }
+    ensures { let c = course_of starts.now ends.now nets.now compensations.now s in Finds c (Completable c (count c) 0 (start_state (rest_week c 0)) outstanding.old) result.yes outstanding.old outstanding.new nogoods.new }
 {
     let rest = rules_items::rest_week(starts, ends, starts.len(), 0);
     completes(

@@ -6,7 +6,7 @@ mod declared;
 use declared::{exported, imported, laid_out, prototypes, Declared};
 use std::fs::{read_dir, read_to_string};
 
-const SOURCE: &str = "crates/interface/src";
+const SOURCE: &str = "crates/interface_c/src";
 const RECORDS: [&str; 2] = ["crates/recording/src/lib.rt", "crates/rules/src/lib.rt"];
 const HEADER: &str = "interface/desk.h";
 const CALLS: &str = "interface/rust/src/calls.rs";
@@ -257,10 +257,11 @@ fn source() {
          interface/rust/src/calls.rs: desk_list has `list: *mut Span`, \
          by the source `list: *const Span`",
     );
-    let exported = "#[no_mangle]\npub extern \"C\" fn rule_code";
-    edit(SOURCE, "fn rule_code", exported).says(
-        "interface/desk.h: rule_code is missing\n\
-         interface/rust/src/calls.rs: rule_code is missing",
+    let weigh = "#[unsafe(no_mangle)]\npub extern \"C\" fn desk_weigh(";
+    let more = "#[unsafe(no_mangle)]\npub extern \"C\" fn desk_more(m: u32) -> u64 {\n}\n";
+    edit(SOURCE, weigh, &format!("{more}{weigh}")).says(
+        "interface/desk.h: desk_more is missing\n\
+         interface/rust/src/calls.rs: desk_more is missing",
     );
     edit(SOURCE, "extern \"C\" fn desk_list(", "fn desk_list(").says(
         "interface/desk.h: pub fn desk_list is missing\n\

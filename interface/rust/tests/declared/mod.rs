@@ -11,7 +11,7 @@ const DIRECTIVE: (&str, &str) = ("#", "\n");
 /// The functions that Rattle exports.
 pub fn exported(text: &str) -> Vec<Declared> {
     marked(
-        "#[no_mangle]",
+        "#[unsafe(no_mangle)]",
         "pub extern \"C\" fn ",
         &without(&COMMENTS, text),
     )
@@ -19,7 +19,8 @@ pub fn exported(text: &str) -> Vec<Declared> {
 
 /// The records of Rattle or Rust with the layout of C.
 pub fn laid_out(text: &str) -> Vec<Declared> {
-    marked("#[repr(C)]", "pub struct ", &without(&COMMENTS, text))
+    let text = text.replace("#[derive(Clone, Copy)]\n", "");
+    marked("#[repr(C)]", "pub struct ", &without(&COMMENTS, &text))
 }
 
 /// The functions of other languages that Rust calls.

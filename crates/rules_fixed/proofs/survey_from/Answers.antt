@@ -1,0 +1,16 @@
+-- `rules_fixed::survey_from` meets its contract. Assumes nothing.
+use mathlib.Core.Path.{ap, ◌∙◌}
+use Rattle.rules_limits.specs.Account.{account_from, opening}
+use Rattle.rules_fixed.proofs.Surveying.{all_there}
+use borrow.Author.Rules.{rules}
+use Rattle.rules_fixed.proofs.survey_from.Goals as goal
+
+pub returns : goal.returns
+returns c = let q = c.scan_from-place.ensures in
+    record {
+      place = q.place;
+      begun = q.begun;
+      ended = q.ended;
+      numbered = c.put_nets.ensures;
+      account = c.account_of-account.ensures ∙ ap (account_from opening) (all_there q);
+    }

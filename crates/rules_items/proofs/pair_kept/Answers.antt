@@ -1,0 +1,16 @@
+-- `rules_items::pair_kept` meets its contract. Assumes nothing.
+use borrow.Author.Rules.{rules}
+use borrow.Author.Tests.{le-leb, lt-leb}
+use Rattle.recording.specs.Tests.{◌or◌}
+use Rattle.rules_items.proofs.pair_kept.Goals as goal
+
+pub returns-then-s-w : goal.returns-then-s-w
+unfolding ◌or◌
+returns-then-s-w c = simp (lt-leb _ _ c.if-s-w.true)
+
+pub enough_in-requires : goal.enough_in-requires
+enough_in-requires c = c.requires
+
+pub returns : goal.returns
+unfolding ◌or◌
+returns c = simp (le-leb _ _ c.if-s-w.false) c.enough_in.ensures

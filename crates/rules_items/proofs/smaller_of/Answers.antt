@@ -1,0 +1,16 @@
+-- `rules_items::smaller_of` meets its contract. Assumes nothing.
+use borrow.Author.Tests.{eq-eqb, ne_eqb, le-leb, lt-leb}
+use Rattle.rules_items.proofs.TallyLaws.{smaller_tests}
+use Rattle.rules_items.proofs.smaller_of.Goals as goal
+
+pub returns-then-a-eq0 : goal.returns-then-a-eq0
+returns-then-a-eq0 c = rw smaller_tests (simp (eq-eqb _ _ c.if-a-eq0.true))
+
+pub returns-then-b-eq0 : goal.returns-then-b-eq0
+returns-then-b-eq0 c = rw smaller_tests (simp (ne_eqb _ _ c.if-a-eq0.false, eq-eqb _ _ c.if-b-eq0.true))
+
+pub returns-then-a-b : goal.returns-then-a-b
+returns-then-a-b c = rw smaller_tests (simp (ne_eqb _ _ c.if-a-eq0.false, ne_eqb _ _ c.if-b-eq0.false, le-leb _ _ c.if-a-b.true))
+
+pub returns : goal.returns
+returns c = rw smaller_tests (simp (ne_eqb _ _ c.if-a-eq0.false, ne_eqb _ _ c.if-b-eq0.false, lt-leb _ _ c.if-a-b.false))

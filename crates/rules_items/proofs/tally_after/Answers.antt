@@ -1,0 +1,17 @@
+-- `rules_items::tally_after` meets its contract. Assumes nothing.
+use mathlib.Core.Path.{refl}
+use borrow.Author.Rules.{rules}
+use Rattle.rules_items.specs.Items.{broken_by, tally_by}
+use Rattle.rules_items.proofs.tally_after.Goals as goal
+
+pub returns : goal.returns
+unfolding tally_by broken_by
+returns c = rw (
+  c.smaller_of.ensures,
+  c.broken_by.ensures,
+  c.in_gap-near.ensures,
+  c.in_time-timely.ensures,
+  c.last_after-last.ensures,
+  c.short_after-short.ensures,
+  c.requires.1,
+) refl

@@ -1,0 +1,20 @@
+-- `rules_reading::pairs_test` meets its contract. Assumes nothing.
+use mathlib.Core.Path.{refl, sym, ◌∙◌}
+use native.Mathlib.Omega.{arith}
+use borrow.Author.Rules.{rules}
+use Prim.Native.Nat.{◌≤◌, ◌+◌}
+use borrow.Author.Tests.{not-true, not-false}
+use Rattle.recording.specs.Tests.{◌or◌}
+use Rattle.recording.specs.Weeks.{week_of}
+use Rattle.rules_items.specs.Items.{enough_with, rule11_with, rest_weeks, spans_in}
+use Rattle.rules_items.proofs.PairLaws.{Pairing, pair_on, pair_broken, pair_done}
+use mathlib.Core.Bool.{not}
+use lib.Dec.{leb}
+use Rattle.recording.specs.Weeks.{week_start}
+use Rattle.rules_reading.proofs.pairs_test.Given as goal
+
+abbrev pub invariant-loop-w : goal.invariant-loop-w
+invariant-loop-w l = (l.w ≤ week_of l.s) × Pairing (week_of l.s) (λ v. not (leb (week_start (v + 2)) l.s) or enough_with (rest_weeks (spans_in l.starts l.ends l.k)) l.weekly l.regular v) l.w
+
+abbrev pub decreases-loop-w : goal.decreases-loop-w
+decreases-loop-w l = l.w

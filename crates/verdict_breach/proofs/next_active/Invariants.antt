@@ -1,0 +1,14 @@
+-- `verdict_breach::next_active` meets its contract. Assumes nothing.
+use mathlib.Core.List.{◌∷◌}
+use Prim.Native.Nat.{suc, ◌-◌}
+use lib.ListN.{length}
+use native.Mathlib.Omega.{arith}
+use borrow.Author.Rules.{rules}
+use Rattle.verdict_breach.proofs.Actives.{Ahead, first_on, first_active, next_room, next_on, next_there, all_rested}
+use Rattle.verdict_breach.proofs.next_active.Given as goal
+
+abbrev pub invariant-loop-i : goal.invariant-loop-i
+invariant-loop-i l = Ahead (l.head ∷ l.words) l.x l.at (suc l.i)
+
+abbrev pub decreases-loop-i : goal.decreases-loop-i
+decreases-loop-i l = length l.words - l.i

@@ -1,0 +1,25 @@
+-- `verdict_breach::some_short` meets its contract. Assumes nothing.
+use borrow.Author.Rules.{rules}
+use Rattle.recording.specs.Scan.{short_rests}
+use mathlib.Core.Path.{sym}
+use Rattle.verdict_sweep.proofs.Sweeps.{none_size, none_zeros}
+use Rattle.verdict_breach.proofs.Lawfulness.{lent, some_reading}
+use lib.ListN.{length}
+use Rattle.verdict_breach.proofs.some_short.Goals as goal
+
+pub slice_bounds-possible-end : goal.slice_bounds-possible-end
+slice_bounds-possible-end c = sym (none_size short_rests (length c.args.starts.now) c.requires.3)
+
+pub slice_bounds-possible-end-2 : goal.slice_bounds-possible-end-2
+slice_bounds-possible-end-2 c = sym (none_size short_rests (length c.args.starts.now) c.requires.3)
+
+pub possible-requires : goal.possible-requires
+possible-requires c = let none = none_zeros short_rests (length c.args.starts.now) in
+    let size = none_size short_rests (length c.args.starts.now) c.requires.3 in
+    lent c.args.starts.now c.args.ends.now c.args.nets.now _ _ c.args.s c.requires.0 c.requires.1 c.requires.2 none size none size
+
+pub returns : goal.returns
+returns c = let none = none_zeros short_rests (length c.args.starts.now) in
+    let size = none_size short_rests (length c.args.starts.now) c.requires.3 in
+    some_reading c.args.starts.now c.args.ends.now c.args.nets.now _ _ c.args.s c.requires.0 c.requires.1 c.requires.2 none size none
+    c.possible.ensures

@@ -1,0 +1,14 @@
+-- `verdict_fronts::clear_slots` meets its contract. Assumes nothing.
+use borrow.Author.Rules.{rules}
+use mathlib.Core.Path.{◌≡◌, refl, ◌∙◌}
+use native.Mathlib.Omega.{arith}
+use lib.ListN.{length, length-set}
+use Prim.Native.Nat.{◌-◌, ◌≤◌}
+use Rattle.verdict_fronts.proofs.FrontLaws.{Cleared, cleared_start, cleared_on, cleared_all}
+use Rattle.verdict_fronts.proofs.clear_slots.Given as goal
+
+abbrev pub invariant-loop-i : goal.invariant-loop-i
+invariant-loop-i l = (l.i ≤ l.k) × (length l.outstanding ≡ length l.initial.outstanding) × Cleared l.outstanding l.i
+
+abbrev pub decreases-loop-i : goal.decreases-loop-i
+decreases-loop-i l = l.k - l.i

@@ -1,0 +1,38 @@
+-- `verdict_fronts::reductions_within` meets its contract. Assumes nothing.
+use borrow.Author.Rules.{rules}
+use mathlib.Core.Bool.{false≢true}
+use native.Mathlib.Omega.{arith}
+use Prim.Native.Nat.{◌-◌, ◌≤◌}
+use Rattle.verdict_nogoods.specs.Table.{reduction_in}
+use Rattle.verdict_nogoods.proofs.TableLaws.{PairedBelow, paired_start, paired_past, paired_on}
+use Rattle.verdict_fronts.proofs.FrontLaws.{paired_all}
+use Rattle.verdict_fronts.proofs.reductions_within.Goals as goal
+
+pub returns-then-stored-gt-REDUCTIONS_AT_MOST : goal.returns-then-stored-gt-REDUCTIONS_AT_MOST
+returns-then-stored-gt-REDUCTIONS_AT_MOST c = λ h. absurd (false≢true h)
+
+pub returns-then-present-gt-REDUCTIONS_AT_MOST : goal.returns-then-present-gt-REDUCTIONS_AT_MOST
+returns-then-present-gt-REDUCTIONS_AT_MOST c = λ h. absurd (false≢true h)
+
+pub loop-d-init : goal.loop-d-init
+loop-d-init c = (omega arith, omega arith, paired_start _ _)
+
+pub returns-then-n-i : goal.returns-then-n-i
+returns-then-n-i c = λ h. absurd (false≢true h)
+
+pub lies_within-requires : goal.lies_within-requires
+lies_within-requires c = tt
+
+pub loop-d-preserved-then-lies_within : goal.loop-d-preserved-then-lies_within
+loop-d-preserved-then-lies_within c = let of-loop-test = c.loop-d-test in (
+  omega (arith, of-loop-test.true),
+  omega (arith, of-loop-test.true, c.if-n-i.false),
+  paired_on c.loop-d.invariant.2 (c.lies_within.ensures c.if-lies_within.true),
+)
+
+pub loop-d-preserved : goal.loop-d-preserved
+loop-d-preserved c = let of-loop = c.loop-d in
+    (of-loop.invariant.0, omega (arith, c.loop-d-test.true, c.if-n-i.false), paired_past of-loop.invariant.2)
+
+pub returns : goal.returns
+returns c = λ _. paired_all c.loop-d.invariant.2 c.loop-d-test.false c.loop-d.invariant.1 c.if-present-gt-REDUCTIONS_AT_MOST.false

@@ -1,0 +1,15 @@
+-- `verdict_fronts::reductions_within` meets its contract. Assumes nothing.
+use borrow.Author.Rules.{rules}
+use mathlib.Core.Bool.{false≢true}
+use native.Mathlib.Omega.{arith}
+use Prim.Native.Nat.{◌-◌, ◌≤◌}
+use Rattle.verdict_nogoods.specs.Table.{reduction_in}
+use Rattle.verdict_nogoods.proofs.TableLaws.{PairedBelow, paired_start, paired_past, paired_on}
+use Rattle.verdict_fronts.proofs.FrontLaws.{paired_all}
+use Rattle.verdict_fronts.proofs.reductions_within.Given as goal
+
+abbrev pub invariant-loop-d : goal.invariant-loop-d
+invariant-loop-d l = (l.d ≤ l.m) × (l.i ≤ l.n) × PairedBelow (reduction_in l.a l.p) (reduction_in l.b l.q) l.d l.i
+
+abbrev pub decreases-loop-d : goal.decreases-loop-d
+decreases-loop-d l = l.n - l.i

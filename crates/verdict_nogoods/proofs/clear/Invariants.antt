@@ -1,0 +1,16 @@
+-- `verdict_nogoods::clear` meets its contract. Assumes nothing.
+use mathlib.Core.Path.{◌≡◌, refl, ◌∙◌}
+use mathlib.Core.Logic.{inl, inr}
+use native.Mathlib.Omega.{arith}
+use lib.ListN.{length, length-set}
+use borrow.Author.Rules.{rules}
+use Prim.Native.Nat.{◌+◌, ◌-◌, ◌≤◌}
+use Rattle.verdict_nogoods.specs.Table.{level_words, level_at, Empty}
+use Rattle.verdict_nogoods.proofs.TableLaws.{empty_on, empty_all}
+use Rattle.verdict_nogoods.proofs.clear.Given as goal
+
+abbrev pub invariant-loop-i : goal.invariant-loop-i
+invariant-loop-i l = (level_at l.i ≤ length l.initial.table + level_words) × (length l.table ≡ length l.initial.table) × Empty l.table l.i
+
+abbrev pub decreases-loop-i : goal.decreases-loop-i
+decreases-loop-i l = l.k - l.i
