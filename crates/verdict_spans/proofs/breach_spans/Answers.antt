@@ -1,11 +1,11 @@
 -- `verdict_spans::breach_spans` meets its contract. Assumes nothing.
 use Rattle.std.proofs.Common.{arith}
-use Rattle.recording_list.proofs.ListWalk.{told-due, stored_due}
+use Rattle.recording_list.proofs.ListWalk.{can_step, told-due, stored_due}
 use Rattle.verdict_spans.proofs.Taking.{takes_all}
 use Rattle.verdict_spans.proofs.breach_spans.Goals as goal
 
 pub next_of-found-requires : goal.next_of-found-requires
-next_of-found-requires c = rw c.loop-i.invariant.stepped ((takes_all c.spans_of-found.ensures).steps c.loop-i.i c.loop-i-test.true)
+next_of-found-requires c = can_step (takes_all c.spans_of-found.ensures) c.loop-i.invariant c.loop-i-test.true
 
 pub returns-clause-result_value : goal.returns-clause-result_value
 returns-clause-result_value c = rw c.answer_of.ensures (told-due (takes_all c.spans_of-found.ensures) c.loop-i.invariant (omega arith))
