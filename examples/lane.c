@@ -1,7 +1,7 @@
 /* Pass or breach for lane staff: reads a recording in bracket text from standard input and prints one line. The verdict
  * asks for no reading buffer, so none is lent.
  *
- *     rt staticlib interface
+ *     interface/library
  *     cc -std=c11 -O2 -Wall -Wextra -Wpedantic -Werror examples/lane.c target/staticlib/libinterface.a -o lane
  *     ./lane < examples/week.txt
  *

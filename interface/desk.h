@@ -1,4 +1,4 @@
-/* The hours desk for C. Link target/staticlib/libinterface.a, which `rt staticlib interface` makes for x86-64 Linux.
+/* The hours desk for C. Link target/staticlib/libinterface.a, which `interface/library` makes for x86-64 Linux.
  *
  * A slice is a pointer and a count of elements. The pointer is never null, also where the count is 0, and is aligned for
  * its elements. A buffer that an operation writes to (a pointer without const) overlaps nothing else that is passed.
@@ -20,9 +20,10 @@
  * A reading has an entry of four bytes for each long rest: kind (0 daily, 1 weekly), week, and the carrier's low and high byte, a
  * number that is low + 256 * high. The old form has three bytes an entry, the carrier in one.
  *
- * Each promise stands with its function in crates/interface/src/lib.rt, and is proved. Nothing is kept between calls, so
+ * Each promise stands with its function in crates/interface_c/src/lib.rt, and is proved. Nothing is kept between calls, so
  * threads may call at the same time, each on buffers that no other is using. Have 4 MiB of stack for desk_verdict,
- * desk_first_reading and desk_breach_spans; the most that was measured is 2,370 KiB, on a year made to take much.
+ * desk_first_reading and desk_breach_spans; the most that was measured, of a library that an older toolchain built, is
+ * 2,370 KiB, on a year made to take much.
  */
 #ifndef DESK_H
 #define DESK_H

@@ -45,8 +45,9 @@
 //!
 //! Nothing is kept between calls, so threads may call at the same time.
 //! Have 4 MiB of stack for [`verdict`], [`first_reading`] and [`breach_spans`]; the
-//! most that was measured is 2,370 KiB, on a year made to take much. The main
-//! thread has more, unless told otherwise; a thread of `std` has 2 MiB.
+//! most that was measured, of a library that an older toolchain built, is 2,370 KiB,
+//! on a year made to take much. The main thread has more, unless told otherwise; a
+//! thread of `std` has 2 MiB.
 
 mod calls;
 
