@@ -14,7 +14,7 @@ use Rattle.recording.specs.Words.{activities, rest, minutes_of}
 use Rattle.recording.specs.Operations.{total_at_most, measured}
 use Rattle.recording.specs.declared.Measure.{Measure}
 use Rattle.recording.proofs.TestLaws.{and_both, or_left, or_right, less_or_not}
-use Rattle.recording.proofs.WordLaws.{Coded, no_minute, minute, minutes_in_lem, activity_in_lem, coded_minutes}
+use Rattle.recording.proofs.WordLaws.{Coded, no_minute, minute, minutes_in_law, activity_in_law, coded_minutes}
 use Rattle.recording.proofs.Listing.{measured_is}
 use Rattle.card_reader.specs.Form.{activity_place, out_place, byte_values, bytes_of, day_minutes, OfTheForm, minutes_of_days}
 use Rattle.card_reader.specs.Reading.{changes_in, change_minute, change_activity, is_unknown, begins_day, follows, all_follow, in_order, is_day_record, end_before, words_of, card_read}
@@ -24,13 +24,13 @@ use Rattle.card_reader.proofs.FormLaws.{Bytes, none, next, changes_of_bytes, byt
 use Rattle.card_reader.proofs.MinuteLaws.{no_words, record_minutes}
 
 -- ---- a written change
-change_minute_lem : (a m : ℕ) → m < day_minutes → change_minute (change_of a m) ≡ m
+change_minute_law : (a m : ℕ) → m < day_minutes → change_minute (change_of a m) ≡ m
 unfolding change_of
-change_minute_lem a m h = omega arith
+change_minute_law a m h = omega arith
 
-change_activity_lem : (a m : ℕ) → m < day_minutes → a < activities → change_activity (change_of a m) ≡ a
+change_activity_law : (a m : ℕ) → m < day_minutes → a < activities → change_activity (change_of a m) ≡ a
 unfolding change_of
-change_activity_lem a m h l = omega arith
+change_activity_law a m h l = omega arith
 
 change_fits : (a m : ℕ) → m < day_minutes → a < activities → change_of a m < byte_values * byte_values
 unfolding change_of
@@ -84,7 +84,7 @@ follow_none p m b = refl
 
 follow_one : (p m a : ℕ) (cs : List ℕ) → m < day_minutes → (m ≡ 0) ⊎ (p < m) → all_follow m cs ≡ true → all_follow p (change_of a m ∷ cs) ≡ true
 unfolding all_follow
-follow_one p m a cs h l e = rw (change_minute_lem a m h) (and_both _ _ (may_follow p m h l) e)
+follow_one p m a cs h l e = rw (change_minute_law a m h) (and_both _ _ (may_follow p m h l) e)
 
 written_follow : (p m b : ℕ) (ms : List ℕ) → m < day_minutes → (m ≡ 0) ⊎ (p < m) → all_follow p (changes_from m b ms) ≡ true
 written_follow p m b [] h l = follow_none p m b
@@ -103,7 +103,7 @@ first_change a ms = refl
 written_order : (ms : List ℕ) → in_order (changes_of ms) ≡ true
 unfolding in_order changes_from
 written_order [] = refl
-written_order (a ∷ ms) = rw (first_change a ms, change_minute_lem a 0 (omega arith)) (and_both _ _ refl (written_follow 0 1 a ms (omega arith) (inr (omega arith))))
+written_order (a ∷ ms) = rw (first_change a ms, change_minute_law a 0 (omega arith)) (and_both _ _ refl (written_follow 0 1 a ms (omega arith) (inr (omega arith))))
 
 pub written_is_record : (ms : List ℕ) → is_day_record (record_of_minutes ms) ≡ true
 unfolding is_day_record
@@ -156,12 +156,12 @@ written_form {ms} c = read_is_form (bytes_from 0 rest c (omega arith)) (written_
 one_word : (m b e : ℕ) (cs : List ℕ) → m < day_minutes → b < activities → end_before cs ≡ e
     → minutes_of (words_of (change_of b m ∷ cs)) ≡ replicate (e - m) b ++ minutes_of (words_of cs)
 unfolding minutes_of words_of
-one_word m b e cs h l q = rw (q, change_minute_lem b m h, change_activity_lem b m h l, minutes_in_lem (e - m) b l, activity_in_lem (e - m) b l)
+one_word m b e cs h l q = rw (q, change_minute_law b m h, change_activity_law b m h l, minutes_in_law (e - m) b l, activity_in_law (e - m) b l)
 
 -- a change at minute 0 or later in the day ends what came before at the minute reached
 end_reached : (r a : ℕ) (cs : List ℕ) → 0 < r → r ≤ day_minutes → end_before (change_of a (r % day_minutes) ∷ cs) ≡ r
 unfolding end_before
-end_reached r a cs h l = rw (change_minute_lem a (r % day_minutes) (omega arith)) (go (less_or_not r day_minutes))
+end_reached r a cs h l = rw (change_minute_law a (r % day_minutes) (omega arith)) (go (less_or_not r day_minutes))
   where
     go : (r < day_minutes) ⊎ (day_minutes ≤ r) → pick (eqb (r % day_minutes) 0) day_minutes (r % day_minutes) ≡ r
     go (inl k) = let e : r % day_minutes ≡ r = omega arith in rw (e, ne_eqb r 0 (λ z. omega arith))
@@ -299,7 +299,7 @@ placed start t a cs w = go (less_or_not t (start + day_minutes))
         record {
           start' = start;
           within = record { whole = z; after = omega arith; until = omega arith };
-          places = rw (change_minute_lem a (t % day_minutes) (omega arith), n, ne_eqb (t - start) 0 (λ q. omega arith), s);
+          places = rw (change_minute_law a (t % day_minutes) (omega arith), n, ne_eqb (t - start) 0 (λ q. omega arith), s);
         }
     go (inr l) =
         let z : start % day_minutes ≡ 0 = w.whole in
@@ -309,7 +309,7 @@ placed start t a cs w = go (less_or_not t (start + day_minutes))
         record {
           start' = t;
           within = record { whole = n; after = omega arith; until = omega arith };
-          places = rw (change_minute_lem a (t % day_minutes) (omega arith), n, s);
+          places = rw (change_minute_law a (t % day_minutes) (omega arith), n, s);
         }
 
 module _ (all : List ℕ) where
@@ -330,16 +330,16 @@ module _ (all : List ℕ) where
   unfolding changing is_written
   changing_is t b a e f = rw (e, f)
 
-  places_from_lem : (start t b : ℕ) (ms : List ℕ) → Within start t → get_or all (t - 1) 0 ≡ b → ((i : ℕ) → get_or all (t + i) 0 ≡ get_or ms i 0)
+  places_from_law : (start t b : ℕ) (ms : List ℕ) → Within start t → get_or all (t - 1) 0 ≡ b → ((i : ℕ) → get_or all (t + i) 0 ≡ get_or ms i 0)
       → places_from start (changes_from (t % day_minutes) b ms) ≡ keep (changing all) (count_from t (length ms))
-  places_from_lem start t b [] w e h = kept_none start t b (t % day_minutes)
-  places_from_lem start t b (a ∷ ms) w e h =
+  places_from_law start t b [] w e h = kept_none start t b (t % day_minutes)
+  places_from_law start t b (a ∷ ms) w e h =
       let z : t + 0 ≡ t = omega arith in
       let g : get_or all t 0 ≡ a = ap (λ (k : ℕ). get_or all k 0) (sym z) ∙ h 0 in
       let y : suc t - 1 ≡ t = omega arith in
       let f : get_or all (suc t - 1) 0 ≡ a = ap (λ (k : ℕ). get_or all k 0) y ∙ g in
       let n : next_minute (t % day_minutes) ≡ suc t % day_minutes = omega arith in
-      go (step (t % day_minutes) b a ms) (changing_is t b a g e) (λ s v. rw n (places_from_lem s (suc t) a ms v f (λ i. later i ∙ h (suc i))))
+      go (step (t % day_minutes) b a ms) (changing_is t b a g e) (λ s v. rw n (places_from_law s (suc t) a ms v f (λ i. later i ∙ h (suc i))))
     where
       later : (i : ℕ) → get_or all (suc t + i) 0 ≡ get_or all (t + suc i) 0
       later i = let z : suc t + i ≡ t + suc i = omega arith in ap (λ (k : ℕ). get_or all k 0) z
@@ -368,9 +368,9 @@ pub written_where : (ms : List ℕ) → places_of (changes_of ms) ≡ keep (chan
 unfolding places_of
 written_where [] = nothing_written
 written_where (a ∷ ms) =
-    rw (first_change a ms, change_minute_lem a 0 (omega arith))
+    rw (first_change a ms, change_minute_law a 0 (omega arith))
     (ap (λ (l : List ℕ). 0 ∷ l)
-    (places_from_lem (a ∷ ms) 0 1 a ms (record { whole = refl; after = omega arith; until = omega arith }) refl (λ i. one_later i))
+    (places_from_law (a ∷ ms) 0 1 a ms (record { whole = refl; after = omega arith; until = omega arith }) refl (λ i. one_later i))
     ∙ sym (kept_one (a ∷ ms) 0 (length ms) (begins (a ∷ ms))))
   where
     one_later : (i : ℕ) → get_or (a ∷ ms) (1 + i) 0 ≡ get_or ms i 0

@@ -154,7 +154,7 @@ fn put_days_if(words: &[u32], bytes: &mut [u8], wanted: bool)
 
 // Writing a day record: refusals 1 and 2; 11, not whole days; 10, too few bytes; or the count of bytes.
 pub fn write_card(words: &[u32], bytes: &mut [u8]) -> Filling
-    ensures result_value { written result ≡ counted (card_written words.now (length bytes.old)) }
+    ensures answer { written result ≡ counted (card_written words.now (length bytes.old)) }
     ensures bytes_after { bytes.new ≡ filled (card_written words.now (length bytes.old)) bytes.old }
 {
     let size = size_of(words);

@@ -104,9 +104,9 @@ place_by_place : (s k o a m : ℕ) {n q u v : ℕ} → n ≡ activity_place * q 
     → slot_place * s + crew_place * k + out_place * o + activity_place * a + m ≡ n
 place_by_place s k o a m e f g h = omega arith
 
-change_in_lem : (n : ℕ) → n < byte_values * byte_values → number_of (change_in n) ≡ n
+change_in_law : (n : ℕ) → n < byte_values * byte_values → number_of (change_in n) ≡ n
 unfolding number_of
-change_in_lem n h =
+change_in_law n h =
     let s : one (bit_at slot_place n) ≡ n / slot_place % 2 = bit_value (n / slot_place % 2) (omega arith) in
     let t : n / slot_place % 2 ≡ n / slot_place = omega arith in
     let k : one (bit_at crew_place n) ≡ n / crew_place % 2 = bit_value (n / crew_place % 2) (omega arith) in
@@ -164,7 +164,7 @@ unfolding numbers_of_days numbers_then
 new_day {c} h z u = record {
   days = (change_in c ∷ u.rest) ∷ u.days;
   allowed = form.next (day {c = change_in c} z (omega arith) u.rising) u.allowed;
-  numbers_are = ap₂ (λ (n : ℕ) (l : List ℕ). n ∷ l) (sym (change_in_lem c h)) u.numbers_are;
+  numbers_are = ap₂ (λ (n : ℕ) (l : List ℕ). n ∷ l) (sym (change_in_law c h)) u.numbers_are;
 }
 
 same_day : {m c : ℕ} {cs : List ℕ} → c < byte_values * byte_values → m < change_minute c → change_minute c < day_minutes → Under (change_minute c) cs → Under m (c ∷ cs)
@@ -174,7 +174,7 @@ same_day {m} {c} h l k u = record {
   rising = form.next {c = change_in c} l k (omega arith) u.rising;
   days = u.days;
   allowed = u.allowed;
-  numbers_are = ap₂ (λ (n : ℕ) (l : List ℕ). n ∷ l) (sym (change_in_lem c h)) u.numbers_are;
+  numbers_are = ap₂ (λ (n : ℕ) (l : List ℕ). n ∷ l) (sym (change_in_law c h)) u.numbers_are;
 }
 
 follow_under : {cs : List ℕ} (m : ℕ) → Fitting cs → all_follow m cs ≡ true → Under m cs

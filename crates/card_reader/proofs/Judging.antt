@@ -15,7 +15,7 @@ use Rattle.recording.specs.Answers.{Answer, refused, answered, refuse_if, counte
 use Rattle.recording.specs.Words.{word_of, minutes_of}
 use Rattle.recording.specs.Operations.{total_at_most, unless_fault}
 use Rattle.recording.proofs.TestLaws.{and_left, and_right, or_cases, same_test, one_most}
-use Rattle.recording.proofs.WordLaws.{minutes_in_lem, unless_some}
+use Rattle.recording.proofs.WordLaws.{minutes_in_law, unless_some}
 use Rattle.recording.proofs.Slices.{put_in_front}
 use Rattle.card_reader.specs.declared.Judgement.{Judgement}
 use Rattle.card_reader.specs.Form.{byte_values, day_minutes}
@@ -142,7 +142,7 @@ words_are bytes = words_count (changes_in bytes) ∙ changes_count bytes
 
 word_minutes : (c : ℕ) (cs : List ℕ) → length (minutes_of (words_of (c ∷ cs))) ≡ (end_before cs - change_minute c) + length (minutes_of (words_of cs))
 unfolding words_of minutes_of
-word_minutes c cs = rw (length-append, length-replicate) (ap (λ (n : ℕ). n + length (minutes_of (words_of cs))) (minutes_in_lem (end_before cs - change_minute c) (change_activity c) (omega arith)))
+word_minutes c cs = rw (length-append, length-replicate) (ap (λ (n : ℕ). n + length (minutes_of (words_of cs))) (minutes_in_law (end_before cs - change_minute c) (change_activity c) (omega arith)))
 
 -- a change that follows begins a day, or is later in its day
 data Following (m q : ℕ) : Type 0 where
@@ -278,15 +278,15 @@ module _ (bytes : List ℕ) (room : ℕ) where
   abbrev pub found : Judgement
   found = judged_from begun (changes_in bytes)
 
-  in_order_lem : is_day_record bytes ≡ true → in_order (changes_in bytes) ≡ true
+  in_order_law : is_day_record bytes ≡ true → in_order (changes_in bytes) ≡ true
   unfolding is_day_record
-  in_order_lem t = and_right (is_even (length bytes)) (in_order (changes_in bytes)) t
+  in_order_law t = and_right (is_even (length bytes)) (in_order (changes_in bytes)) t
 
   pub refusal_is : card_read bytes room ≡ unless_fault (refusal_for found (length bytes) room) (answered (words_of (changes_in bytes)))
   unfolding card_read refusal_for is_day_record
   refusal_is = rw (ordered_is (changes_in bytes), known_is (changes_in bytes))
       (by_tests (is_day_record bytes) (any_of is_unknown (changes_in bytes)) _ _ _ _ (answered (words_of (changes_in bytes)))
-      (λ t. past_limit found.days (length (minutes_of (words_of (changes_in bytes)))) (whole_days (changes_in bytes) (in_order_lem t)).total)
+      (λ t. past_limit found.days (length (minutes_of (words_of (changes_in bytes)))) (whole_days (changes_in bytes) (in_order_law t)).total)
       (ap (ltb room) (sym (words_are bytes))))
 
   -- where there is none, the words are few, and there is room for them
@@ -306,7 +306,7 @@ module _ (bytes : List ℕ) (room : ℕ) where
       go true true true d p q r z = absurd (omega arith)
       go true true false true p q r z = absurd (omega arith)
       go true true false false p q r z =
-          let w = whole_days (changes_in bytes) (in_order_lem p) in
+          let w = whole_days (changes_in bytes) (in_order_law p) in
           record {
             few = omega (arith, w.total, w.count, changes_count bytes, ltb-false (total_at_most / day_minutes) found.days q);
             room_for = ltb-false room (length bytes / 2) r;

@@ -7,7 +7,7 @@ use lib.ListN.{length, get_or, replicate, length-append, get_or-append}
 use lib.Seq.{get_or-append-add}
 use borrow.Author.Tests.{le-leb, lt-leb, ne_eqb}
 use Rattle.recording.specs.Words.{activities, word_of, minutes_of}
-use Rattle.recording.proofs.WordLaws.{minutes_in_lem, activity_in_lem}
+use Rattle.recording.proofs.WordLaws.{minutes_in_law, activity_in_law}
 use Rattle.card_reader.specs.Form.{Change, number_of, day_minutes, Rising, day, Days, numbers_then, numbers_of_days, bytes_of_days, OfTheForm, latest, activities_from, minutes_of_day, minutes_of_days}
 use Rattle.card_reader.specs.Form as form
 use Rattle.card_reader.specs.Reading.{changes_in, end_before, words_of}
@@ -51,7 +51,7 @@ Later later = end_before later ≡ day_minutes
 
 first_word : (n a : ℕ) (ws : List ℕ) → a < activities → minutes_of (word_of n a ∷ ws) ≡ replicate n a ++ minutes_of ws
 unfolding minutes_of
-first_word n a ws h = rw (minutes_in_lem n a h, activity_in_lem n a h)
+first_word n a ws h = rw (minutes_in_law n a h, activity_in_law n a h)
 
 end_before_change : (c : Change) (later : List ℕ) → c.minute < day_minutes → 0 < c.minute → end_before (number_of c ∷ later) ≡ c.minute
 unfolding end_before

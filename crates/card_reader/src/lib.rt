@@ -210,7 +210,7 @@ fn put_words_if(bytes: &[u8], words: &mut [u32], wanted: bool)
 // Reading a day record: refusal 11, not of the form; 12, an unknown activity; 2, the total passes the limit; 9, too few words; or the
 // count of words, one a change.
 pub fn read_card(bytes: &[u8], words: &mut [u32]) -> Filling
-    ensures result_value { written result ≡ counted (card_read bytes.now (length words.old)) }
+    ensures answer { written result ≡ counted (card_read bytes.now (length words.old)) }
     ensures words_after { words.new ≡ filled (card_read bytes.now (length words.old)) words.old }
 {
     let found = judge(bytes);

@@ -82,7 +82,7 @@ pub extern "C" fn capacity_verdict(words: &[u32], entries: u32) -> u64
 
 // The first reading with fronts of no entry.
 fn reading_with_none(words: &[u32], reading: &mut [u8]) -> Filling
-    ensures result_value { written result ≡ counted (first_reading_given words.now (length reading.old)) }
+    ensures answer { written result ≡ counted (first_reading_given words.now (length reading.old)) }
     ensures reading_after { reading.new ≡ filled (first_reading_given words.now (length reading.old)) reading.old }
 {
     let mut nogoods = [0u32; verdict_nogoods::TABLE_WORDS];
@@ -103,7 +103,7 @@ fn reading_with_none(words: &[u32], reading: &mut [u8]) -> Filling
 
 // The first reading with fronts of one entry.
 fn reading_with_one(words: &[u32], reading: &mut [u8]) -> Filling
-    ensures result_value { written result ≡ counted (first_reading_given words.now (length reading.old)) }
+    ensures answer { written result ≡ counted (first_reading_given words.now (length reading.old)) }
     ensures reading_after { reading.new ≡ filled (first_reading_given words.now (length reading.old)) reading.old }
 {
     let mut nogoods = [0u32; verdict_nogoods::TABLE_WORDS];
@@ -124,7 +124,7 @@ fn reading_with_one(words: &[u32], reading: &mut [u8]) -> Filling
 
 // The first reading with fronts of three entries.
 fn reading_with_three(words: &[u32], reading: &mut [u8]) -> Filling
-    ensures result_value { written result ≡ counted (first_reading_given words.now (length reading.old)) }
+    ensures answer { written result ≡ counted (first_reading_given words.now (length reading.old)) }
     ensures reading_after { reading.new ≡ filled (first_reading_given words.now (length reading.old)) reading.old }
 {
     let mut nogoods = [0u32; verdict_nogoods::TABLE_WORDS];
@@ -145,7 +145,7 @@ fn reading_with_three(words: &[u32], reading: &mut [u8]) -> Filling
 
 // The first reading with fronts of 32 entries.
 fn reading_with_more(words: &[u32], reading: &mut [u8]) -> Filling
-    ensures result_value { written result ≡ counted (first_reading_given words.now (length reading.old)) }
+    ensures answer { written result ≡ counted (first_reading_given words.now (length reading.old)) }
     ensures reading_after { reading.new ≡ filled (first_reading_given words.now (length reading.old)) reading.old }
 {
     let mut nogoods = [0u32; verdict_nogoods::TABLE_WORDS];
@@ -166,7 +166,7 @@ fn reading_with_more(words: &[u32], reading: &mut [u8]) -> Filling
 
 // The first reading with fronts of the largest of these capacities that is not over a number.
 fn reading_with(words: &[u32], reading: &mut [u8], entries: u32) -> Filling
-    ensures result_value { written result ≡ counted (first_reading_given words.now (length reading.old)) }
+    ensures answer { written result ≡ counted (first_reading_given words.now (length reading.old)) }
     ensures reading_after { reading.new ≡ filled (first_reading_given words.now (length reading.old)) reading.old }
 {
     if entries < 1 {
@@ -184,7 +184,7 @@ fn reading_with(words: &[u32], reading: &mut [u8], entries: u32) -> Filling
 // The same as the code of interface::desk_first_reading.
 #[unsafe(no_mangle)]
 pub extern "C" fn capacity_first_reading(words: &[u32], reading: &mut [u8], entries: u32) -> u64
-    ensures value { result ≡ code_of itself (counted (first_reading_given words.now (length reading.old))) }
+    ensures code { result ≡ code_of itself (counted (first_reading_given words.now (length reading.old))) }
     ensures reading_after { reading.new ≡ filled (first_reading_given words.now (length reading.old)) reading.old }
 {
     interface::count_code(reading_with(words, reading, entries))

@@ -22,7 +22,7 @@ use Rattle.rules.specs.Reading.{entry_bytes, reading_size}
 use Rattle.rules.specs.Verdict.{prefix, first_lawful, breach_minute, article, Verdict, pass, breach, verdict_by, verdict}
 use Rattle.rules.specs.Operations.{Finding, passed, breached, reading_into, verdict_given, first_reading_given}
 use Rattle.rules.proofs.EntryLaws.{first_size}
-use Rattle.rules.proofs.VerdictAndReading.{VerdictGiven, found_refused, found_pass, found_breach, verdict_given_lem, breach_given}
+use Rattle.rules.proofs.VerdictAndReading.{VerdictGiven, found_refused, found_pass, found_breach, verdict_given_law, breach_given}
 use Rattle.rules.proofs.VerdictAndReading.{ReadingGiven, turned_away, short, breaching, reading, reading_given}
 use Rattle.text.specs.Passes.{Put}
 use Rattle.verdict_spans.specs.Mondays.{weeks_at_most}
@@ -136,7 +136,7 @@ module _ (ws : List ℕ) where
 
 -- the breach, where the verdict is one
 pub breached_text : (ws : List ℕ) {m a : ℕ} → answered (breached m a) ≡ verdict_given ws → Breaching ws m a
-breached_text ws {m} {a} e = at (verdict_given_lem ws) e
+breached_text ws {m} {a} e = at (verdict_given_law ws) e
   where
     at : {f : Answer Finding} → VerdictGiven ws f → answered (breached m a) ≡ f → Breaching ws m a
     at (found_refused q o) e = let z : ◌≡◌ {A = ℕ} 0 1 = cc in absurd (omega arith)
@@ -251,9 +251,9 @@ pub card_refused : (bytes : List ℕ) {n : ℕ} → card_input_read bytes ≡ re
 unfolding card_text
 card_refused bytes q = printed_refused false q
 
-pub card_words_lem : (bytes : List ℕ) {ws : List ℕ} → card_input_read bytes ≡ answered ws → card_text bytes ≡ verdict_text ws
+pub card_words_law : (bytes : List ℕ) {ws : List ℕ} → card_input_read bytes ≡ answered ws → card_text bytes ≡ verdict_text ws
 unfolding card_text
-card_words_lem bytes q = printed_words false q
+card_words_law bytes q = printed_words false q
 
 pub card_over : (bytes : List ℕ) → input_at_most < length bytes → card_text bytes ≡ refusal_page 9
 unfolding card_input_read
@@ -318,10 +318,10 @@ module _ (input : List ℕ) (lent : ℕ) (within : length input ≤ input_at_mos
       ∙ room_same input (length input) (length (blank lent)) (omega arith) (omega (arith, length-replicate lent zero)))
       ∙ read_printed (text_read input (length (blank lent))) lent f told left spans
 
-  pub card_read_lem : input_at_most ≤ change_bytes * lent → (f : Filling) {new : List ℕ} → written f ≡ counted (card_read input (length (blank lent)))
+  pub card_read_law : input_at_most ≤ change_bytes * lent → (f : Filling) {new : List ℕ} → written f ≡ counted (card_read input (length (blank lent)))
       → new ≡ filled (card_read input (length (blank lent))) (blank lent) → (spans : Bool) → input_text true spans input ≡ read_text spans (written f) new
   unfolding card_input_read
-  card_read_lem room f told left spans =
+  card_read_law room f told left spans =
       input_is true spans input
       ∙ ap (printed_of spans) (not_over input (card_read input (length input)) within
       ∙ card_room_same input (length input) (length (blank lent)) (omega arith) (omega (arith, length-replicate lent zero)))

@@ -40,7 +40,11 @@ unfolding rests_of
 rests_short [] ends reading = omega arith
 rests_short (s ∷ starts) ends reading =
     rw length-append
-    (omega (arith, rest_short s (get_or ends 0 0) (get_or reading 0 0) (get_or reading 1 0) (carrier_of (get_or reading 2 0) (get_or reading 3 0)), rests_short starts (drop 1 ends) (drop entry_bytes reading)))
+    (omega (
+      arith,
+      rest_short s (get_or ends 0 0) (get_or reading 0 0) (get_or reading 1 0) (carrier_of (get_or reading 2 0) (get_or reading 3 0)),
+      rests_short starts (drop 1 ends) (drop entry_bytes reading),
+    ))
 
 regroup : (v m j r l c : List ℕ) → v ++ m ++ j ++ r ++ l ++ (c ++ c) ≡ v ++ (m ++ (j ++ r ++ l ++ c)) ++ c
 regroup v m j r l c = simp append_assoc

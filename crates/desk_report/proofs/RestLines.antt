@@ -60,7 +60,8 @@ going_first r = record { within = omega arith; room = omega (arith, r.room); byt
 
 module _ {old : List ℕ} {at : ℕ} {starts ends reading out : List ℕ} {next i : ℕ} (g : Going old at starts ends reading out next i) where
   pub going_on : {out' : List ℕ} {next' kind week carrier : ℕ} → i < length starts
-      → kind ≡ get_or reading (entry_bytes * i) 0 → week ≡ get_or reading (entry_bytes * i + 1) 0 → carrier ≡ carrier_of (get_or reading (entry_bytes * i + 2) 0) (get_or reading (entry_bytes * i + 3) 0)
+      → kind ≡ get_or reading (entry_bytes * i) 0 → week ≡ get_or reading (entry_bytes * i + 1) 0
+      → carrier ≡ carrier_of (get_or reading (entry_bytes * i + 2) 0) (get_or reading (entry_bytes * i + 3) 0)
       → Put out next (rest_text (get_or starts i 0) (get_or ends i 0) kind week carrier) next' out' → Going old at starts ends reading out' next' (i + 1)
   going_on {out'} {next'} {kind} {week} {carrier} h a b c p =
       let l : List ℕ = rest_text (get_or starts i 0) (get_or ends i 0) kind week carrier in

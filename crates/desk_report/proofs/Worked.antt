@@ -10,7 +10,7 @@ use Rattle.recording.specs.Answers.{answered}
 use Rattle.recording.specs.Words.{minutes_of}
 use Rattle.recording.specs.Operations.{fault_of, total_from, measured, measure_of}
 use Rattle.recording.specs.Opened as recording
-use Rattle.recording.proofs.ByWord.{end_by, closed_by, judged_end_by, long_rests_by, judged_by, rests_by, total_by, total_by_lem}
+use Rattle.recording.proofs.ByWord.{end_by, closed_by, judged_end_by, long_rests_by, judged_by, rests_by, total_by, total_by_law}
 use Rattle.rules.specs.Opened as rules
 use Rattle.rules.specs.Verdict.{pass, breach, verdict}
 use Rattle.rules.specs.Spans.{spans_from, breach_spans}
@@ -27,7 +27,7 @@ use Rattle.desk_report.specs.Printed.{rests_text, finding_text, bracketed, verdi
 use Rattle.desk_lines.specs.Lines.{weeks_name, weeks_text}
 use Rattle.desk_report.specs.Printed.{spans_name, weeks_lines, spans_page, spans_text, desk_spans_text, card_spans_text}
 use Rattle.desk_report.proofs.SpanLines.{spans_refused}
-use Rattle.desk_report.proofs.Answered.{text_is, text_refused, desk_words, desk_over, card_words_lem, card_over, input_over}
+use Rattle.desk_report.proofs.Answered.{text_is, text_refused, desk_words, desk_over, card_words_law, card_over, input_over}
 
 -- ---- the document's own case
 abbrev paper_words : List ℕ
@@ -38,7 +38,8 @@ abbrev paper_text : List ℕ
 paper_text = text_of (paper_words ∷ [])
 
 paper_read : input_read paper_text ≡ answered paper_words
-unfolding input_read run_name digit_at decimal line_text text_of_lines runs_then weeks_then_end same number_from number_after run_or line_of lines_from stage_after stage_from is_text words_of text_read
+unfolding input_read run_name digit_at decimal line_text text_of_lines runs_then weeks_then_end same number_from number_after run_or line_of lines_from stage_after stage_from
+    is_text words_of text_read
 paper_read = refl
 
 -- words that weighing accepts
@@ -77,7 +78,7 @@ pub card_printed : card_text card_bytes
     ≡ as_line verdict_name ++ (minutes_name ++ 32 ∷ 49 ∷ 52 ∷ 52 ∷ 48 ∷ closed) ++ (judged_name ++ 32 ∷ 49 ∷ 52 ∷ 52 ∷ 48 ∷ closed) ++ as_line reading_name
     ++ (daily_name ++ 32 ∷ 50 ∷ 52 ∷ 48 ∷ 32 ∷ 57 ∷ 48 ∷ 48 ∷ closed) ++ closed ++ closed
 unfolding recording.opened digit_at decimal numbered span_text daily_text rest_text rests_text
-card_printed = card_words_lem card_bytes card_taken ∙ text_is card_words (weighed card_words refl) card_pass
+card_printed = card_words_law card_bytes card_taken ∙ text_is card_words (weighed card_words refl) card_pass
 
 -- ---- breaches: the verdicts of the cases "On the edge", by their number from 0
 abbrev case_at : List Case → ℕ → Case
@@ -95,7 +96,7 @@ edge = say_at (starred ++ worked ++ ordered ++ asked ++ alone ++ year) on_the_ed
 
 breach_printed : (ws : List ℕ) {n m a : ℕ} → total_from 0 ws ≡ answered n → verdict (minutes_of ws) ≡ breach m a
     → verdict_text ws ≡ bracketed (numbered minutes_name (total_by ws) ++ breach_text m a)
-breach_printed ws {n} {m} {a} q e = text_is ws (weighed ws q) e ∙ ap (λ (k : ℕ). bracketed (numbered minutes_name k ++ breach_text m a)) (total_by_lem ws)
+breach_printed ws {n} {m} {a} q e = text_is ws (weighed ws q) e ∙ ap (λ (k : ℕ). bracketed (numbered minutes_name k ++ breach_text m a)) (total_by_law ws)
 
 -- ---- a pass with a given reading, word by word
 lines_by : (ws reading : List ℕ) → finding_text (minutes_of ws) (pass reading)
@@ -147,7 +148,8 @@ pub record Forms : Type 0 where
   long_text : (byte : ℕ) → desk_text (replicate 65537 byte) ≡ refused_page 57
 
 pub forms : Forms
-unfolding keep end_by closed_by total_by fault_of total_from measured digit_at decimal numbered span_text daily_text weekly_text rest_text rests_text article_text breach_text desk_text input_read lines_from
+unfolding keep end_by closed_by total_by fault_of total_from measured digit_at decimal numbered span_text daily_text weekly_text rest_text rests_text article_text breach_text
+    desk_text input_read lines_from
     stage_from is_text words_of text_read
 forms = record {
   article_7 = breach_printed _ refl (edge 4);
@@ -191,7 +193,8 @@ pub record SpanForms : Type 0 where
   odd_record_alone : card_spans_text (0 ∷ []) ≡ as_line verdict_name ++ (refused_name ++ 32 ∷ 49 ∷ 49 ∷ closed) ++ closed
 
 pub span_forms : SpanForms
-unfolding recording.opened digit_at decimal numbered span_text weeks_text weeks_lines spans_text desk_spans_text card_spans_text input_read card_input_read lines_from stage_from is_text words_of text_read
+unfolding recording.opened digit_at decimal numbered span_text weeks_text weeks_lines spans_text desk_spans_text card_spans_text input_read card_input_read lines_from stage_from
+    is_text words_of text_read
     spans_from breach_spans card.changes_in card.is_unknown card.follows card.all_follow card.in_order card.is_even card.is_day_record card.end_before card.words_of card.card_read
 span_forms = record {
   two_spans = refl;

@@ -13,7 +13,8 @@ ghost use Rattle.verdict_spans.specs.Mondays.{weeks_at_most};
 ghost use Rattle.verdict_spans.specs.Found.{weeks_in};
 ghost use Rattle.desk_report.specs.Printed.{verdict_text, input_at_most, desk_text, card_text, into_room};
 ghost use Rattle.desk_report.specs.Printed.{weeks_lines, spans_page, spans_text, desk_spans_text, card_spans_text, input_text};
-ghost use Rattle.desk_report.specs.Composing.{page_at_most, line_at_most, rest_bytes, reading_room, rests_of, Readable, refusal_page, page_of, pass_head, Read, Fits, Places, Within, words_text, read_text};
+ghost use Rattle.desk_report.specs.Composing.{page_at_most, line_at_most, rest_bytes, reading_room, Fits, Places, Within, Readable};
+ghost use Rattle.desk_report.specs.Composing.{Read, rests_of, refusal_page, page_of, pass_head, words_text, read_text};
 
 use recording::Filling;
 use verdict_judging::Judgement;
@@ -283,7 +284,7 @@ fn input_page(out: &mut [u8], card: bool, spans: bool, input: &[u8]) -> usize
 // A page into a lent buffer: 10, too few bytes; or its length.
 fn hand_over(page: &[u8], out: &mut [u8]) -> Filling
     requires { length page.now ≤ page_at_most }
-    ensures result_value { written result ≡ counted (into_room page.now (length out.old)) }
+    ensures answer { written result ≡ counted (into_room page.now (length out.old)) }
     ensures out_after { out.new ≡ filled (into_room page.now (length out.old)) out.old }
 {
     let n = page.len();
@@ -320,7 +321,7 @@ pub fn page_room(card: bool, spans: bool, bytes: usize) -> usize
 
 // Printing what is printed for an input by way of a page of its own: 10, too few bytes; or the count of bytes written.
 fn print_beside(card: bool, spans: bool, input: &[u8], out: &mut [u8]) -> Filling
-    ensures result_value { written result ≡ counted (into_room (input_text card spans input.now) (length out.old)) }
+    ensures answer { written result ≡ counted (into_room (input_text card spans input.now) (length out.old)) }
     ensures out_after { out.new ≡ filled (into_room (input_text card spans input.now) (length out.old)) out.old }
 {
     let mut page = [0u8; PAGE_BYTES];
@@ -330,7 +331,7 @@ fn print_beside(card: bool, spans: bool, input: &[u8], out: &mut [u8]) -> Fillin
 
 // The same, in place where the bytes that are lent are surely enough.
 fn print_input(card: bool, spans: bool, input: &[u8], out: &mut [u8]) -> Filling
-    ensures result_value { written result ≡ counted (into_room (input_text card spans input.now) (length out.old)) }
+    ensures answer { written result ≡ counted (into_room (input_text card spans input.now) (length out.old)) }
     ensures out_after { out.new ≡ filled (into_room (input_text card spans input.now) (length out.old)) out.old }
 {
     let enough = page_room(card, spans, input.len());
@@ -344,7 +345,7 @@ fn print_input(card: bool, spans: bool, input: &[u8], out: &mut [u8]) -> Filling
 // Printing what the desk program prints for a text: 10, too few bytes; or the count of bytes written. `PAGE_BYTES` are always
 // enough.
 pub fn print_desk(text: &[u8], out: &mut [u8]) -> Filling
-    ensures result_value { written result ≡ counted (into_room (desk_text text.now) (length out.old)) }
+    ensures answer { written result ≡ counted (into_room (desk_text text.now) (length out.old)) }
     ensures out_after { out.new ≡ filled (into_room (desk_text text.now) (length out.old)) out.old }
 {
     print_input(false, false, text, out)
@@ -352,7 +353,7 @@ pub fn print_desk(text: &[u8], out: &mut [u8]) -> Filling
 
 // Printing what it prints for a card's day record, likewise.
 pub fn print_card(bytes: &[u8], out: &mut [u8]) -> Filling
-    ensures result_value { written result ≡ counted (into_room (card_text bytes.now) (length out.old)) }
+    ensures answer { written result ≡ counted (into_room (card_text bytes.now) (length out.old)) }
     ensures out_after { out.new ≡ filled (into_room (card_text bytes.now) (length out.old)) out.old }
 {
     print_input(true, false, bytes, out)
@@ -360,7 +361,7 @@ pub fn print_card(bytes: &[u8], out: &mut [u8]) -> Filling
 
 // Printing what it prints of the spans of weeks of a text, likewise.
 pub fn print_spans(text: &[u8], out: &mut [u8]) -> Filling
-    ensures result_value { written result ≡ counted (into_room (desk_spans_text text.now) (length out.old)) }
+    ensures answer { written result ≡ counted (into_room (desk_spans_text text.now) (length out.old)) }
     ensures out_after { out.new ≡ filled (into_room (desk_spans_text text.now) (length out.old)) out.old }
 {
     print_input(false, true, text, out)
@@ -368,7 +369,7 @@ pub fn print_spans(text: &[u8], out: &mut [u8]) -> Filling
 
 // Printing what it prints of those of a card's day record, likewise.
 pub fn print_card_spans(bytes: &[u8], out: &mut [u8]) -> Filling
-    ensures result_value { written result ≡ counted (into_room (card_spans_text bytes.now) (length out.old)) }
+    ensures answer { written result ≡ counted (into_room (card_spans_text bytes.now) (length out.old)) }
     ensures out_after { out.new ≡ filled (into_room (card_spans_text bytes.now) (length out.old)) out.old }
 {
     print_input(true, true, bytes, out)

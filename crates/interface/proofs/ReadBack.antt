@@ -186,9 +186,9 @@ narrow_back wide room =
     (told_if (too_large (fields_in wide)) (omega arith) (by_value _)))))
 
 -- ---- the spans of weeks
-pub spans_back_lem : (ws : List ℕ) (room : ℕ) → answer_in itself (code_of itself (counted (spans_given ws room))) ≡ counted (spans_given ws room)
+pub spans_back_law : (ws : List ℕ) (room : ℕ) → answer_in itself (code_of itself (counted (spans_given ws room))) ≡ counted (spans_given ws room)
 unfolding spans_given
-spans_back_lem ws room = count_back (told_counted (told_then (told_measured ws) (λ _. told_if (ltb room (length (breach_spans (minutes_of ws)))) (omega arith) (by_value _))))
+spans_back_law ws room = count_back (told_counted (told_then (told_measured ws) (λ _. told_if (ltb room (length (breach_spans (minutes_of ws)))) (omega arith) (by_value _))))
 
 -- ---- the verdict: an article is below its unit
 data Within : Finding → Type 0 where

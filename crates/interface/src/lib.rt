@@ -90,7 +90,7 @@ pub fn desk_weigh(words: &[u32]) -> u64
 
 // Listing long rests: a refusal's number; or ANSWER and their count.
 pub fn desk_list(words: &[u32], list: &mut [Span]) -> u64
-    ensures value { result ≡ code_of itself (counted (listed words.now (length list.old))) }
+    ensures code { result ≡ code_of itself (counted (listed words.now (length list.old))) }
     ensures list_after { list.new ≡ filled (listed words.now (length list.old)) list.old }
 {
     count_code(recording_list::list_long_rests(words, list))
@@ -137,7 +137,7 @@ pub fn desk_entry_refusal(reading: &[u8], number: usize) -> u64
 
 // Reading text: a refusal's number; or ANSWER and the count of words.
 pub fn desk_read_text(text: &[u8], words: &mut [u32]) -> u64
-    ensures value { result ≡ code_of itself (counted (text_read text.now (length words.old))) }
+    ensures code { result ≡ code_of itself (counted (text_read text.now (length words.old))) }
     ensures words_after { words.new ≡ filled (text_read text.now (length words.old)) words.old }
 {
     count_code(text::read_text(text, words))
@@ -145,7 +145,7 @@ pub fn desk_read_text(text: &[u8], words: &mut [u32]) -> u64
 
 // Writing text: a refusal's number; or ANSWER and the text's length.
 pub fn desk_write_text(words: &[u32], text: &mut [u8]) -> u64
-    ensures value { result ≡ code_of itself (counted (text_written words.now (length text.old))) }
+    ensures code { result ≡ code_of itself (counted (text_written words.now (length text.old))) }
     ensures text_after { text.new ≡ filled (text_written words.now (length text.old)) text.old }
 {
     count_code(text::write_text(words, text))
@@ -153,7 +153,7 @@ pub fn desk_write_text(words: &[u32], text: &mut [u8]) -> u64
 
 // Reading a card's day record: a refusal's number; or ANSWER and the count of words.
 pub fn desk_read_card(bytes: &[u8], words: &mut [u32]) -> u64
-    ensures value { result ≡ code_of itself (counted (card_read bytes.now (length words.old))) }
+    ensures code { result ≡ code_of itself (counted (card_read bytes.now (length words.old))) }
     ensures words_after { words.new ≡ filled (card_read bytes.now (length words.old)) words.old }
 {
     count_code(card_reader::read_card(bytes, words))
@@ -161,7 +161,7 @@ pub fn desk_read_card(bytes: &[u8], words: &mut [u32]) -> u64
 
 // Writing a card's day record: a refusal's number; or ANSWER and the count of bytes.
 pub fn desk_write_card(words: &[u32], bytes: &mut [u8]) -> u64
-    ensures value { result ≡ code_of itself (counted (card_written words.now (length bytes.old))) }
+    ensures code { result ≡ code_of itself (counted (card_written words.now (length bytes.old))) }
     ensures bytes_after { bytes.new ≡ filled (card_written words.now (length bytes.old)) bytes.old }
 {
     count_code(card::write_card(words, bytes))
@@ -176,7 +176,7 @@ pub fn desk_verdict(words: &[u32]) -> u64
 
 // The first lawful reading: a refusal's number; or ANSWER and the count of its bytes.
 pub fn desk_first_reading(words: &[u32], reading: &mut [u8]) -> u64
-    ensures value { result ≡ code_of itself (counted (first_reading_given words.now (length reading.old))) }
+    ensures code { result ≡ code_of itself (counted (first_reading_given words.now (length reading.old))) }
     ensures reading_after { reading.new ≡ filled (first_reading_given words.now (length reading.old)) reading.old }
 {
     count_code(verdict::first_reading(words, reading))
@@ -184,7 +184,7 @@ pub fn desk_first_reading(words: &[u32], reading: &mut [u8]) -> u64
 
 // A stored reading of three bytes an entry carried over to four: a refusal's number; or ANSWER and the count of bytes.
 pub fn desk_widen_reading(old: &[u8], wide: &mut [u8]) -> u64
-    ensures value { result ≡ code_of itself (counted (reading_widened old.now (length wide.old))) }
+    ensures code { result ≡ code_of itself (counted (reading_widened old.now (length wide.old))) }
     ensures wide_after { wide.new ≡ filled (reading_widened old.now (length wide.old)) wide.old }
 {
     moved_code(rules_moves::widen_reading(old, wide))
@@ -192,15 +192,15 @@ pub fn desk_widen_reading(old: &[u8], wide: &mut [u8]) -> u64
 
 // The same back: a refusal's number; or ANSWER and the count of bytes.
 pub fn desk_narrow_reading(wide: &[u8], old: &mut [u8]) -> u64
-    ensures value { result ≡ code_of itself (counted (reading_narrowed wide.now (length old.old))) }
-    ensures after { old.new ≡ filled (reading_narrowed wide.now (length old.old)) old.old }
+    ensures code { result ≡ code_of itself (counted (reading_narrowed wide.now (length old.old))) }
+    ensures old_after { old.new ≡ filled (reading_narrowed wide.now (length old.old)) old.old }
 {
     moved_code(rules_moves::narrow_reading(wide, old))
 }
 
 // The spans of weeks that are a breach while no shorter span inside them is one: a refusal's number; or ANSWER and their count.
 pub fn desk_breach_spans(words: &[u32], list: &mut [Weeks]) -> u64
-    ensures value { result ≡ code_of itself (counted (spans_given words.now (length list.old))) }
+    ensures code { result ≡ code_of itself (counted (spans_given words.now (length list.old))) }
     ensures list_after { list.new ≡ filled (spans_given words.now (length list.old)) list.old }
 {
     count_code(verdict_spans::breach_spans(words, list))

@@ -30,7 +30,7 @@ pub extern "C" fn desk_weigh(words: &[u32]) -> u64
 // Listing long rests: a refusal's number; or ANSWER and their count.
 #[unsafe(no_mangle)]
 pub extern "C" fn desk_list(words: &[u32], list: &mut [Span]) -> u64
-    ensures value { result ≡ code_of itself (counted (listed words.now (length list.old))) }
+    ensures code { result ≡ code_of itself (counted (listed words.now (length list.old))) }
     ensures list_after { list.new ≡ filled (listed words.now (length list.old)) list.old }
 {
     interface::desk_list(words, list)
@@ -79,7 +79,7 @@ pub extern "C" fn desk_entry_refusal(reading: &[u8], number: usize) -> u64
 // Reading text: a refusal's number; or ANSWER and the count of words.
 #[unsafe(no_mangle)]
 pub extern "C" fn desk_read_text(text: &[u8], words: &mut [u32]) -> u64
-    ensures value { result ≡ code_of itself (counted (text_read text.now (length words.old))) }
+    ensures code { result ≡ code_of itself (counted (text_read text.now (length words.old))) }
     ensures words_after { words.new ≡ filled (text_read text.now (length words.old)) words.old }
 {
     interface::desk_read_text(text, words)
@@ -88,7 +88,7 @@ pub extern "C" fn desk_read_text(text: &[u8], words: &mut [u32]) -> u64
 // Writing text: a refusal's number; or ANSWER and the text's length.
 #[unsafe(no_mangle)]
 pub extern "C" fn desk_write_text(words: &[u32], text: &mut [u8]) -> u64
-    ensures value { result ≡ code_of itself (counted (text_written words.now (length text.old))) }
+    ensures code { result ≡ code_of itself (counted (text_written words.now (length text.old))) }
     ensures text_after { text.new ≡ filled (text_written words.now (length text.old)) text.old }
 {
     interface::desk_write_text(words, text)
@@ -97,7 +97,7 @@ pub extern "C" fn desk_write_text(words: &[u32], text: &mut [u8]) -> u64
 // Reading a card's day record: a refusal's number; or ANSWER and the count of words.
 #[unsafe(no_mangle)]
 pub extern "C" fn desk_read_card(bytes: &[u8], words: &mut [u32]) -> u64
-    ensures value { result ≡ code_of itself (counted (card_read bytes.now (length words.old))) }
+    ensures code { result ≡ code_of itself (counted (card_read bytes.now (length words.old))) }
     ensures words_after { words.new ≡ filled (card_read bytes.now (length words.old)) words.old }
 {
     interface::desk_read_card(bytes, words)
@@ -106,7 +106,7 @@ pub extern "C" fn desk_read_card(bytes: &[u8], words: &mut [u32]) -> u64
 // Writing a card's day record: a refusal's number; or ANSWER and the count of bytes.
 #[unsafe(no_mangle)]
 pub extern "C" fn desk_write_card(words: &[u32], bytes: &mut [u8]) -> u64
-    ensures value { result ≡ code_of itself (counted (card_written words.now (length bytes.old))) }
+    ensures code { result ≡ code_of itself (counted (card_written words.now (length bytes.old))) }
     ensures bytes_after { bytes.new ≡ filled (card_written words.now (length bytes.old)) bytes.old }
 {
     interface::desk_write_card(words, bytes)
@@ -123,7 +123,7 @@ pub extern "C" fn desk_verdict(words: &[u32]) -> u64
 // The first lawful reading: a refusal's number; or ANSWER and the count of its bytes.
 #[unsafe(no_mangle)]
 pub extern "C" fn desk_first_reading(words: &[u32], reading: &mut [u8]) -> u64
-    ensures value { result ≡ code_of itself (counted (first_reading_given words.now (length reading.old))) }
+    ensures code { result ≡ code_of itself (counted (first_reading_given words.now (length reading.old))) }
     ensures reading_after { reading.new ≡ filled (first_reading_given words.now (length reading.old)) reading.old }
 {
     interface::desk_first_reading(words, reading)
@@ -132,7 +132,7 @@ pub extern "C" fn desk_first_reading(words: &[u32], reading: &mut [u8]) -> u64
 // A stored reading of three bytes an entry carried over to four: a refusal's number; or ANSWER and the count of bytes.
 #[unsafe(no_mangle)]
 pub extern "C" fn desk_widen_reading(old: &[u8], wide: &mut [u8]) -> u64
-    ensures value { result ≡ code_of itself (counted (reading_widened old.now (length wide.old))) }
+    ensures code { result ≡ code_of itself (counted (reading_widened old.now (length wide.old))) }
     ensures wide_after { wide.new ≡ filled (reading_widened old.now (length wide.old)) wide.old }
 {
     interface::desk_widen_reading(old, wide)
@@ -141,8 +141,8 @@ pub extern "C" fn desk_widen_reading(old: &[u8], wide: &mut [u8]) -> u64
 // The same back: a refusal's number; or ANSWER and the count of bytes.
 #[unsafe(no_mangle)]
 pub extern "C" fn desk_narrow_reading(wide: &[u8], old: &mut [u8]) -> u64
-    ensures value { result ≡ code_of itself (counted (reading_narrowed wide.now (length old.old))) }
-    ensures after { old.new ≡ filled (reading_narrowed wide.now (length old.old)) old.old }
+    ensures code { result ≡ code_of itself (counted (reading_narrowed wide.now (length old.old))) }
+    ensures old_after { old.new ≡ filled (reading_narrowed wide.now (length old.old)) old.old }
 {
     interface::desk_narrow_reading(wide, old)
 }
@@ -150,7 +150,7 @@ pub extern "C" fn desk_narrow_reading(wide: &[u8], old: &mut [u8]) -> u64
 // The spans of weeks that are a breach while no shorter span inside them is one: a refusal's number; or ANSWER and their count.
 #[unsafe(no_mangle)]
 pub extern "C" fn desk_breach_spans(words: &[u32], list: &mut [Weeks]) -> u64
-    ensures value { result ≡ code_of itself (counted (spans_given words.now (length list.old))) }
+    ensures code { result ≡ code_of itself (counted (spans_given words.now (length list.old))) }
     ensures list_after { list.new ≡ filled (spans_given words.now (length list.old)) list.old }
 {
     interface::desk_breach_spans(words, list)

@@ -15,7 +15,7 @@ use Rattle.recording.specs.Rests.{with_rest, end_from, judged_end, closed_from, 
 use Rattle.recording.specs.Days.{driving_in}
 use Rattle.recording.specs.Scan.{cut_at}
 use Rattle.recording.specs.declared.Span.{Span}
-use Rattle.recording.proofs.WordLaws.{minutes_in_lem, activity_in_lem}
+use Rattle.recording.proofs.WordLaws.{minutes_in_law, activity_in_law}
 
 -- ---- S and the rests: `from` and `now` after a run of n minutes of the activity a
 abbrev pub by_run : {A : Type 0} → ℕ → ℕ → ℕ → ℕ → (ℕ → ℕ → A) → A
@@ -83,19 +83,19 @@ rests_same zero a from now f g e = e from now
 rests_same (suc n) zero from now f g e = e from (now + suc n)
 rests_same (suc n) (suc a) from now f g e = ap (with_rest from now) (e (now + suc n) (now + suc n))
 
-end_by_lem : (from now : ℕ) (ws : List ℕ) → end_from from now (minutes_of ws) ≡ end_by from now ws
+end_by_law : (from now : ℕ) (ws : List ℕ) → end_from from now (minutes_of ws) ≡ end_by from now ws
 unfolding minutes_of end_from end_by
-end_by_lem from now [] = refl
-end_by_lem from now (w ∷ ws) =
+end_by_law from now [] = refl
+end_by_law from now (w ∷ ws) =
     end_run (minutes_in w) (activity_in w) from now (minutes_of ws)
-    ∙ after_same (minutes_in w) (activity_in w) from now (λ f t. end_from f t (minutes_of ws)) (λ f t. end_by f t ws) (λ f t. end_by_lem f t ws)
+    ∙ after_same (minutes_in w) (activity_in w) from now (λ f t. end_from f t (minutes_of ws)) (λ f t. end_by f t ws) (λ f t. end_by_law f t ws)
 
-closed_by_lem : (from now : ℕ) (ws : List ℕ) → closed_from from now (minutes_of ws) ≡ closed_by from now ws
+closed_by_law : (from now : ℕ) (ws : List ℕ) → closed_from from now (minutes_of ws) ≡ closed_by from now ws
 unfolding minutes_of closed_from closed_by
-closed_by_lem from now [] = refl
-closed_by_lem from now (w ∷ ws) =
+closed_by_law from now [] = refl
+closed_by_law from now (w ∷ ws) =
     closed_run (minutes_in w) (activity_in w) from now (minutes_of ws)
-    ∙ rests_same (minutes_in w) (activity_in w) from now (λ f t. closed_from f t (minutes_of ws)) (λ f t. closed_by f t ws) (λ f t. closed_by_lem f t ws)
+    ∙ rests_same (minutes_in w) (activity_in w) from now (λ f t. closed_from f t (minutes_of ws)) (λ f t. closed_by f t ws) (λ f t. closed_by_law f t ws)
 
 abbrev pub judged_end_by : List ℕ → ℕ
 judged_end_by ws = end_by 0 0 ws
@@ -105,25 +105,25 @@ long_rests_by ws = keep is_long (closed_by 0 0 ws)
 
 pub judged_by : (ws : List ℕ) → judged_end (minutes_of ws) ≡ judged_end_by ws
 unfolding judged_end
-judged_by ws = end_by_lem 0 0 ws
+judged_by ws = end_by_law 0 0 ws
 
 pub closed_rests_by : (ws : List ℕ) → closed_rests (minutes_of ws) ≡ closed_by 0 0 ws
 unfolding closed_rests
-closed_rests_by ws = closed_by_lem 0 0 ws
+closed_rests_by ws = closed_by_law 0 0 ws
 
 pub rests_by : (ws : List ℕ) → long_rests (minutes_of ws) ≡ long_rests_by ws
 unfolding long_rests
-rests_by ws = ap (keep is_long) (closed_by_lem 0 0 ws)
+rests_by ws = ap (keep is_long) (closed_by_law 0 0 ws)
 
 -- ---- N
 unfoldable pub total_by : List ℕ → ℕ
 total_by [] = 0
 total_by (w ∷ ws) = minutes_in w + total_by ws
 
-pub total_by_lem : (ws : List ℕ) → length (minutes_of ws) ≡ total_by ws
+pub total_by_law : (ws : List ℕ) → length (minutes_of ws) ≡ total_by ws
 unfolding minutes_of total_by
-total_by_lem [] = refl
-total_by_lem (w ∷ ws) = rw (length-append, length-replicate) (omega (arith, total_by_lem ws))
+total_by_law [] = refl
+total_by_law (w ∷ ws) = rw (length-append, length-replicate) (omega (arith, total_by_law ws))
 
 -- ---- driving: up to a minute, and in a span
 unfoldable pub driving_up_to : ℕ → List ℕ → ℕ
@@ -154,13 +154,13 @@ driving_run (suc n) (suc t) a ms =
     let e : t - n ≡ suc t - suc n = omega arith in
     omega (arith, driving_run n t a ms, one_run (is_driving a) t n, at (λ x. driving_time (take x ms)) e)
 
-pub driving_up_to_lem : (t : ℕ) (ws : List ℕ) → driving_time (take t (minutes_of ws)) ≡ driving_up_to t ws
+pub driving_up_to_law : (t : ℕ) (ws : List ℕ) → driving_time (take t (minutes_of ws)) ≡ driving_up_to t ws
 unfolding minutes_of driving_time driving_up_to
-driving_up_to_lem zero [] = refl
-driving_up_to_lem (suc t) [] = refl
-driving_up_to_lem t (w ∷ ws) =
+driving_up_to_law zero [] = refl
+driving_up_to_law (suc t) [] = refl
+driving_up_to_law t (w ∷ ws) =
     driving_run (minutes_in w) t (activity_in w) (minutes_of ws)
-    ∙ ap (λ (x : ℕ). pick (is_driving (activity_in w)) (min t (minutes_in w)) 0 + x) (driving_up_to_lem (t - minutes_in w) ws)
+    ∙ ap (λ (x : ℕ). pick (is_driving (activity_in w)) (min t (minutes_in w)) 0 + x) (driving_up_to_law (t - minutes_in w) ws)
 
 -- the driving in a span is what there is up to its end less what there is up to its start
 pub driving_less : (from to : ℕ) (ms : List ℕ) → driving_time (slice from to ms) ≡ driving_time (take to ms) - driving_time (take from ms)
@@ -173,11 +173,11 @@ driving_less (suc from) (suc to) (a ∷ ms) = omega (arith, driving_less from to
 abbrev pub driving_by : List ℕ → Span → ℕ
 driving_by ws d = driving_up_to d.end ws - driving_up_to d.start ws
 
-pub driving_by_lem : (ws : List ℕ) (d : Span) → driving_in (minutes_of ws) d ≡ driving_by ws d
+pub driving_by_law : (ws : List ℕ) (d : Span) → driving_in (minutes_of ws) d ≡ driving_by ws d
 unfolding driving_in
-driving_by_lem ws d =
+driving_by_law ws d =
     driving_less d.start d.end (minutes_of ws)
-    ∙ ap₂ (λ (x y : ℕ). x - y) (driving_up_to_lem d.end ws) (driving_up_to_lem d.start ws)
+    ∙ ap₂ (λ (x y : ℕ). x - y) (driving_up_to_law d.end ws) (driving_up_to_law d.start ws)
 
 -- ---- a stretch
 pub take_run : (m n a : ℕ) (ms : List ℕ) → take m (replicate n a ++ ms) ≡ replicate (min m n) a ++ take (m - n) ms
@@ -194,12 +194,12 @@ take_run (suc m) (suc n) a ms =
     let z : suc (min m n) ≡ min (suc m) (suc n) = omega arith in
     ap (λ (l : List ℕ). a ∷ l) (take_run m n a ms) ∙ ap₂ (λ (x y : ℕ). replicate x a ++ take y ms) z e
 
-pub cut_at_lem : (m : ℕ) (ws : List ℕ) → minutes_of (cut_at m ws) ≡ take m (minutes_of ws)
+pub cut_at_law : (m : ℕ) (ws : List ℕ) → minutes_of (cut_at m ws) ≡ take m (minutes_of ws)
 unfolding minutes_of cut_at
-cut_at_lem zero [] = refl
-cut_at_lem (suc m) [] = refl
-cut_at_lem m (w ∷ ws) =
+cut_at_law zero [] = refl
+cut_at_law (suc m) [] = refl
+cut_at_law m (w ∷ ws) =
     ap₂ (λ (n x : ℕ). replicate n x ++ minutes_of (cut_at (m - minutes_in w) ws))
-    (minutes_in_lem (min m (minutes_in w)) (activity_in w) (omega arith)) (activity_in_lem (min m (minutes_in w)) (activity_in w) (omega arith))
-    ∙ ap (λ (l : List ℕ). replicate (min m (minutes_in w)) (activity_in w) ++ l) (cut_at_lem (m - minutes_in w) ws)
+    (minutes_in_law (min m (minutes_in w)) (activity_in w) (omega arith)) (activity_in_law (min m (minutes_in w)) (activity_in w) (omega arith))
+    ∙ ap (λ (l : List ℕ). replicate (min m (minutes_in w)) (activity_in w) ++ l) (cut_at_law (m - minutes_in w) ws)
     ∙ sym (take_run m (minutes_in w) (activity_in w) (minutes_of ws))

@@ -69,9 +69,9 @@ latest_from point none p h l = record { before = l; after = le_refl _; is_end = 
 latest_from point (next {r = r} a n e o) p h l =
     latest_next point o p (omega arith) (leb r.end point) refl l (λ g. latest_from point o r.end (omega arith) g)
 
-pub latest_end_lem : (ms : List ℕ) (point : ℕ) → Latest (long_rests ms) 0 point (latest_end ms point)
+pub latest_end_law : (ms : List ℕ) (point : ℕ) → Latest (long_rests ms) 0 point (latest_end ms point)
 unfolding latest_end
-latest_end_lem ms point = latest_from point (rests_ordered ms) 0 zero-le zero-le
+latest_end_law ms point = latest_from point (rests_ordered ms) 0 zero-le zero-le
 
 -- ---- "A day runs from P to the next long rest's start, or to S."
 day_ends : (p s : ℕ) (rs : List Span) → map (λ (d : Span). d.end) (days_from p s rs) ≡ map (λ (r : Span). r.start) rs ++ s ∷ []

@@ -15,7 +15,7 @@ use Rattle.recording.specs.Rests.{length_of, with_rest, end_from, judged_end, cl
 use Rattle.recording.specs.Operations.{total_at_most}
 use Rattle.recording.specs.declared.Span.{Span}
 use Rattle.recording.proofs.TestLaws.{keep_in, in_keep}
-use Rattle.recording.proofs.Walks.{end_from_lem, judged_within, long_rests_append}
+use Rattle.recording.proofs.Walks.{end_from_law, judged_within, long_rests_append}
 use Rattle.recording.proofs.Runs.{ClosedRun, closed_run, run_closed_rest}
 
 -- "A long rest is a rest that is not open and has 540 minutes or more."
@@ -29,9 +29,9 @@ long_is ms {r} i =
     let k = keep_in is_long (closed_rests ms) i in
     record { rest = closed_run ms k.listed; long = leb-true long_rest_minutes (length_of r) k.passes }
 
-pub is_long_lem : (ms : List ℕ) {r : Span} → LongRest ms r → In r (long_rests ms)
+pub is_long_law : (ms : List ℕ) {r : Span} → LongRest ms r → In r (long_rests ms)
 unfolding long_rests closed_rests
-is_long_lem ms {r} l =
+is_long_law ms {r} l =
     in_keep is_long (run_closed_rest l.rest.run l.rest.closed) (le-leb long_rest_minutes (length_of r) l.long)
 
 -- ---- one minute of the walk
@@ -73,7 +73,7 @@ long_ordered from now [] h = none
 long_ordered from now (zero ∷ ms) h = long_ordered from (suc now) ms (omega arith)
 long_ordered from now (suc a ∷ ms) h =
     rw (long_busy from now a ms)
-    (ordered_pick _ refl h (end_from_lem (suc now) (suc now) ms (le_refl _)) (long_ordered (suc now) (suc now) ms (le_refl _)))
+    (ordered_pick _ refl h (end_from_law (suc now) (suc now) ms (le_refl _)) (long_ordered (suc now) (suc now) ms (le_refl _)))
 
 pub rests_ordered : (ms : List ℕ) → Ordered (judged_end ms) 0 (long_rests ms)
 unfolding judged_end long_rests

@@ -16,10 +16,10 @@ use Rattle.recording.specs.Tests.{all_of, any_of}
 use Rattle.recording.specs.Words.{rest}
 use Rattle.recording.specs.Rests.{end_from, judged_end, closed_from, closed_rests, long_rest_minutes, long_rests}
 use Rattle.recording.specs.Weeks.{week_start, week, is_rest, rest_only, inside}
-use Rattle.recording.proofs.TestLaws.{and_left, and_right, and_both, same_test, any_of_lem, of_any, less_or_not}
+use Rattle.recording.proofs.TestLaws.{and_left, and_right, and_both, same_test, any_of_law, of_any, less_or_not}
 use Rattle.recording.proofs.Walks.{judged_within, judged_append, closed_rests_append}
 use Rattle.recording.proofs.Runs.{judged_trailing, closed_run}
-use Rattle.recording.proofs.LongRests.{long_is, is_long_lem}
+use Rattle.recording.proofs.LongRests.{long_is, is_long_law}
 
 -- ---- a test of the minutes of a span, minute by minute
 resting_at : (from to : ℕ) (ms : List ℕ) → all_of is_rest (slice from to ms) ≡ true → (i : ℕ) → from ≤ i → i < to → i < length ms → get_or ms i 0 ≡ rest
@@ -94,7 +94,7 @@ module _ (ms : List ℕ) (from to : ℕ) (long : from + long_rest_minutes ≤ to
       let h : s ≤ from = under_way t in
       let k = ends_at s to (drop to ms) (omega arith) (omega (arith, judged_whole)) in
       let i : In (record { start = s; end = k.0 }) (closed_rests ms) = rw closed_whole (Memᴰ.append_right (closed_rests (take to ms)) k.2) in
-      any_of_lem (inside (record { start = from; end = to })) (is_long_lem ms (record { rest = closed_run ms i; long = omega (arith, k.1) }))
+      any_of_law (inside (record { start = from; end = to })) (is_long_law ms (record { rest = closed_run ms i; long = omega (arith, k.1) }))
       (and_both _ _ (le-leb s from h) (le-leb to k.0 k.1))
 
   all_rest : any_of (inside (record { start = from; end = to })) (long_rests ms) ≡ true → all_of is_rest (slice from to ms) ≡ true
@@ -110,6 +110,6 @@ module _ (ms : List ℕ) (from to : ℕ) (long : from + long_rest_minutes ≤ to
   pub rest_inside : all_of is_rest (slice from to ms) ≡ any_of (inside (record { start = from; end = to })) (long_rests ms)
   rest_inside = same_test _ _ lies_inside all_rest
 
-pub rest_week_lem : (ms : List ℕ) (w : ℕ) → week_start (w + 1) ≤ judged_end ms → rest_only ms w ≡ any_of (inside (week w)) (long_rests ms)
+pub rest_week_law : (ms : List ℕ) (w : ℕ) → week_start (w + 1) ≤ judged_end ms → rest_only ms w ≡ any_of (inside (week w)) (long_rests ms)
 unfolding rest_only
-rest_week_lem ms w h = rest_inside ms (week_start w) (week_start (w + 1)) (omega arith) h
+rest_week_law ms w h = rest_inside ms (week_start w) (week_start (w + 1)) (omega arith) h

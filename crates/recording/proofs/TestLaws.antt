@@ -141,10 +141,10 @@ module _ {A : Type 0} (f : A → Bool) where
     pub listed : In item xs
     pub passes : f item ≡ true
 
-  pub any_of_lem : {x : A} {xs : List A} → In x xs → f x ≡ true → any_of f xs ≡ true
+  pub any_of_law : {x : A} {xs : List A} → In x xs → f x ≡ true → any_of f xs ≡ true
   unfolding any_of
-  any_of_lem (here e) t = or_left _ _ (rw e at t)
-  any_of_lem (there i) t = or_right _ _ (any_of_lem i t)
+  any_of_law (here e) t = or_left _ _ (rw e at t)
+  any_of_law (there i) t = or_right _ _ (any_of_law i t)
 
   pub any_append : (xs ys : List A) → any_of f (xs ++ ys) ≡ any_of f xs or any_of f ys
   unfolding any_of ◌or◌

@@ -20,11 +20,11 @@ end_append from now (zero ∷ xs) ys =
 end_append from now (suc a ∷ xs) ys =
     end_append (suc now) (suc now) xs ys ∙ ap (λ (n : ℕ). end_from (end_from (suc now) (suc now) xs) n ys) (omega arith)
 
-pub end_from_lem : (from now : ℕ) (ms : List ℕ) → from ≤ now → from ≤ end_from from now ms
+pub end_from_law : (from now : ℕ) (ms : List ℕ) → from ≤ now → from ≤ end_from from now ms
 unfolding end_from
-end_from_lem from now [] h = le_refl _
-end_from_lem from now (zero ∷ ms) h = end_from_lem from (suc now) ms (omega arith)
-end_from_lem from now (suc a ∷ ms) h = omega (arith, end_from_lem (suc now) (suc now) ms (le_refl _))
+end_from_law from now [] h = le_refl _
+end_from_law from now (zero ∷ ms) h = end_from_law from (suc now) ms (omega arith)
+end_from_law from now (suc a ∷ ms) h = omega (arith, end_from_law (suc now) (suc now) ms (le_refl _))
 
 pub end_to : (from now : ℕ) (ms : List ℕ) → from ≤ now → end_from from now ms ≤ now + length ms
 unfolding end_from
@@ -68,4 +68,4 @@ module _ (xs ys : List ℕ) where
   long_rests_append = ap (keep is_long) closed_rests_append ∙ keep_append is_long _ _
 
   pub judged_mono : judged_end xs ≤ judged_end (xs ++ ys)
-  judged_mono = rw judged_append (end_from_lem _ _ ys (judged_within xs))
+  judged_mono = rw judged_append (end_from_law _ _ ys (judged_within xs))

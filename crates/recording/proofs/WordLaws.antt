@@ -15,11 +15,11 @@ use Rattle.recording.specs.Words.{activities, word_of, minutes_in, activity_in, 
 use Rattle.recording.specs.Operations.{total_at_most, fault_of, unless_fault, total_from}
 
 -- a word holds what it was made of
-pub minutes_in_lem : (n a : ℕ) → a < activities → minutes_in (word_of n a) ≡ n
-minutes_in_lem n a h = omega arith
+pub minutes_in_law : (n a : ℕ) → a < activities → minutes_in (word_of n a) ≡ n
+minutes_in_law n a h = omega arith
 
-pub activity_in_lem : (n a : ℕ) → a < activities → activity_in (word_of n a) ≡ a
-activity_in_lem n a h = omega arith
+pub activity_in_law : (n a : ℕ) → a < activities → activity_in (word_of n a) ≡ a
+activity_in_law n a h = omega arith
 
 pub minutes_append : (vs ws : List ℕ) → minutes_of (vs ++ ws) ≡ minutes_of vs ++ minutes_of ws
 unfolding minutes_of

@@ -98,7 +98,7 @@ fn answer_of(found: Found) -> Filling
 
 // The long rests into a lent list, one record each: refusals 1 and 2, then 3 where the list has too few.
 pub fn list_long_rests(words: &[u32], list: &mut [Span]) -> Filling
-    ensures result_value { written result ≡ counted (listed words.now (length list.old)) }
+    ensures answer { written result ≡ counted (listed words.now (length list.old)) }
     ensures list_after { list.new ≡ filled (listed words.now (length list.old)) list.old }
 {
     let mut found = scan_of(words, list.len());

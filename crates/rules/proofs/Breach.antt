@@ -44,9 +44,9 @@ module _ (ms : List ℕ) where
         ap (λ (f : List ℕ). lawful_fields ms f) (fields_back (length (long_rests ms)) fields (fields_length (length (long_rests ms)) fields l.bounded)) ∙ l.keeps;
   }
 
-  pub lawful_fields_lem : {reading : List ℕ} → LawfulReading ms reading → Lawful ms (fields_in reading)
+  pub lawful_fields_law : {reading : List ℕ} → LawfulReading ms reading → Lawful ms (fields_in reading)
   unfolding lawful lawful_fields reading_test reading_size
-  lawful_fields_lem {reading} l = record { bounded = fields_bounded (length (long_rests ms)) reading l.bytes; keeps = l.keeps }
+  lawful_fields_law {reading} l = record { bounded = fields_bounded (length (long_rests ms)) reading l.bytes; keeps = l.keeps }
 
 -- ---- the first lawful reading is sound, complete and least, and whatever is so is it: by its fields
 pub record First (ms fields : List ℕ) : Type 0 where
@@ -54,9 +54,9 @@ pub record First (ms fields : List ℕ) : Type 0 where
   pub least : (s : List ℕ) → Lawful ms s → NotAfter fields s
 
 module _ (ms : List ℕ) where
-  pub first_fields_lem : {r : List ℕ} → first_fields ms ≡ some r → First ms r
+  pub first_fields_law : {r : List ℕ} → first_fields ms ≡ some r → First ms r
   unfolding first_fields
-  first_fields_lem e =
+  first_fields_law e =
       let f = law_at _ (lawful_fields ms) e in
       record { sound = record { bounded = f.0; keeps = f.1 }; least = λ s l. f.2 s l.bounded l.keeps }
 
@@ -85,23 +85,23 @@ module _ (ms : List ℕ) where
   unfolding first_lawful first_fields
   is_first {r} f = ap as_bytes (first_is _ (lawful_fields ms) (some r) (f.sound.bounded, f.sound.keeps, λ s b t. f.least s (record { bounded = b; keeps = t })))
 
-  pub is_none_lem : (HasLawful ms → ⊥) → first_lawful ms ≡ none
+  pub is_none_law : (HasLawful ms → ⊥) → first_lawful ms ≡ none
   unfolding first_lawful first_fields
-  is_none_lem h = ap as_bytes (first_is _ (lawful_fields ms) none (λ s b t. h (s, record { bounded = b; keeps = t })))
+  is_none_law h = ap as_bytes (first_is _ (lawful_fields ms) none (λ s b t. h (s, record { bounded = b; keeps = t })))
 
   -- ---- and by its bytes: THE LAW of the first lawful reading
   pub first_sound : {r : List ℕ} → first_lawful ms ≡ some r → LawfulReading ms r
-  first_sound e = let (f, q, b) = found_fields e in rw b (lawful_bytes ms (first_fields_lem q).sound)
+  first_sound e = let (f, q, b) = found_fields e in rw b (lawful_bytes ms (first_fields_law q).sound)
 
   pub first_least : {r s : List ℕ} → first_lawful ms ≡ some r → LawfulReading ms s → NotAfter (fields_in r) (fields_in s)
   first_least {s = s} e l =
       let (f, q, b) = found_fields e in
-      let g = first_fields_lem q in
+      let g = first_fields_law q in
       let k = length (long_rests ms) in
-      rw (b, fields_back k f (fields_length k f g.sound.bounded)) (g.least (fields_in s) (lawful_fields_lem ms l))
+      rw (b, fields_back k f (fields_length k f g.sound.bounded)) (g.least (fields_in s) (lawful_fields_law ms l))
 
   pub first_complete : first_lawful ms ≡ none → (s : List ℕ) → LawfulReading ms s → ⊥
-  first_complete e s l = first_none e (fields_in s, lawful_fields_lem ms l)
+  first_complete e s l = first_none e (fields_in s, lawful_fields_law ms l)
 
 pub some_first : (ms : List ℕ) → HasLawful ms → is_none (first_lawful ms) ≡ false
 some_first ms h = at (first_lawful ms) refl
@@ -115,7 +115,7 @@ has_first ms f = at (first_lawful ms) refl f
   where
     at : (o : Option (List ℕ)) → first_lawful ms ≡ o → is_none o ≡ false → HasLawful ms
     at none e g = clash true refl g
-    at (some r) e g = let (f, q, b) = found_fields ms e in (f, (first_fields_lem ms q).sound)
+    at (some r) e g = let (f, q, b) = found_fields ms e in (f, (first_fields_law ms q).sound)
 
 -- ---- stretches
 pub prefix_lawful : (m : ℕ) (ms : List ℕ) → HasLawful ms → HasLawful (prefix m ms)
@@ -151,7 +151,7 @@ module _ (ms : List ℕ) (m : ℕ) (before : HasLawful (prefix m ms)) (now : fir
 
   pub verdict-breach : suc m ≤ length ms → verdict ms ≡ breach (suc m) (article (prefix (suc m) ms))
   unfolding verdict
-  verdict-breach h = rw (is_none_lem ms whole_none, breach_at h)
+  verdict-breach h = rw (is_none_law ms whole_none, breach_at h)
 
 pub verdict-pass : (ms r : List ℕ) → first_lawful ms ≡ some r → verdict ms ≡ pass r
 unfolding verdict
@@ -194,7 +194,7 @@ module _ (ms : List ℕ) where
 
   -- it is the only m that has no lawful reading while m − 1 has one
   pub only_breach : (m : ℕ) → suc m ≤ length ms → HasLawful (prefix m ms) → (HasLawful (prefix (suc m) ms) → ⊥) → breach_minute ms ≡ suc m
-  only_breach m h l n = breach_at ms m l (is_none_lem (prefix (suc m) ms) n) h
+  only_breach m h l n = breach_at ms m l (is_none_law (prefix (suc m) ms) n) h
 
   -- and it is no minute 0, since the empty stretch has one
   pub breach_after : (HasLawful ms → ⊥) → (m : ℕ) × (breach_minute ms ≡ suc m)

@@ -13,7 +13,7 @@ use Rattle.recording.specs.Words.{minutes_in, activity_in, minutes_of, is_drivin
 use Rattle.recording.specs.Days.{days_from, days}
 use Rattle.recording.specs.Weeks.{week_of}
 use Rattle.recording.proofs.TestLaws.{and-false}
-use Rattle.recording.proofs.ByWord.{closed_by, judged_end_by, judged_by, closed_rests_by, long_rests_by, rests_by, total_by, total_by_lem, driving_by, driving_by_lem}
+use Rattle.recording.proofs.ByWord.{closed_by, judged_end_by, judged_by, closed_rests_by, long_rests_by, rests_by, total_by, total_by_law, driving_by, driving_by_law}
 use Rattle.rules.specs.Broken.{if_none}
 use Rattle.rules.specs.declared.Accumulated.{Accumulated}
 use Rattle.rules.specs.declared.Breaches.{Breaches}
@@ -112,16 +112,16 @@ fixed_by ws = smallest_rule (breaches_by_word ws)
 abbrev pub reading_by : List ℕ → List ℕ → ℕ
 reading_by ws fields = if_none (fixed_by ws) (later_test (inside_rest (long_rests_by ws)) (shortened (closed_by 0 0 ws)) (judged_end_by ws) (long_rests_by ws) (entries (long_rests_by ws) fields))
 
-pub breaches_by_lem : (ws : List ℕ) → breaches (minutes_of ws) ≡ breaches_by_word ws
+pub breaches_by_law : (ws : List ℕ) → breaches (minutes_of ws) ≡ breaches_by_word ws
 unfolding breaches rule1 days
-breaches_by_lem ws =
-    rw (kept_by cleared 0 ws, fun_ext (driving_by_lem ws), total_by_lem ws, judged_by ws, rests_by ws)
+breaches_by_law ws =
+    rw (kept_by cleared 0 ws, fun_ext (driving_by_law ws), total_by_law ws, judged_by ws, rests_by ws)
 
-pub fixed_by_lem : (ws : List ℕ) → fixed_test (minutes_of ws) ≡ fixed_by ws
+pub fixed_by_law : (ws : List ℕ) → fixed_test (minutes_of ws) ≡ fixed_by ws
 unfolding fixed_test
-fixed_by_lem ws = ap smallest_rule (breaches_by_lem ws)
+fixed_by_law ws = ap smallest_rule (breaches_by_law ws)
 
-pub reading_by_lem : (ws fields : List ℕ) → fields_test (minutes_of ws) fields ≡ reading_by ws fields
-reading_by_lem ws fields =
+pub reading_by_law : (ws fields : List ℕ) → fields_test (minutes_of ws) fields ≡ reading_by ws fields
+reading_by_law ws fields =
     reading_by_rests (minutes_of ws) fields
-    ∙ rw (fixed_by_lem ws, judged_by ws, rests_by ws, closed_rests_by ws)
+    ∙ rw (fixed_by_law ws, judged_by ws, rests_by ws, closed_rests_by ws)

@@ -17,13 +17,13 @@ use borrow.Author.Tests.{eqb-true, eqb-false, leb-true, ltb-true, le-ltb, not-tr
 use Rattle.recording.specs.Tests.{◌and◌, ◌or◌, pick, all_of, any_of, keep}
 use Rattle.recording.specs.Answers.{Answer, refused, answered, and_then}
 use Rattle.recording.specs.Weeks.{week_minutes, week_start}
-use Rattle.recording.proofs.WordLaws.{minutes_in_lem, activity_in_lem}
+use Rattle.recording.proofs.WordLaws.{minutes_in_law, activity_in_law}
 use Rattle.recording.specs.Operations.{total_from, measure_of, measured}
 use Rattle.recording.specs.Words.{word_of, minutes_in, activity_in, rest, availability, other_work, driving, minutes_of}
 use Rattle.recording.specs.Rests.{long_rests}
 use Rattle.recording.proofs.TestLaws.{and_left, and_right, or_cases}
 use Rattle.recording.specs.declared.Span.{Span}
-use Rattle.recording.proofs.ByWord.{long_rests_by, rests_by, total_by, total_by_lem, cut_at_lem, end_by, closed_by, driving_up_to}
+use Rattle.recording.proofs.ByWord.{long_rests_by, rests_by, total_by, total_by_law, cut_at_law, end_by, closed_by, driving_up_to}
 use Rattle.recording.specs.Scan.{cut_at}
 use Rattle.rules.specs.declared.Breaches.{Breaches}
 use Rattle.rules.specs.Fixed.{breaches, smallest_rule, fixed_test, by_article, first_article}
@@ -36,9 +36,9 @@ use Rattle.rules.specs.Spans.{weeks_begun, spans_beginning, spans_from, span_min
 use Rattle.rules.specs.declared.Weeks.{Weeks}
 use Rattle.rules.specs.Opened.{opened}
 use Rattle.rules.proofs.RuleLaws.{lawful_rules}
-use Rattle.rules.proofs.Breach.{LawfulReading, lawful_fields_lem, first_none, is_none_lem, verdict-breach, verdict-pass}
+use Rattle.rules.proofs.Breach.{LawfulReading, lawful_fields_law, first_none, is_none_law, verdict-breach, verdict-pass}
 use Rattle.rules.proofs.Spans.{span, lawful_passes, none_breaches, span_is}
-use Rattle.rules.proofs.ByWord.{breaches_by_word, breaches_by_lem, fixed_by, fixed_by_lem, reading_by, reading_by_lem, keeps_accumulated_by}
+use Rattle.rules.proofs.ByWord.{breaches_by_word, breaches_by_law, fixed_by, fixed_by_law, reading_by, reading_by_law, keeps_accumulated_by}
 use Rattle.rules.proofs.OnlyDaily.{never_weekly, all_daily, daily_first, daily_none}
 
 -- ---- what a case says
@@ -105,12 +105,12 @@ bytes_test zero (b ∷ r) = false
 bytes_test (suc n) [] = false
 bytes_test (suc n) (b ∷ r) = ltb b byte_values and bytes_test n r
 
-bytes_test_lem : (n : ℕ) (r : List ℕ) → bytes_test n r ≡ true → Bytes n r
+bytes_test_law : (n : ℕ) (r : List ℕ) → bytes_test n r ≡ true → Bytes n r
 unfolding bytes_test
-bytes_test_lem zero [] t = tt
-bytes_test_lem zero (b ∷ r) t = false≢true t
-bytes_test_lem (suc n) [] t = false≢true t
-bytes_test_lem (suc n) (b ∷ r) t = (ltb-true b byte_values (and_left _ _ t), bytes_test_lem n r (and_right _ _ t))
+bytes_test_law zero [] t = tt
+bytes_test_law zero (b ∷ r) t = false≢true t
+bytes_test_law (suc n) [] t = false≢true t
+bytes_test_law (suc n) (b ∷ r) t = (ltb-true b byte_values (and_left _ _ t), bytes_test_law n r (and_right _ _ t))
 
 same_numbers : List ℕ → List ℕ → Bool
 same_numbers [] [] = true
@@ -118,12 +118,12 @@ same_numbers [] (y ∷ ys) = false
 same_numbers (x ∷ xs) [] = false
 same_numbers (x ∷ xs) (y ∷ ys) = eqb x y and same_numbers xs ys
 
-same_numbers_lem : (xs ys : List ℕ) → same_numbers xs ys ≡ true → xs ≡ ys
+same_numbers_law : (xs ys : List ℕ) → same_numbers xs ys ≡ true → xs ≡ ys
 unfolding same_numbers
-same_numbers_lem [] [] t = refl
-same_numbers_lem [] (y ∷ ys) t = absurd (false≢true t)
-same_numbers_lem (x ∷ xs) [] t = absurd (false≢true t)
-same_numbers_lem (x ∷ xs) (y ∷ ys) t = ap₂ ◌∷◌ (eqb-true x y (and_left _ _ t)) (same_numbers_lem xs ys (and_right _ _ t))
+same_numbers_law [] [] t = refl
+same_numbers_law [] (y ∷ ys) t = absurd (false≢true t)
+same_numbers_law (x ∷ xs) [] t = absurd (false≢true t)
+same_numbers_law (x ∷ xs) (y ∷ ys) t = ap₂ ◌∷◌ (eqb-true x y (and_left _ _ t)) (same_numbers_law xs ys (and_right _ _ t))
 
 same_answer : Answer (List ℕ) → Answer (List ℕ) → Bool
 same_answer (refused m) (refused n) = eqb m n
@@ -131,12 +131,12 @@ same_answer (refused m) (answered ys) = false
 same_answer (answered xs) (refused n) = false
 same_answer (answered xs) (answered ys) = same_numbers xs ys
 
-same_answer_lem : (a b : Answer (List ℕ)) → same_answer a b ≡ true → a ≡ b
+same_answer_law : (a b : Answer (List ℕ)) → same_answer a b ≡ true → a ≡ b
 unfolding same_answer
-same_answer_lem (refused m) (refused n) t = ap refused (eqb-true m n t)
-same_answer_lem (refused m) (answered ys) t = absurd (false≢true t)
-same_answer_lem (answered xs) (refused n) t = absurd (false≢true t)
-same_answer_lem (answered xs) (answered ys) t = ap answered (same_numbers_lem xs ys t)
+same_answer_law (refused m) (refused n) t = ap refused (eqb-true m n t)
+same_answer_law (refused m) (answered ys) t = absurd (false≢true t)
+same_answer_law (answered xs) (refused n) t = absurd (false≢true t)
+same_answer_law (answered xs) (answered ys) t = ap answered (same_numbers_law xs ys t)
 
 -- the words are accepted
 abbrev accepted : Answer ℕ → Bool
@@ -155,12 +155,12 @@ accepted_words ws = at (total_from 0 ws)
 none_lawful : List ℕ → Bool
 none_lawful ms = not (eqb (fixed_test ms) 0) or (all_of never_weekly (long_rests ms) and not (lawful ms (all_daily ms)))
 
-none_lawful_lem : (ms : List ℕ) → none_lawful ms ≡ true → first_lawful ms ≡ none
+none_lawful_law : (ms : List ℕ) → none_lawful ms ≡ true → first_lawful ms ≡ none
 unfolding none_lawful
-none_lawful_lem ms t = at (or_cases _ _ t)
+none_lawful_law ms t = at (or_cases _ _ t)
   where
     at : (not (eqb (fixed_test ms) 0) ≡ true) ⊎ (all_of never_weekly (long_rests ms) and not (lawful ms (all_daily ms)) ≡ true) → first_lawful ms ≡ none
-    at (inl f) = is_none_lem ms (λ h. eqb-false (fixed_test ms) 0 (not-true (eqb (fixed_test ms) 0) f) (lawful_rules ms h.0 h.1.keeps).fixed)
+    at (inl f) = is_none_law ms (λ h. eqb-false (fixed_test ms) 0 (not-true (eqb (fixed_test ms) 0) f) (lawful_rules ms h.0 h.1.keeps).fixed)
     at (inr d) = daily_none ms (and_left _ _ d) (not-true (lawful ms (all_daily ms)) (and_right _ _ d))
 
 -- the same word by word, so that a run of minutes costs a step
@@ -174,31 +174,31 @@ abbrev none_by : List ℕ → Bool
 none_by ws = not (eqb (fixed_by ws) 0) or (all_of never_weekly (long_rests_by ws) and not (lawful_by ws (daily_by ws)))
 
 module _ (ws : List ℕ) where
-  lawful_by_lem : (reading : List ℕ) → lawful (minutes_of ws) reading ≡ lawful_by ws reading
+  lawful_by_law : (reading : List ℕ) → lawful (minutes_of ws) reading ≡ lawful_by ws reading
   unfolding lawful reading_test
-  lawful_by_lem reading = ap (λ (n : ℕ). eqb n 0) (reading_by_lem ws (fields_in reading))
+  lawful_by_law reading = ap (λ (n : ℕ). eqb n 0) (reading_by_law ws (fields_in reading))
 
-  daily_by_lem : all_daily (minutes_of ws) ≡ daily_by ws
+  daily_by_law : all_daily (minutes_of ws) ≡ daily_by ws
   unfolding reading_size
-  daily_by_lem = ap (λ (rs : List Span). replicate (entry_bytes * length rs) 0) (rests_by ws)
+  daily_by_law = ap (λ (rs : List Span). replicate (entry_bytes * length rs) 0) (rests_by ws)
 
   lawful_daily_by : lawful (minutes_of ws) (all_daily (minutes_of ws)) ≡ lawful_by ws (daily_by ws)
-  lawful_daily_by = lawful_by_lem (all_daily (minutes_of ws)) ∙ ap (lawful_by ws) daily_by_lem
+  lawful_daily_by = lawful_by_law (all_daily (minutes_of ws)) ∙ ap (lawful_by ws) daily_by_law
 
-  none_by_lem : none_lawful (minutes_of ws) ≡ none_by ws
+  none_by_law : none_lawful (minutes_of ws) ≡ none_by ws
   unfolding none_lawful
-  none_by_lem = rw (fixed_by_lem ws, rests_by ws, lawful_daily_by)
+  none_by_law = rw (fixed_by_law ws, rests_by ws, lawful_daily_by)
 
   size_by : reading_size (minutes_of ws) ≡ entry_bytes * length (long_rests_by ws)
   unfolding reading_size
   size_by = ap (λ (rs : List Span). entry_bytes * length rs) (rests_by ws)
 
   breaches_at : (m : ℕ) → breaches (prefix m (minutes_of ws)) ≡ breaches_by_word (cut_at m ws)
-  breaches_at m = ap breaches (sym (cut_at_lem m ws)) ∙ breaches_by_lem (cut_at m ws)
+  breaches_at m = ap breaches (sym (cut_at_law m ws)) ∙ breaches_by_law (cut_at m ws)
 
   tested_at : (m : ℕ) → accepted (total_from 0 ws) ≡ true → leb m (total_by ws) ≡ true → breaches_tested ws m ≡ answered (breaches_by_word (cut_at m ws))
   unfolding breaches_tested
-  tested_at m t h = rw (accepted_words ws t, total_by_lem ws, le-ltb (total_by ws) m (leb-true m (total_by ws) h)) (ap answered (breaches_at m))
+  tested_at m t h = rw (accepted_words ws t, total_by_law ws, le-ltb (total_by ws) m (leb-true m (total_by ws) h)) (ap answered (breaches_at m))
 
   finding_at : {v : Verdict} → accepted (total_from 0 ws) ≡ true → verdict (minutes_of ws) ≡ v → verdict_given ws ≡ answered (finding_of v)
   unfolding verdict_given
@@ -212,9 +212,9 @@ module _ (ws : List ℕ) where
   unfolding spans_given
   spans_at room t = rw (accepted_words ws t) refl
 
-  article_by_lem : article (minutes_of ws) ≡ article_by (fixed_by ws)
+  article_by_law : article (minutes_of ws) ≡ article_by (fixed_by ws)
   unfolding article
-  article_by_lem = ap article_by (fixed_by_lem ws)
+  article_by_law = ap article_by (fixed_by_law ws)
 
 -- ---- the words from a minute on, and those of a span
 from_at : ℕ → List ℕ → List ℕ
@@ -235,23 +235,23 @@ drop_run (suc m) (suc n) a ms =
     let z : m - n ≡ suc m - suc n = omega arith in
     drop_run m n a ms ∙ ap₂ (λ (x y : ℕ). replicate x a ++ drop y ms) e z
 
-from_at_lem : (m : ℕ) (ws : List ℕ) → minutes_of (from_at m ws) ≡ drop m (minutes_of ws)
+from_at_law : (m : ℕ) (ws : List ℕ) → minutes_of (from_at m ws) ≡ drop m (minutes_of ws)
 unfolding minutes_of from_at
-from_at_lem zero [] = refl
-from_at_lem (suc m) [] = refl
-from_at_lem m (w ∷ ws) =
+from_at_law zero [] = refl
+from_at_law (suc m) [] = refl
+from_at_law m (w ∷ ws) =
     ap₂ (λ (n x : ℕ). replicate n x ++ minutes_of (from_at (m - minutes_in w) ws))
-    (minutes_in_lem (minutes_in w - m) (activity_in w) (omega arith)) (activity_in_lem (minutes_in w - m) (activity_in w) (omega arith))
-    ∙ ap (λ (l : List ℕ). replicate (minutes_in w - m) (activity_in w) ++ l) (from_at_lem (m - minutes_in w) ws)
+    (minutes_in_law (minutes_in w - m) (activity_in w) (omega arith)) (activity_in_law (minutes_in w - m) (activity_in w) (omega arith))
+    ∙ ap (λ (l : List ℕ). replicate (minutes_in w - m) (activity_in w) ++ l) (from_at_law (m - minutes_in w) ws)
     ∙ sym (drop_run m (minutes_in w) (activity_in w) (minutes_of ws))
 
 abbrev span_words : List ℕ → Weeks → List ℕ
 span_words ws s = cut_at (week_minutes * (s.last + 1 - s.first)) (from_at (week_start s.first) ws)
 
-span_words_lem : (ws : List ℕ) (s : Weeks) → s.first ≤ s.last → minutes_of (span_words ws s) ≡ span_minutes (minutes_of ws) s
-span_words_lem ws s h =
-    cut_at_lem (week_minutes * (s.last + 1 - s.first)) (from_at (week_start s.first) ws)
-    ∙ ap (prefix (week_minutes * (s.last + 1 - s.first))) (from_at_lem (week_start s.first) ws) ∙ sym (span_is (minutes_of ws) s h)
+span_words_law : (ws : List ℕ) (s : Weeks) → s.first ≤ s.last → minutes_of (span_words ws s) ≡ span_minutes (minutes_of ws) s
+span_words_law ws s h =
+    cut_at_law (week_minutes * (s.last + 1 - s.first)) (from_at (week_start s.first) ws)
+    ∙ ap (prefix (week_minutes * (s.last + 1 - s.first))) (from_at_law (week_start s.first) ws) ∙ sym (span_is (minutes_of ws) s h)
 
 -- each span is a breach by the test above, or has the reading that goes with it
 readable : List ℕ → List ℕ → Bool
@@ -265,20 +265,20 @@ each_readable ws (s ∷ ss) (r ∷ rs) = leb s.first s.last and readable (span_w
 abbrev span_by : List ℕ → Weeks → Bool
 span_by ws s = none_by (span_words ws s)
 
-breaks_by_lem : (own reading : List ℕ) → readable own reading ≡ true → is_breach (verdict (minutes_of own)) ≡ none_by own
+breaks_by_law : (own reading : List ℕ) → readable own reading ≡ true → is_breach (verdict (minutes_of own)) ≡ none_by own
 unfolding readable
-breaks_by_lem own reading t = at (none_by own) refl (or_cases _ _ t)
+breaks_by_law own reading t = at (none_by own) refl (or_cases _ _ t)
   where
     at : (b : Bool) → none_by own ≡ b → (none_by own ≡ true) ⊎ (bytes_test (entry_bytes * length (long_rests_by own)) reading and lawful_by own reading ≡ true)
         → is_breach (verdict (minutes_of own)) ≡ b
-    at true e k = none_breaches (minutes_of own) (first_none (minutes_of own) (none_lawful_lem (minutes_of own) (none_by_lem own ∙ e)))
+    at true e k = none_breaches (minutes_of own) (first_none (minutes_of own) (none_lawful_law (minutes_of own) (none_by_law own ∙ e)))
     at false e (inl k) = absurd (false≢true (sym e ∙ k))
     at false e (inr k) =
         lawful_passes (minutes_of own) (
           fields_in reading,
-          lawful_fields_lem (minutes_of own) (record {
-            bytes = bytes_test_lem (reading_size (minutes_of own)) reading (ap (λ (n : ℕ). bytes_test n reading) (size_by own) ∙ and_left _ _ k);
-            keeps = lawful_by_lem own reading ∙ and_right _ _ k;
+          lawful_fields_law (minutes_of own) (record {
+            bytes = bytes_test_law (reading_size (minutes_of own)) reading (ap (λ (n : ℕ). bytes_test n reading) (size_by own) ∙ and_left _ _ k);
+            keeps = lawful_by_law own reading ∙ and_right _ _ k;
           }),
         )
 
@@ -291,7 +291,7 @@ each_by ws (x ∷ ss) (r ∷ rs) t s i = at (Memᴰ.cases_cons i) (each_by ws ss
     this : is_breach (verdict (span_minutes (minutes_of ws) x)) ≡ span_by ws x
     this =
         let u = and_left _ _ t in
-        ap (λ (l : List ℕ). is_breach (verdict l)) (sym (span_words_lem ws x (leb-true _ _ (and_left _ _ u)))) ∙ breaks_by_lem (span_words ws x) r (and_right _ _ u)
+        ap (λ (l : List ℕ). is_breach (verdict l)) (sym (span_words_law ws x (leb-true _ _ (and_left _ _ u)))) ∙ breaks_by_law (span_words ws x) r (and_right _ _ u)
 
     at : (s ≡ x) ⊎ In s ss → (In s ss → is_breach (verdict (span_minutes (minutes_of ws) s)) ≡ span_by ws s) → is_breach (verdict (span_minutes (minutes_of ws) s)) ≡ span_by ws s
     at (inl e) f = rw e this
@@ -317,10 +317,10 @@ least_same f g all e =
 abbrev spans_by : List ℕ → List Weeks
 spans_by ws = keep (least_breach (span_by ws) (spans_from 0 (weeks_begun (total_by ws)))) (spans_from 0 (weeks_begun (total_by ws)))
 
-spans_by_lem : (ws : List ℕ) (rs : List (List ℕ)) → each_readable ws (spans_from 0 (weeks_begun (total_by ws))) rs ≡ true → breach_spans (minutes_of ws) ≡ spans_by ws
+spans_by_law : (ws : List ℕ) (rs : List (List ℕ)) → each_readable ws (spans_from 0 (weeks_begun (total_by ws))) rs ≡ true → breach_spans (minutes_of ws) ≡ spans_by ws
 unfolding breach_spans
-spans_by_lem ws rs t =
-    ap (λ (n : ℕ). keep (least_breach (breaching (minutes_of ws)) (spans_from 0 (weeks_begun n))) (spans_from 0 (weeks_begun n))) (total_by_lem ws)
+spans_by_law ws rs t =
+    ap (λ (n : ℕ). keep (least_breach (breaching (minutes_of ws)) (spans_from 0 (weeks_begun n))) (spans_from 0 (weeks_begun n))) (total_by_law ws)
     ∙ least_same (breaching (minutes_of ws)) (span_by ws) (spans_from 0 (weeks_begun (total_by ws))) (each_by ws (spans_from 0 (weeks_begun (total_by ws))) rs t)
 
 same_spans : List Weeks → List Weeks → Bool
@@ -329,14 +329,14 @@ same_spans [] (y ∷ ys) = false
 same_spans (x ∷ xs) [] = false
 same_spans (x ∷ xs) (y ∷ ys) = eqb x.first y.first and eqb x.last y.last and same_spans xs ys
 
-same_spans_lem : (xs ys : List Weeks) → same_spans xs ys ≡ true → xs ≡ ys
+same_spans_law : (xs ys : List Weeks) → same_spans xs ys ≡ true → xs ≡ ys
 unfolding same_spans
-same_spans_lem [] [] t = refl
-same_spans_lem [] (y ∷ ys) t = absurd (false≢true t)
-same_spans_lem (x ∷ xs) [] t = absurd (false≢true t)
-same_spans_lem (x ∷ xs) (y ∷ ys) t =
+same_spans_law [] [] t = refl
+same_spans_law [] (y ∷ ys) t = absurd (false≢true t)
+same_spans_law (x ∷ xs) [] t = absurd (false≢true t)
+same_spans_law (x ∷ xs) (y ∷ ys) t =
     let u = and_left _ _ t in
-    (λ i. span (eqb-true x.first y.first (and_left _ _ u) i) (eqb-true x.last y.last (and_right _ _ u) i) ∷ same_spans_lem xs ys (and_right _ _ t) i)
+    (λ i. span (eqb-true x.first y.first (and_left _ _ u) i) (eqb-true x.last y.last (and_right _ _ u) i) ∷ same_spans_law xs ys (and_right _ _ t) i)
 
 same_list : Answer (List Weeks) → Answer (List Weeks) → Bool
 same_list (refused m) (refused n) = eqb m n
@@ -344,12 +344,12 @@ same_list (refused m) (answered ys) = false
 same_list (answered xs) (refused n) = false
 same_list (answered xs) (answered ys) = same_spans xs ys
 
-same_list_lem : (a b : Answer (List Weeks)) → same_list a b ≡ true → a ≡ b
+same_list_law : (a b : Answer (List Weeks)) → same_list a b ≡ true → a ≡ b
 unfolding same_list
-same_list_lem (refused m) (refused n) t = ap refused (eqb-true m n t)
-same_list_lem (refused m) (answered ys) t = absurd (false≢true t)
-same_list_lem (answered xs) (refused n) t = absurd (false≢true t)
-same_list_lem (answered xs) (answered ys) t = ap answered (same_spans_lem xs ys t)
+same_list_law (refused m) (refused n) t = ap refused (eqb-true m n t)
+same_list_law (refused m) (answered ys) t = absurd (false≢true t)
+same_list_law (answered xs) (refused n) t = absurd (false≢true t)
+same_list_law (answered xs) (answered ys) t = ap answered (same_spans_law xs ys t)
 
 -- a breach at a minute, with its article
 breaks_by : List ℕ → List ℕ → ℕ → ℕ → Bool
@@ -383,16 +383,16 @@ holds (counts closed p start end load b) = pick b (shortened closed (daily_rest 
 module _ (ws : List ℕ) (m : ℕ) where
   lawful_there : {reading : List ℕ} → bytes_test (entry_bytes * length (long_rests_by (cut_at m ws))) reading ≡ true → lawful_by (cut_at m ws) reading ≡ true
       → LawfulReading (prefix m (minutes_of ws)) reading
-  lawful_there {reading} b t = rw (← cut_at_lem m ws) (record {
-    bytes = bytes_test_lem (reading_size (minutes_of (cut_at m ws))) reading (rw (size_by (cut_at m ws)) b);
-    keeps = rw (lawful_by_lem (cut_at m ws) reading) t;
+  lawful_there {reading} b t = rw (← cut_at_law m ws) (record {
+    bytes = bytes_test_law (reading_size (minutes_of (cut_at m ws))) reading (rw (size_by (cut_at m ws)) b);
+    keeps = rw (lawful_by_law (cut_at m ws) reading) t;
   })
 
   none_there : none_by (cut_at m ws) ≡ true → first_lawful (prefix m (minutes_of ws)) ≡ none
-  none_there t = rw (← cut_at_lem m ws) (none_lawful_lem _ (rw (none_by_lem (cut_at m ws)) t))
+  none_there t = rw (← cut_at_law m ws) (none_lawful_law _ (rw (none_by_law (cut_at m ws)) t))
 
   article_there : article (prefix m (minutes_of ws)) ≡ article_by (fixed_by (cut_at m ws))
-  article_there = rw (← cut_at_lem m ws) (article_by_lem (cut_at m ws))
+  article_there = rw (← cut_at_law m ws) (article_by_law (cut_at m ws))
 
 daily_pass : (ws : List ℕ) → lawful_by ws (daily_by ws) ≡ true → verdict (minutes_of ws) ≡ pass (all_daily (minutes_of ws))
 daily_pass ws t = verdict-pass _ _ (daily_first (minutes_of ws) (rw (lawful_daily_by ws) t))
@@ -405,8 +405,11 @@ breach_there ws reading (suc m) n t =
     let t2 = and_left _ _ t1 in
     let t3 = and_left _ _ t2 in
     let within = leb-true (suc m) (total_by ws) (and_left _ _ t3) in
-    verdict-breach (minutes_of ws) m (fields_in reading, lawful_fields_lem (prefix m (minutes_of ws)) (lawful_there ws m (and_right _ _ t3) (and_right _ _ t2))) (none_there ws (suc m) (and_right _ _ t1))
-    (rw (total_by_lem ws) within)
+    verdict-breach (minutes_of ws) m (
+      fields_in reading,
+      lawful_fields_law (prefix m (minutes_of ws)) (lawful_there ws m (and_right _ _ t3) (and_right _ _ t2)),
+    ) (none_there ws (suc m) (and_right _ _ t1))
+    (rw (total_by_law ws) within)
     ∙ ap (breach (suc m)) (article_there ws (suc m) ∙ eqb-true _ n (and_right _ _ t))
 
 says : (c : Case) → holds c ≡ true → Says c
@@ -415,27 +418,27 @@ says (passes ws) t = daily_pass ws t
 says (breaks ws reading m n) t = breach_there ws reading m n t
 says (reads ws room reading) t =
     let t1 = and_left _ _ t in
-    let v = daily_pass ws (and_right _ _ t1) ∙ ap pass (daily_by_lem ws) in
-    (finding_at ws (and_left _ _ t1) v, reading_at ws room (and_left _ _ t1) v ∙ same_answer_lem _ reading (and_right _ _ t))
+    let v = daily_pass ws (and_right _ _ t1) ∙ ap pass (daily_by_law ws) in
+    (finding_at ws (and_left _ _ t1) v, reading_at ws room (and_left _ _ t1) v ∙ same_answer_law _ reading (and_right _ _ t))
 says (reads_none ws shorter m n room reading) t =
     let t1 = and_left _ _ t in
     let v = breach_there ws shorter m n (and_right _ _ t1) in
-    (finding_at ws (and_left _ _ t1) v, reading_at ws room (and_left _ _ t1) v ∙ same_answer_lem _ reading (and_right _ _ t))
+    (finding_at ws (and_left _ _ t1) v, reading_at ws room (and_left _ _ t1) v ∙ same_answer_law _ reading (and_right _ _ t))
 says (spanning ws readings room list) t =
     let t1 = and_left _ _ t in
-    spans_at ws room (and_left _ _ t1) ∙ ap (list_into room) (spans_by_lem ws readings (and_right _ _ t1)) ∙ same_list_lem _ list (and_right _ _ t)
+    spans_at ws room (and_left _ _ t1) ∙ ap (list_into room) (spans_by_law ws readings (and_right _ _ t1)) ∙ same_list_law _ list (and_right _ _ t)
 says (together ws m broken rule place) t =
     let t1 = and_left _ _ t in
     let t2 = and_left _ _ t1 in
     let t3 = and_left _ _ t2 in
     let t4 = and_left _ _ t3 in
     let there = tested_at ws m (and_left _ _ t4) (and_right _ _ t4) in (
-      ap places (breaches_at ws (m - 1)) ∙ same_numbers_lem _ [] (and_right _ _ t3),
-      ap places (breaches_at ws m) ∙ same_numbers_lem _ broken (and_right _ _ t2),
+      ap places (breaches_at ws (m - 1)) ∙ same_numbers_law _ [] (and_right _ _ t3),
+      ap places (breaches_at ws m) ∙ same_numbers_law _ broken (and_right _ _ t2),
       ap (λ (x : Answer Breaches). and_then x (λ b. answered (smallest_rule b))) there ∙ ap answered (eqb-true _ rule (and_right _ _ t1)),
       ap (λ (x : Answer Breaches). and_then x (λ b. answered (first_article b))) there ∙ ap answered (eqb-true _ place (and_right _ _ t)),
     )
-says (tests ws reading n) t = reading_by_lem ws (fields_in reading) ∙ eqb-true _ n t
+says (tests ws reading n) t = reading_by_law ws (fields_in reading) ∙ eqb-true _ n t
 says (counts closed p start end load true) t = t
 says (counts closed p start end load false) t = not-true (shortened closed (daily_rest p start end load)) t
 

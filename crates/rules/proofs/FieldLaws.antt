@@ -99,15 +99,15 @@ field_past n j = omega arith
 byte_past : (n j : ℕ) → entry_bytes * suc n + j ≡ suc (suc (suc (suc (entry_bytes * n + j))))
 byte_past n j = omega arith
 
-pub entry_fields_lem : (i : ℕ) (reading : List ℕ) → entry_bytes * i + 3 < length reading → EntryFields reading i
+pub entry_fields_law : (i : ℕ) (reading : List ℕ) → entry_bytes * i + 3 < length reading → EntryFields reading i
 unfolding fields_in
-entry_fields_lem i [] h = absurd (omega arith)
-entry_fields_lem i (a ∷ []) h = absurd (omega arith)
-entry_fields_lem i (a ∷ b ∷ []) h = absurd (omega arith)
-entry_fields_lem i (a ∷ b ∷ c ∷ []) h = absurd (omega arith)
-entry_fields_lem zero (a ∷ b ∷ c ∷ d ∷ reading) h = record { kind = refl; week = refl; carrier = refl }
-entry_fields_lem (suc i) (a ∷ b ∷ c ∷ d ∷ reading) h =
-    let e = entry_fields_lem i reading (omega arith) in
+entry_fields_law i [] h = absurd (omega arith)
+entry_fields_law i (a ∷ []) h = absurd (omega arith)
+entry_fields_law i (a ∷ b ∷ []) h = absurd (omega arith)
+entry_fields_law i (a ∷ b ∷ c ∷ []) h = absurd (omega arith)
+entry_fields_law zero (a ∷ b ∷ c ∷ d ∷ reading) h = record { kind = refl; week = refl; carrier = refl }
+entry_fields_law (suc i) (a ∷ b ∷ c ∷ d ∷ reading) h =
+    let e = entry_fields_law i reading (omega arith) in
     let first : entry_fields * suc i ≡ suc (suc (suc (entry_fields * i))) = omega arith in
     record {
       kind = rw (first, entry_more i) e.kind;

@@ -46,11 +46,11 @@ module _ (c b : ℕ) (bounds : List ℕ) (test : List ℕ → Bool) where
   one_more none f (some (a ∷ r)) w =
       (omega arith, omega arith, w.2, w.3, λ a' s l g h t. w.4 a' s (begins_later f a' s (eq-or-lt_of_le l) h t) (omega arith) h t)
 
-first_number_lem : (f : ℕ → Option (List ℕ)) (bounds : List ℕ) (test : List ℕ → Bool) → ((b : ℕ) → IsFirst bounds (λ r. test (b ∷ r)) (f b))
+first_number_law : (f : ℕ → Option (List ℕ)) (bounds : List ℕ) (test : List ℕ → Bool) → ((b : ℕ) → IsFirst bounds (λ r. test (b ∷ r)) (f b))
     → (c b : ℕ) → FirstIn c b bounds test (first_number f c b)
 unfolding first_number
-first_number_lem f bounds test h zero b = λ a s l g h t. omega arith
-first_number_lem f bounds test h (suc c) b = one_more c b bounds test (f b) (h b) (first_number f c (suc b)) (first_number_lem f bounds test h c (suc b))
+first_number_law f bounds test h zero b = λ a s l g h t. omega arith
+first_number_law f bounds test h (suc c) b = one_more c b bounds test (f b) (h b) (first_number f c (suc b)) (first_number_law f bounds test h c (suc b))
 
 -- the values below a bound, from 0 on, are all there are
 module _ (b : ℕ) (bounds : List ℕ) (test : List ℕ → Bool) where
@@ -81,7 +81,7 @@ unfolding first
 first_law [] test = no_number test (test []) refl
 first_law (b ∷ bounds) test =
     of_all b bounds test (first (b ∷ bounds) test)
-    (first_number_lem (λ a. first bounds (λ r. test (a ∷ r))) bounds test (λ a. first_law bounds (λ r. test (a ∷ r))) b 0)
+    (first_number_law (λ a. first bounds (λ r. test (a ∷ r))) bounds test (λ a. first_law bounds (λ r. test (a ∷ r))) b 0)
 
 pub law_at : (bounds : List ℕ) (test : List ℕ → Bool) {o : Option (List ℕ)} → first bounds test ≡ o → IsFirst bounds test o
 law_at bounds test e = subst (IsFirst bounds test) e (first_law bounds test)
@@ -129,9 +129,9 @@ abbrev pub zero_fields : ℕ → List ℕ
 zero_fields zero = []
 zero_fields (suc n) = 0 ∷ 0 ∷ 0 ∷ zero_fields n
 
-pub zero_fields_lem : (n : ℕ) → Fields n (zero_fields n)
-zero_fields_lem zero = tt
-zero_fields_lem (suc n) = (omega arith, (omega arith, (omega arith, zero_fields_lem n)))
+pub zero_fields_law : (n : ℕ) → Fields n (zero_fields n)
+zero_fields_law zero = tt
+zero_fields_law (suc n) = (omega arith, (omega arith, (omega arith, zero_fields_law n)))
 
 zero_number : (b : ℕ) (r s : List ℕ) → NotAfter r s → (0 ≡ b) ⊎ (0 < b) → NotAfter (0 ∷ r) (b ∷ s)
 zero_number b r s n (inl e) = inr (e, n)

@@ -78,12 +78,12 @@ module _ (xs ys : List ℕ) where
   unfolding days
   prefix_days = rw (rests_split xs ys) (days_within 0 (judged_end xs) (judged_end (xs ++ ys)) (long_rests xs) (judged_mono xs ys) (past_ordered xs ys))
 
-  driving_in_lem : (d e : Span) → d.start ≡ e.start → d.end ≤ e.end → driving_in xs d ≤ driving_in (xs ++ ys) e
+  driving_in_law : (d e : Span) → d.start ≡ e.start → d.end ≤ e.end → driving_in xs d ≤ driving_in (xs ++ ys) e
   unfolding driving_in
-  driving_in_lem d e p q = rw p (less_driving e.start d.end e.end xs ys q)
+  driving_in_law d e p q = rw p (less_driving e.start d.end e.end xs ys q)
 
   week_driving : (w : ℕ) → driving_in xs (week w) ≤ driving_in (xs ++ ys) (week w)
-  week_driving w = driving_in_lem (week w) (week w) refl (le_refl _)
+  week_driving w = driving_in_law (week w) (week w) refl (le_refl _)
 
   weeks_mono : weeks_of xs ≤ weeks_of (xs ++ ys)
   weeks_mono = rw length-append (omega arith)
@@ -97,13 +97,13 @@ module _ (xs ys : List ℕ) where
   extended_in w d e p q u =
       let a = and_left _ _ u in
       let b = and_right _ _ u in
-      and_both _ _ (rw p at a) (lt-ltb _ _ (le_trans (ltb-true _ _ b) (driving_in_lem d e p q)))
+      and_both _ _ (rw p at a) (lt-ltb _ _ (le_trans (ltb-true _ _ b) (driving_in_law d e p q)))
 
   pub prefix2 : rule2 (driving_in (xs ++ ys)) (weeks_of (xs ++ ys)) (days (xs ++ ys)) ≡ true → rule2 (driving_in xs) (weeks_of xs) (days xs) ≡ true
   unfolding rule2
   prefix2 t =
       and_both _ _
-      (all_within _ _ (λ d e p q u. keeps day_at_most (driving_in_lem d e p q) u) prefix_days (and_left _ _ t))
+      (all_within _ _ (λ d e p q u. keeps day_at_most (driving_in_law d e p q) u) prefix_days (and_left _ _ t))
       (each_week _ _ (λ w u. keeps extended_days (count_within _ _ (extended_in w) prefix_days) u) (and_right _ _ t))
 
   pub prefix3 : rule3 (driving_in (xs ++ ys)) (weeks_of (xs ++ ys)) ≡ true → rule3 (driving_in xs) (weeks_of xs) ≡ true

@@ -18,10 +18,10 @@ use Rattle.rules.specs.Reading.{Entry, minutes, weekly_kind, reading_size, field
 use Rattle.rules.specs.ReadingRules.{formed_daily, formed_weekly, formed, weekly_length, rule6, reading_test}
 use Rattle.rules.specs.Order.{Fields}
 use Rattle.rules.specs.Verdict.{lawful, lawful_fields, first_lawful}
-use Rattle.rules.proofs.FirstLaws.{fields_length, zero_fields, zero_fields_lem, zeros_first}
+use Rattle.rules.proofs.FirstLaws.{fields_length, zero_fields, zero_fields_law, zeros_first}
 use Rattle.rules.proofs.FieldLaws.{fields_back, zeros_bytes}
 use Rattle.rules.proofs.RuleLaws.{lawful_rules}
-use Rattle.rules.proofs.Breach.{Lawful, is_first, is_none_lem}
+use Rattle.rules.proofs.Breach.{Lawful, is_first, is_none_law}
 
 abbrev pub never_weekly : Span → Bool
 never_weekly r = ltb (length_of r) weekly_length
@@ -70,7 +70,7 @@ module _ (ms : List ℕ) where
   only_daily s fields l = all_zeros (length (long_rests ms)) 1 0 [] (long_rests ms) fields s l.bounded (lawful_rules ms fields l.keeps).six
 
   pub daily_lawful : lawful_fields ms (daily_fields ms) ≡ true → Lawful ms (daily_fields ms)
-  daily_lawful t = record { bounded = zero_fields_lem (length (long_rests ms)); keeps = t }
+  daily_lawful t = record { bounded = zero_fields_law (length (long_rests ms)); keeps = t }
 
   -- its fields are zeros, as its bytes are
   daily_bytes : bytes_of (daily_fields ms) ≡ all_daily ms
@@ -82,7 +82,7 @@ module _ (ms : List ℕ) where
   daily_says =
       let k = length (long_rests ms) in
       ap (λ (r : List ℕ). lawful_fields ms (fields_in r)) (sym daily_bytes)
-      ∙ ap (λ (f : List ℕ). lawful_fields ms f) (fields_back k (daily_fields ms) (fields_length k (daily_fields ms) (zero_fields_lem k)))
+      ∙ ap (λ (f : List ℕ). lawful_fields ms f) (fields_back k (daily_fields ms) (fields_length k (daily_fields ms) (zero_fields_law k)))
 
   -- lawful, it is the first of all
   pub daily_first : lawful ms (all_daily ms) ≡ true → first_lawful ms ≡ some (all_daily ms)
@@ -93,5 +93,5 @@ module _ (ms : List ℕ) where
   -- and where it is the only candidate and not lawful, there is none
   pub daily_none : all_of never_weekly (long_rests ms) ≡ true → lawful ms (all_daily ms) ≡ false → first_lawful ms ≡ none
   daily_none s f =
-      is_none_lem ms (λ h.
+      is_none_law ms (λ h.
       clash (lawful_fields ms (daily_fields ms)) (subst (λ (r : List ℕ). lawful_fields ms r ≡ true) (only_daily s h.0 h.1) h.1.keeps) (sym daily_says ∙ f))

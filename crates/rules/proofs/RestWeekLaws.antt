@@ -11,7 +11,7 @@ use Rattle.recording.specs.Rests.{closed_rests, judged_end, long_rests}
 use Rattle.recording.specs.Weeks.{week_start, week, rest_only, inside}
 use Rattle.recording.specs.declared.Span.{Span}
 use Rattle.recording.proofs.TestLaws.{same_test}
-use Rattle.recording.proofs.RestWeeks.{rest_week_lem}
+use Rattle.recording.proofs.RestWeeks.{rest_week_law}
 use Rattle.rules.specs.Broken.{if_none}
 use Rattle.rules.specs.Fixed.{fixed_test}
 use Rattle.rules.specs.Reading.{Entry, entries, is_weekly, is_regular}
@@ -53,4 +53,4 @@ pub reading_by_rests : (ms fields : List ℕ)
     → fields_test ms fields ≡ if_none (fixed_test ms) (later_test (inside_rest (long_rests ms)) (shortened (closed_rests ms)) (judged_end ms) (long_rests ms) (entries (long_rests ms) fields))
 unfolding fields_test
 reading_by_rests ms fields =
-    ap (if_none (fixed_test ms)) (later_same (rest_only ms) (inside_rest (long_rests ms)) _ (judged_end ms) (long_rests ms) (entries (long_rests ms) fields) (rest_week_lem ms))
+    ap (if_none (fixed_test ms)) (later_same (rest_only ms) (inside_rest (long_rests ms)) _ (judged_end ms) (long_rests ms) (entries (long_rests ms) fields) (rest_week_law ms))

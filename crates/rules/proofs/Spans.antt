@@ -15,11 +15,11 @@ use lib.ListN.{length, take, drop}
 use borrow.Author.Tests.{leb-true, le-leb, ltb-true, lt-ltb, not-true}
 use Rattle.recording.specs.Tests.{◌and◌, pick, any_of, keep}
 use Rattle.recording.specs.Weeks.{week_minutes, week_start}
-use Rattle.recording.proofs.TestLaws.{and_left, and_right, and_both, clash, is_false, any_of_lem, of_any, Witness, keep_in, in_keep}
+use Rattle.recording.proofs.TestLaws.{and_left, and_right, and_both, clash, is_false, any_of_law, of_any, Witness, keep_in, in_keep}
 use Rattle.rules.specs.Verdict.{prefix, first_lawful, breach_minute, article, verdict_by, verdict}
 use Rattle.rules.specs.Spans.{weeks_begun, spans_beginning, spans_from, spans, span_minutes, is_breach, breaching, shorter_inside, least_breach, breach_spans}
 use Rattle.rules.specs.declared.Weeks.{Weeks}
-use Rattle.rules.proofs.Breach.{HasLawful, first_none, is_none_lem}
+use Rattle.rules.proofs.Breach.{HasLawful, first_none, is_none_law}
 
 abbrev pub span : ℕ → ℕ → Weeks
 span a b = record { first = a; last = b }
@@ -35,7 +35,7 @@ lawful_passes ms h = at (first_lawful ms) refl
 
 pub none_breaches : (ms : List ℕ) → (HasLawful ms → ⊥) → is_breach (verdict ms) ≡ true
 unfolding verdict
-none_breaches ms h = rw (is_none_lem ms h) refl
+none_breaches ms h = rw (is_none_law ms h) refl
 
 -- ---- the span's minutes are a stretch of those from its Monday on
 drop-take : (f x : ℕ) (l : List ℕ) → drop f (take (f + x) l) ≡ take x (drop f l)
@@ -156,7 +156,7 @@ module _ (ms : List ℕ) where
         within = weeks_from (of_from 0 (weeks_begun (length ms)) k.listed);
         broken = and_left _ _ k.passes;
         none_inside = λ t w e. is_false (breaching ms t) (λ b. clash (any_of (holds s) (spans ms))
-            (any_of_lem (holds s) (from_in t.first t.last 0 (weeks_begun (length ms)) (omega arith) w.proper (omega (arith, w.to))) (and_both _ _ (is_inside s t e) b))
+            (any_of_law (holds s) (from_in t.first t.last 0 (weeks_begun (length ms)) (omega arith) w.proper (omega (arith, w.to))) (and_both _ _ (is_inside s t e) b))
             (not-true (any_of (holds s) (spans ms)) (and_right _ _ k.passes)));
       }
 

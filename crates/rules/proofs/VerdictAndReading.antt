@@ -148,9 +148,9 @@ pub data VerdictGiven (words : List ℕ) : Answer Finding → Type 0 where
   found_pass : {k : Measure} {r : List ℕ} → measured words ≡ answered k → verdict (minutes_of words) ≡ pass r → VerdictGiven words (answered passed)
   found_breach : {k : Measure} {m a : ℕ} → measured words ≡ answered k → verdict (minutes_of words) ≡ breach m a → VerdictGiven words (answered (breached m a))
 
-pub verdict_given_lem : (words : List ℕ) → VerdictGiven words (verdict_given words)
+pub verdict_given_law : (words : List ℕ) → VerdictGiven words (verdict_given words)
 unfolding verdict_given
-verdict_given_lem words = at (measured words) refl
+verdict_given_law words = at (measured words) refl
   where
     by : {k : Measure} → measured words ≡ answered k → (v : Verdict) → verdict (minutes_of words) ≡ v → VerdictGiven words (answered (finding_of v))
     by q (pass r) e = found_pass q e

@@ -10,6 +10,7 @@ use Rattle.rules.specs.Verdict.{lawful, lawful_fields, article}
 
 unfoldable pub opened : Unit {0}
 unfolding recording_opened extended rule2 rule3 rule4 rested drove keeps_accumulated rule1 rule5 breaches_by breaches smallest_rule fixed_test first_article as_read compensation_of reading_size
-    fields_in bytes_of entries_from entries formed_daily formed_weekly formed rule6 long_enough rule7 end_of compensated rule8 portion_under split_day shortened rule9_from rule9 rule10_from rule10 of_kind
+    fields_in bytes_of entries_from entries formed_daily formed_weekly formed rule6 long_enough rule7 end_of compensated rule8 portion_under split_day shortened rule9_from rule9
+    rule10_from rule10 of_kind
     counted_in enough_in rule11 later_test fields_test reading_test lawful lawful_fields article
 opened = tt

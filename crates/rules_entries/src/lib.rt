@@ -44,7 +44,7 @@ pub fn put_entry(reading: &mut [u8], j: usize, kind: u8, week: u8, carrier: u32)
 // The four bytes of the entry of a number, in the caller's reading; empty on a refusal.
 pub fn entry(reading: &[u8], number: usize) -> &[u8]
     ensures entry_in_reading { EntryInReading (entry_at reading.now number) number reading.entry.ref_ptr result.ref_ptr }
-    ensures result_value { result.now ≡ entry_part (entry_at reading.now number) }
+    ensures answer { result.now ≡ entry_part (entry_at reading.now number) }
 {
     if reading.len() % ENTRY_BYTES != 0 {
         return &reading[..0];

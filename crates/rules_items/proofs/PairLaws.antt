@@ -99,6 +99,6 @@ module _ (p : ℕ → Bool) (s : ℕ) (es : List Entry) (weekly regular : List �
   each_same f g zero h = refl
   each_same f g (suc n) h = ap₂ ◌and◌ (h n (omega arith)) (each_same f g n (λ w l. h w (omega arith)))
 
-  pub rule11_with_lem : rule11_with p s weekly regular ≡ rule11 p s es
+  pub rule11_with_law : rule11_with p s weekly regular ≡ rule11 p s es
   unfolding rule11_with rule11
-  rule11_with_lem = each_same _ _ (week_of s) (λ w h. ap (λ (b : Bool). not (leb (week_start (w + 2)) s) or b) (enough_same w h))
+  rule11_with_law = each_same _ _ (week_of s) (λ w h. ap (λ (b : Bool). not (leb (week_start (w + 2)) s) or b) (enough_same w h))

@@ -108,15 +108,15 @@ test_next counts s rs t e es =
     ∙ sym (smaller_assoc t.rule (unless t8 8 (unless t9 9 (unless t10 10 0))) (unless r8 8 (unless r9 9 (unless r10 10 0))))
 
 -- ---- where the rest of a number ends
-end_from_lem : (starts ends : List ℕ) (i n c : ℕ) → end_of (spans_from starts ends i n) (suc c) ≡ pick (ltb c n) (get_or ends (i + c) 0) 0
+end_from_law : (starts ends : List ℕ) (i n c : ℕ) → end_of (spans_from starts ends i n) (suc c) ≡ pick (ltb c n) (get_or ends (i + c) 0) 0
 unfolding end_of spans_from
-end_from_lem starts ends i zero c = rw (le-ltb c 0 (omega arith)) refl
-end_from_lem starts ends i (suc n) zero =
+end_from_law starts ends i zero c = rw (le-ltb c 0 (omega arith)) refl
+end_from_law starts ends i (suc n) zero =
     let e : i ≡ i + 0 = omega arith in
     rw (lt-ltb 0 (suc n) (omega arith)) (ap (λ (x : ℕ). get_or ends x 0) e)
-end_from_lem starts ends i (suc n) (suc c) =
+end_from_law starts ends i (suc n) (suc c) =
     let e : suc i + c ≡ i + suc c = omega arith in
-    end_from_lem starts ends (suc i) n c ∙ ap₂ (λ (b : Bool) (x : ℕ). pick b (get_or ends x 0) 0) (same (ltb c n) refl) e
+    end_from_law starts ends (suc i) n c ∙ ap₂ (λ (b : Bool) (x : ℕ). pick b (get_or ends x 0) 0) (same (ltb c n) refl) e
   where
     same : (b : Bool) → ltb c n ≡ b → b ≡ ltb (suc c) (suc n)
     same true t = sym (lt-ltb (suc c) (suc n) (omega (arith, ltb-true c n t)))
@@ -131,7 +131,7 @@ pub end_of_spans : (starts ends : List ℕ) (k c : ℕ) → end_at ends k c ≡ 
 end_of_spans starts ends k zero = sym (end_zero (spans_in starts ends k))
 end_of_spans starts ends k (suc c) =
     let e : c ≡ 0 + c = omega arith in
-    ap (λ (x : ℕ). pick (ltb c k) (get_or ends x 0) 0) e ∙ sym (end_from_lem starts ends 0 k c)
+    ap (λ (x : ℕ). pick (ltb c k) (get_or ends x 0) 0) e ∙ sym (end_from_law starts ends 0 k c)
 
 -- ---- a payment, and a rest counted
 set_at : (xs : List ℕ) (c v j : ℕ) → j < length xs → get_or (set xs c (get_or xs c 0 + v)) j 0 ≡ pick (eqb c j) v 0 + get_or xs j 0

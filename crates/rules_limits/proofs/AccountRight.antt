@@ -73,9 +73,9 @@ record InWeek (ys : List ℕ) (W : ℕ) (w : Week) : Type 0 where
   pub last : w.last ≡ week_before ys W
 
 module _ (ys : List ℕ) (N : ℕ) (more : length ys ≡ suc N) where
-  next_week_lem : (w : Week) → InWeek ys (week_of N) w → (now : ℕ) → now ≡ suc N → InWeek ys (week_of (length ys)) (week_next now w)
+  next_week_law : (w : Week) → InWeek ys (week_of N) w → (now : ℕ) → now ≡ suc N → InWeek ys (week_of (length ys)) (week_next now w)
   unfolding week_next
-  next_week_lem w k now e = at (eqb now w.end) refl
+  next_week_law w k now e = at (eqb now w.end) refl
     where
       same : week_of N ≡ week_of (length ys) → InWeek ys (week_of (length ys)) w
       same q = rw (← q) k
@@ -143,7 +143,7 @@ module _ (xs : List ℕ) (s : Account) (k : Right xs s) where
 
   week_rest : InWeek (xs ++ 0 ∷ []) (week_of (length (xs ++ 0 ∷ []))) (week_next (s.now + 1) s.week)
   week_rest =
-      next_week_lem (xs ++ 0 ∷ []) (length xs) (length_more xs 0) s.week
+      next_week_law (xs ++ 0 ∷ []) (length xs) (length_more xs 0) s.week
       (record {
         end = k.end;
         weekly = omega (arith, k.weekly, up_to_rest xs (week_start (week_of (length xs))), driving_snoc xs 0);
@@ -273,7 +273,8 @@ module _ (xs : List ℕ) (s : Account) (k : Right xs s) (a : ℕ) where
         ∙ count_one (extended (driving_in xs) (week_of (day_start xs))) (days_done xs) (span (day_start xs) (judged_end xs))
         ∙ ap (λ (b : Bool). count_of (extended (driving_in xs) (week_of (day_start xs))) (days_done xs) + one b) was
 
-    short_over : count_of (extended (driving_in xs) (week_of (day_start (xs ++ suc a ∷ [])))) (days_done (xs ++ suc a ∷ [])) ≡ count_of (extended (driving_in xs) (week_of (day_start xs))) (days_done xs)
+    short_over : count_of (extended (driving_in xs) (week_of (day_start (xs ++ suc a ∷ [])))) (days_done (xs ++ suc a ∷ [])) ≡ count_of (extended (driving_in xs) (week_of
+        (day_start xs))) (days_done xs)
     short_over = ap₂ (λ (n : ℕ) (ds : List Span). count_of (extended (driving_in xs) (week_of n)) ds) short_start (short_before xs a t).over
 
     short_day : DayRight (xs ++ suc a ∷ []) (day_with (suc a) s.day)
@@ -308,9 +309,9 @@ module _ (xs : List ℕ) (s : Account) (k : Right xs s) (a : ℕ) where
       at false t = short_day t
 
   -- ---- the week, before and after it may end
-  week_with_lem : InWeek (xs ++ suc a ∷ []) (week_of (length xs)) (week_with (suc a) s.week)
+  week_with_law : InWeek (xs ++ suc a ∷ []) (week_of (length xs)) (week_with (suc a) s.week)
   unfolding week_with
-  week_with_lem = record {
+  week_with_law = record {
     end = k.end;
     weekly = omega (arith, k.weekly, up_to_within (week_start (week_of (length xs))) xs (suc a ∷ []) (omega arith), driving_snoc xs (suc a));
     last = k.last ∙ sym (before_same xs (suc a) (week_of (length xs)) refl);
@@ -320,7 +321,7 @@ module _ (xs : List ℕ) (s : Account) (k : Right xs s) (a : ℕ) where
   week_is =
       omega (
         arith,
-        week_with_lem.weekly,
+        week_with_law.weekly,
         driving_between (xs ++ suc a ∷ []) (week (week_of (length xs))),
         up_to_past (week_start (week_of (length xs) + 1)) (xs ++ suc a ∷ []) (omega (arith, length_more xs (suc a))),
       )
@@ -353,7 +354,7 @@ module _ (xs : List ℕ) (s : Account) (k : Right xs s) (a : ℕ) where
   right_busy : Right (xs ++ suc a ∷ []) (busy_minute s (suc a))
   unfolding busy_minute
   right_busy =
-      let w = next_week_lem (xs ++ suc a ∷ []) (length xs) (length_more xs (suc a)) (week_with (suc a) s.week) week_with_lem (s.now + 1) (omega (arith, k.now)) in
+      let w = next_week_law (xs ++ suc a ∷ []) (length xs) (length_more xs (suc a)) (week_with (suc a) s.week) week_with_law (s.now + 1) (omega (arith, k.now)) in
       record {
         now = omega (arith, k.now, length_more xs (suc a));
         from = omega (arith, k.now, judged_busy xs a);

@@ -55,8 +55,8 @@ some_counted f (x ∷ xs) = at (f x) (some_counted f xs)
     at true e = lt-ltb 0 (1 + count_of f xs) (omega arith)
     at false e = let z : 0 + count_of f xs ≡ count_of f xs = omega arith in ap (ltb 0) z ∙ e
 
-pub first_part_lem : (n : ℕ) (ms : List ℕ) → splits n (accumulated_by ms) ≡ leb first_part n and any_of is_driving (since_cleared ms)
-first_part_lem n ms = ap (λ (b : Bool). leb first_part n and b) (ap (ltb 0) (sym (driving_since ms)) ∙ some_counted is_driving (since_cleared ms))
+pub first_part_law : (n : ℕ) (ms : List ℕ) → splits n (accumulated_by ms) ≡ leb first_part n and any_of is_driving (since_cleared ms)
+first_part_law n ms = ap (λ (b : Bool). leb first_part n and b) (ap (ltb 0) (sym (driving_since ms)) ∙ some_counted is_driving (since_cleared ms))
 
 -- ---- and none is left where the sum is 0
 Driven : Accumulated → Type 0

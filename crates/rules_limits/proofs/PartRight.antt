@@ -330,9 +330,9 @@ equal_tests true false e = sym e
 equal_tests false true e = e
 equal_tests false false e = refl
 
-same_broken_lem : (a b : Breaches) → same_broken a b ≡ true → a ≡ b
+same_broken_law : (a b : Breaches) → same_broken a b ≡ true → a ≡ b
 unfolding same_broken
-same_broken_lem a b e =
+same_broken_law a b e =
     let to-breaks = and_left _ _ e in
     let to-fortnightly = and_left _ _ to-breaks in
     let to-weekly = and_left _ _ to-fortnightly in
@@ -349,7 +349,7 @@ unfolding same_breaches
 part_ran {n = zero} k h room e same = absurd (omega arith)
 part_ran {s} {a} {n = suc n} {t} k h room e same =
     ran (suc n) k (e ∙ fold_part n s a room (record {
-      broken = ap (λ (x : Account). x.broken) (sym e) ∙ sym (same_broken_lem s.broken t.broken (and_left _ _ same));
+      broken = ap (λ (x : Account). x.broken) (sym e) ∙ sym (same_broken_law s.broken t.broken (and_left _ _ same));
       first = ap (λ (x : Account). x.first.rule) (sym e) ∙ sym (eqb-true s.first.rule t.first.rule (and_right _ _ same));
     }))
 

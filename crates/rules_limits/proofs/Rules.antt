@@ -256,11 +256,11 @@ module _ (xs : List ℕ) (a : ℕ) where
       each d (inl j) t u = rw (done_driving d (done_in d j)) (day_all xs t d (done_in d j))
       each d (inr e) t u = rw e (leb-true _ day_at_most u)
 
-      week_of_lem : (w : ℕ) (b : Bool) → eqb (week_of (day_start (xs ++ suc a ∷ []))) w ≡ b → rule2 (driving_in xs) (weeks_of xs) (days xs) ≡ true
+      week_of_law : (w : ℕ) (b : Bool) → eqb (week_of (day_start (xs ++ suc a ∷ []))) w ≡ b → rule2 (driving_in xs) (weeks_of xs) (days xs) ≡ true
           → leb (extended_in (xs ++ suc a ∷ []) (week_of (day_start (xs ++ suc a ∷ [])))) extended_days ≡ true → extended_in (xs ++ suc a ∷ []) w ≤ extended_days
-      week_of_lem w true e t v = let q : week_of (day_start (xs ++ suc a ∷ [])) ≡ w = eqb-true _ w e in rw q at (leb-true (extended_in (xs ++ suc a ∷ []) (week_of (day_start
+      week_of_law w true e t v = let q : week_of (day_start (xs ++ suc a ∷ [])) ≡ w = eqb-true _ w e in rw q at (leb-true (extended_in (xs ++ suc a ∷ []) (week_of (day_start
           (xs ++ suc a ∷ [])))) extended_days v)
-      week_of_lem w false e t v = le_trans (other_week w (λ q. eqb-false _ w e q)) (extended_all xs t w)
+      week_of_law w false e t v = le_trans (other_week w (λ q. eqb-false _ w e q)) (extended_all xs t w)
 
       back : rule2 (driving_in xs) (weeks_of xs) (days xs) and (leb (driving_in (xs ++ suc a ∷ []) running) day_at_most and leb (extended_in (xs ++ suc a ∷ []) (week_of (day_start
           (xs ++ suc a ∷ [])))) extended_days) ≡ true
@@ -270,7 +270,7 @@ module _ (xs : List ℕ) (a : ℕ) where
           let t2 = and_right _ _ t in
           let u = and_left _ _ t2 in
           let v = and_right _ _ t2 in
-          rule2_of (xs ++ suc a ∷ []) (λ d i. each d (a_day d i) t1 u) (λ w. week_of_lem w _ refl t1 v)
+          rule2_of (xs ++ suc a ∷ []) (λ d i. each d (a_day d i) t1 u) (λ w. week_of_law w _ refl t1 v)
 
   pub rule5_busy : rule5 (days (xs ++ suc a ∷ [])) ≡ rule5 (days xs) and leb (suc (length xs)) (day_start (xs ++ suc a ∷ []) + day_length)
   rule5_busy =

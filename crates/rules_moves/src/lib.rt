@@ -96,7 +96,7 @@ fn put_wide_if(old: &[u8], wide: &mut [u8], wanted: bool)
 
 // A stored reading in the form of four bytes an entry, kind, week and carrier as they are: refusal 6 or 4, or the count of the bytes written.
 pub fn widen_reading(old: &[u8], wide: &mut [u8]) -> Moved
-    ensures result_value { moved result ≡ counted (reading_widened old.now (length wide.old)) }
+    ensures answer { moved result ≡ counted (reading_widened old.now (length wide.old)) }
     ensures wide_after { wide.new ≡ filled (reading_widened old.now (length wide.old)) wide.old }
 {
     let refusal = widening_refusal(old, wide.len());
@@ -177,8 +177,8 @@ fn put_old_if(wide: &[u8], old: &mut [u8], wanted: bool)
 
 // The move back: refusal 6, 4 or 15, or the count of the bytes written.
 pub fn narrow_reading(wide: &[u8], old: &mut [u8]) -> Moved
-    ensures result_value { moved result ≡ counted (reading_narrowed wide.now (length old.old)) }
-    ensures after { old.new ≡ filled (reading_narrowed wide.now (length old.old)) old.old }
+    ensures answer { moved result ≡ counted (reading_narrowed wide.now (length old.old)) }
+    ensures old_after { old.new ≡ filled (reading_narrowed wide.now (length old.old)) old.old }
 {
     let refusal = narrowing_refusal(wide, old.len());
     put_old_if(wide, old, refusal == 0);

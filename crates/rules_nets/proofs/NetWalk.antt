@@ -10,7 +10,7 @@ use lib.Dec.{ltb, eqb-suc-zero}
 use lib.ListN.{length, drop, get_or, set}
 use lib.Seq.{sets, length-sets, drop-cons, drop-length}
 use borrow.Author.Tests.{le-leb, lt-leb, ltb-false}
-use Rattle.recording.specs.Tests.{◌and◌, ◌or◌, pick, one, any_of, keep}
+use Rattle.recording.specs.Tests.{◌and◌, ◌or◌, pick, any_of, keep}
 use Rattle.recording.specs.Words.{minutes_in, activity_in, minutes_of}
 use Rattle.recording.specs.Rests.{with_rest, closed_rests, long_rest_minutes, is_long, long_rests}
 use Rattle.recording.specs.Weeks.{inside}

@@ -35,7 +35,7 @@ use Rattle.rules_limits.proofs.AccountRight.{rule_right}
 use Rattle.rules_fixed.proofs.NetLaws.{all_numbered, nets_most, reading_by_numbers}
 use Rattle.rules_items.specs.declared.Tally.{Tally}
 use Rattle.rules_items.specs.Items.{smaller, spans_from, spans_in, Laid, Zeros, test_from, Through, rule11_with, rest_weeks, later_by, Roomy}
-use Rattle.rules_items.proofs.PairLaws.{rule11_with_lem}
+use Rattle.rules_items.proofs.PairLaws.{rule11_with_law}
 
 -- ---- rules 8 to 10, then 11
 joined : (r8 r9 r10 : Bool) (x : ℕ) → unless r8 8 (unless r9 9 (unless r10 10 x)) ≡ pick (eqb (unless r8 8 (unless r9 9 (unless r10 10 0))) 0) x (unless r8 8 (unless r9 9 (unless r10 10 0)))
@@ -91,7 +91,7 @@ module _ (starts ends nets reading : List ℕ) (k s : ℕ) where
       later_last {r} z l q =
           sym (later_is ∙ rw (eq-eqb b 0 z)
           (ap (λ (x : Bool). unless x 11 0)
-          (sym (q ∙ rule11_with_lem (rest_weeks (spans_in starts ends k)) s (entries (spans_in starts ends k) (fields_in reading)) weekly regular l h.weeklies h.regulars))))
+          (sym (q ∙ rule11_with_law (rest_weeks (spans_in starts ends k)) s (entries (spans_in starts ends k) (fields_in reading)) weekly regular l h.weeklies h.regulars))))
 
 -- ---- arrays of zeros
 pub zeros_at : (n : ℕ) → Zeros (replicate n 0)

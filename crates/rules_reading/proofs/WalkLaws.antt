@@ -13,11 +13,27 @@ use Rattle.recording.specs.Tests.{◌and◌, pick, one, all_of, count_of}
 use Rattle.recording.specs.Operations.{total_at_most}
 use Rattle.recording.specs.declared.Span.{Span}
 use Rattle.recording.proofs.TestLaws.{one_most}
-use Rattle.rules.specs.Reading.{Entry, minutes, regular_minutes, as_read, is_weekly, is_regular, reduction_of, compensation_of, entry_fields, entry_bytes, carrier_of, fields_in, entry_of, entries_from, entries}
+use Rattle.rules.specs.Reading.{
+  Entry,
+  minutes,
+  regular_minutes,
+  as_read,
+  is_weekly,
+  is_regular,
+  reduction_of,
+  compensation_of,
+  entry_fields,
+  entry_bytes,
+  carrier_of,
+  fields_in,
+  entry_of,
+  entries_from,
+  entries,
+}
 use Rattle.rules.specs.ReadingRules.{formed, formed_daily, formed_weekly, rule6, least_net, long_enough, rule7, end_of}
 use Rattle.rules.specs.ReadingRules.{of_kind}
 use Rattle.rules.specs.declared.Kind.{Kind}
-use Rattle.rules.proofs.FieldLaws.{entry_fields_lem}
+use Rattle.rules.proofs.FieldLaws.{entry_fields_law}
 use Rattle.rules_nets.specs.Nets.{counts_by}
 use Rattle.rules_items.specs.declared.LongRest.{LongRest}
 use Rattle.rules_items.specs.declared.Tally.{Tally}
@@ -65,7 +81,7 @@ module _ (starts ends reading : List ℕ) (k : ℕ) where
 
   read_at : (i : ℕ) → entry_bytes * i + 3 < length reading → Read i
   read_at i h =
-      let e = entry_fields_lem i reading h in
+      let e = entry_fields_law i reading h in
       let z : entry_fields * i ≡ entry_fields * i + 0 = omega arith in
       record {
         kind = sym e.kind ∙ ap (λ (n : ℕ). get_or (fields_in reading) n 0) z ∙ sym (get_or-drop (entry_fields * i) (fields_in reading) 0 0);
@@ -122,7 +138,8 @@ module _ (starts ends reading : List ℕ) (k : ℕ) where
         same = f.same ∙ ap (all_of (formed k)) (left_next i f.earlier h) ∙ rw (sym (item_formed i f.earlier nets compensations g) ∙ t) refl;
       }
 
-  pub form_broken : {i : ℕ} (f : Forming i) (nets compensations : List ℕ) → entry_bytes * i + 3 < length reading → i < k → formed k (entry_by (item_at starts ends nets reading compensations i)) ≡ false
+  pub form_broken : {i : ℕ} (f : Forming i) (nets compensations : List ℕ) → entry_bytes * i + 3 < length reading → i < k
+      → formed k (entry_by (item_at starts ends nets reading compensations i)) ≡ false
       → false ≡ rule6 k (entries (spans_in starts ends k) (fields_in reading))
   unfolding all_of ◌and◌
   form_broken {i} f nets compensations g h t =

@@ -16,15 +16,15 @@ use Rattle.text_lines.specs.Form.{lines_of, text_of_lines, text_of, weeks_at_mos
 use Rattle.text_lines.specs.Reading.{lines_in, is_over, is_text, words_of, text_read}
 use Rattle.text_lines.specs.declared.Stage.{Stage}
 use Rattle.text_lines.specs.declared.Stage.TheVariants as stage
-use Rattle.text.proofs.LineText.{lines_good, text_read_lem, lines_written}
+use Rattle.text.proofs.LineText.{lines_good, text_read_law, lines_written}
 use Rattle.text.proofs.WeekLines.{lines_accepted, accepted_lines, lines_known, lines_good_of, lines_parted, all_runs, lines_words, allowed_few}
 
-is_over_lem : (s : Stage) → is_over s ≡ true → s ≡ stage.Over
-is_over_lem stage.Before e = let z : ◌≡◌ {A = ℕ} 0 1 = cc in absurd (omega arith)
-is_over_lem (stage.Between left more) e = let z : ◌≡◌ {A = ℕ} 0 1 = cc in absurd (omega arith)
-is_over_lem (stage.Within left more) e = let z : ◌≡◌ {A = ℕ} 0 1 = cc in absurd (omega arith)
-is_over_lem stage.Over e = refl
-is_over_lem stage.Wrong e = let z : ◌≡◌ {A = ℕ} 0 1 = cc in absurd (omega arith)
+is_over_law : (s : Stage) → is_over s ≡ true → s ≡ stage.Over
+is_over_law stage.Before e = let z : ◌≡◌ {A = ℕ} 0 1 = cc in absurd (omega arith)
+is_over_law (stage.Between left more) e = let z : ◌≡◌ {A = ℕ} 0 1 = cc in absurd (omega arith)
+is_over_law (stage.Within left more) e = let z : ◌≡◌ {A = ℕ} 0 1 = cc in absurd (omega arith)
+is_over_law stage.Over e = refl
+is_over_law stage.Wrong e = let z : ◌≡◌ {A = ℕ} 0 1 = cc in absurd (omega arith)
 
 -- the lines of an allowed list's text are the list's lines
 pub allowed_lines : {weeks : List (List ℕ)} → Allowed weeks → lines_in (text_of weeks) ≡ lines_of weeks
@@ -39,11 +39,11 @@ form_is_read {text} f =
 pub read_is_form : (text : List ℕ) → is_text text ≡ true → OfTheForm text
 unfolding is_text
 read_is_form text e =
-    let b = accepted_lines (lines_in text) (lines_good [] text) (is_over_lem _ e) in
+    let b = accepted_lines (lines_in text) (lines_good [] text) (is_over_law _ e) in
     record {
       weeks = b.weeks;
       allowed = b.allowed;
-      text_is = text_read_lem [] text (rw b.lines (lines_known b.weeks)) ∙ ap text_of_lines b.lines;
+      text_is = text_read_law [] text (rw b.lines (lines_known b.weeks)) ∙ ap text_of_lines b.lines;
     }
 
 -- ---- a text has at most one such list

@@ -12,7 +12,7 @@ use Rattle.recording.specs.Tests.{pick}
 use Rattle.recording.specs.Words.{activities, word_of, minutes_in, activity_in, minutes_of}
 use Rattle.recording.specs.Weeks.{week_minutes}
 use Rattle.recording.specs.Operations.{total_at_most}
-use Rattle.recording.proofs.WordLaws.{minutes_in_lem, activity_in_lem, minutes_append, Coded, no_minute, minute, coded_take, coded_drop}
+use Rattle.recording.proofs.WordLaws.{minutes_in_law, activity_in_law, minutes_append, Coded, no_minute, minute, coded_take, coded_drop}
 use Rattle.recording.proofs.TestLaws.{less_or_not}
 use Rattle.text_lines.specs.Form.{run_at_most, sum_of, Runs, Week, Weeks, Allowed}
 use Rattle.text_lines.specs.Form as form
@@ -33,12 +33,12 @@ data First (a : ℕ) : List ℕ → Type 0 where
 
 joined_to_first : (a : ℕ) (ws : List ℕ) → a < activities → First a (joined_to a ws)
 unfolding joined_to
-joined_to_first a [] h = first (activity_in_lem 1 a h)
+joined_to_first a [] h = first (activity_in_law 1 a h)
 joined_to_first a (w ∷ ws) h = go (eqb a (activity_in w)) refl
   where
     go : (b : Bool) → eqb a (activity_in w) ≡ b → First a (pick b ((w + activities) ∷ ws) (word_of 1 a ∷ w ∷ ws))
     go true e = first (longer_activity w ∙ sym (eqb-true a (activity_in w) e))
-    go false e = first (activity_in_lem 1 a h)
+    go false e = first (activity_in_law 1 a h)
 
 unfoldable pub starts_with : ℕ → List ℕ → Bool
 starts_with a [] = false
@@ -61,7 +61,7 @@ pub joined_run : (n a : ℕ) {ms : List ℕ} → 1 ≤ n → a < activities → 
 unfolding joined
 joined_run zero a k h c s = absurd (omega arith)
 joined_run (suc zero) a k h c s = joined_other a c s
-joined_run (suc (suc n)) a {ms} k h c s = ap (joined_to a) (joined_run (suc n) a (omega arith) h c s) ∙ longer (word_of (suc n) a) (activity_in_lem (suc n) a h) (omega arith)
+joined_run (suc (suc n)) a {ms} k h c s = ap (joined_to a) (joined_run (suc n) a (omega arith) h c s) ∙ longer (word_of (suc n) a) (activity_in_law (suc n) a h) (omega arith)
   where
     longer : (w : ℕ) → activity_in w ≡ a → w + activities ≡ word_of (suc (suc n)) a → joined_to a (w ∷ joined ms) ≡ word_of (suc (suc n)) a ∷ joined ms
     longer w e f = longer_run a w (joined ms) e ∙ ap (λ (v : ℕ). v ∷ joined ms) f
@@ -69,12 +69,12 @@ joined_run (suc (suc n)) a {ms} k h c s = ap (joined_to a) (joined_run (suc n) a
 -- ---- what is joined has the minutes
 joined_to_minutes : (a : ℕ) (ws : List ℕ) → a < activities → minutes_of (joined_to a ws) ≡ a ∷ minutes_of ws
 unfolding joined_to minutes_of
-joined_to_minutes a [] h = rw (minutes_in_lem 1 a h, activity_in_lem 1 a h)
+joined_to_minutes a [] h = rw (minutes_in_law 1 a h, activity_in_law 1 a h)
 joined_to_minutes a (w ∷ ws) h = go (eqb a (activity_in w)) refl
   where
     go : (b : Bool) → eqb a (activity_in w) ≡ b → minutes_of (pick b ((w + activities) ∷ ws) (word_of 1 a ∷ w ∷ ws)) ≡ a ∷ (replicate (minutes_in w) (activity_in w) ++ minutes_of ws)
     go true e = rw (longer_minutes w, longer_activity w, eqb-true a (activity_in w) e)
-    go false e = rw (minutes_in_lem 1 a h, activity_in_lem 1 a h)
+    go false e = rw (minutes_in_law 1 a h, activity_in_law 1 a h)
 
 pub joined_minutes : {ms : List ℕ} → Coded ms → minutes_of (joined ms) ≡ ms
 unfolding joined minutes_of
@@ -83,12 +83,12 @@ joined_minutes (minute {a} {ms} h c) = joined_to_minutes a (joined ms) h ∙ ap 
 
 joined_to_sum : (a : ℕ) (ws : List ℕ) → a < activities → sum_of (joined_to a ws) ≡ suc (sum_of ws)
 unfolding joined_to sum_of
-joined_to_sum a [] h = rw (minutes_in_lem 1 a h)
+joined_to_sum a [] h = rw (minutes_in_law 1 a h)
 joined_to_sum a (w ∷ ws) h = go (eqb a (activity_in w))
   where
     go : (b : Bool) → sum_of (pick b ((w + activities) ∷ ws) (word_of 1 a ∷ w ∷ ws)) ≡ suc (minutes_in w + sum_of ws)
     go true = rw (longer_minutes w) (omega arith)
-    go false = rw (minutes_in_lem 1 a h) (omega arith)
+    go false = rw (minutes_in_law 1 a h) (omega arith)
 
 joined_sum : {ms : List ℕ} → Coded ms → sum_of (joined ms) ≡ length ms
 unfolding joined sum_of
@@ -97,12 +97,12 @@ joined_sum (minute {a} {ms} h c) = joined_to_sum a (joined ms) h ∙ ap suc (joi
 
 joined_to_some : (a : ℕ) {ws : List ℕ} → a < activities → EachSome ws → EachSome (joined_to a ws)
 unfolding joined_to
-joined_to_some a h none = next {w = word_of 1 a} (omega (arith, minutes_in_lem 1 a h)) none
+joined_to_some a h none = next {w = word_of 1 a} (omega (arith, minutes_in_law 1 a h)) none
 joined_to_some a h (next {w} {ws} k e) = go (eqb a (activity_in w))
   where
     go : (b : Bool) → EachSome (pick b ((w + activities) ∷ ws) (word_of 1 a ∷ w ∷ ws))
     go true = next {w = w + activities} (omega (arith, longer_minutes w)) e
-    go false = next {w = word_of 1 a} (omega (arith, minutes_in_lem 1 a h)) (next k e)
+    go false = next {w = word_of 1 a} (omega (arith, minutes_in_law 1 a h)) (next k e)
 
 joined_some : {ms : List ℕ} → Coded ms → EachSome (joined ms)
 unfolding joined

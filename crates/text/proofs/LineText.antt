@@ -9,7 +9,7 @@ use lib.Seq.{append_snoc}
 use borrow.Author.Tests.{ne_eqb, eqb-true, eqb-false}
 use Rattle.recording.specs.Tests.{pick}
 use Rattle.recording.specs.Words.{activities, word_of, minutes_in, activity_in, rest, availability, other_work, driving}
-use Rattle.recording.proofs.WordLaws.{minutes_in_lem, activity_in_lem}
+use Rattle.recording.proofs.WordLaws.{minutes_in_law, activity_in_law}
 use Rattle.text_lines.specs.Form.{line_end, recording_line, week_line, closing_line, run_name, digit_zero, base, digit_at, decimal, line_text, text_of_lines, Run}
 use Rattle.text_lines.specs.Reading.{same, number_from, number_after, run_or, line_of, lines_from, lines_in}
 use Rattle.text_lines.specs.declared.Line.{Line}
@@ -50,9 +50,9 @@ run_read a l other h r = go (eqb (number_after (run_name a) l) 0) refl
     go false e =
         let n = number_after (run_name a) l in
         let z : n ≡ 0 → ⊥ = eqb-false n 0 e in
-        let m : minutes_in (word_of n a) ≡ n = minutes_in_lem n a h in
+        let m : minutes_in (word_of n a) ≡ n = minutes_in_law n a h in
         record {
-          text = λ _. rw (m, activity_in_lem n a h) (after_read (run_name a) l n refl (omega arith));
+          text = λ _. rw (m, activity_in_law n a h) (after_read (run_name a) l n refl (omega arith));
           good = record { some = omega arith; within = omega (arith, after_within (run_name a) l) };
         }
 
@@ -93,11 +93,11 @@ each_head (next p ps) = p
 each_tail : {P : Line → Type 0} {l : Line} {ls : List Line} → Each P (l ∷ ls) → Each P ls
 each_tail (next p ps) = ps
 
-pub text_read_lem : (l t : List ℕ) → Each Known (lines_from l t) → l ++ t ≡ text_of_lines (lines_from l t)
+pub text_read_law : (l t : List ℕ) → Each Known (lines_from l t) → l ++ t ≡ text_of_lines (lines_from l t)
 unfolding lines_from text_of_lines
-text_read_lem [] [] k = refl
-text_read_lem (x ∷ l) [] k = absurd (each_head k)
-text_read_lem l (b ∷ bs) k = go (eqb b line_end) refl k (text_read_lem [] bs) (text_read_lem (l ++ b ∷ []) bs)
+text_read_law [] [] k = refl
+text_read_law (x ∷ l) [] k = absurd (each_head k)
+text_read_law l (b ∷ bs) k = go (eqb b line_end) refl k (text_read_law [] bs) (text_read_law (l ++ b ∷ []) bs)
   where
     go : (e : Bool) → eqb b line_end ≡ e → Each Known (pick e (line_of l ∷ lines_from [] bs) (lines_from (l ++ b ∷ []) bs))
         → (Each Known (lines_from [] bs) → bs ≡ text_of_lines (lines_from [] bs))

@@ -84,20 +84,20 @@ module _ (a : ℕ) (code : a < activities) {ms : List ℕ} (c : Coded ms) (s : s
       let m : min n left ≡ left = omega arith in
       rw (m, eq-eqb left left refl) (full_part left n k l)
 
-  pub part_lines_lem : (left n : ℕ) → 1 ≤ n → 1 ≤ left → left ≤ week_minutes
+  pub part_lines_law : (left n : ℕ) → 1 ≤ n → 1 ≤ left → left ≤ week_minutes
       → lines_left left (replicate n a ++ ms)
       ≡ part_lines left (min n left) (word_of (min n left) a) ++ lines_left (left_after left (min n left)) (replicate (n - min n left) a ++ ms)
   unfolding part_lines
-  part_lines_lem left n h k u =
+  part_lines_law left n h k u =
       lines_begun left (replicate n a ++ ms) (rw (length-append, length-replicate) (omega arith))
       ∙ ap (λ (ls : List Line). pick (eqb left week_minutes) (line.Week ∷ []) [] ++ ls) (part_there left n h k u (less_or_not n left))
       ∙ sym (append_assoc (pick (eqb left week_minutes) (line.Week ∷ []) []) _ _)
 
 -- ---- the words in front
-pub same_minutes_lem : (a : ℕ) (ws : List ℕ) → minutes_of ws ≡ replicate (same_minutes a ws) a ++ minutes_of (drop (same_words a ws) ws)
+pub same_minutes_law : (a : ℕ) (ws : List ℕ) → minutes_of ws ≡ replicate (same_minutes a ws) a ++ minutes_of (drop (same_words a ws) ws)
 unfolding minutes_of same_minutes same_words
-same_minutes_lem a [] = refl
-same_minutes_lem a (w ∷ ws) = go (eqb (activity_in w) a) refl (same_minutes_lem a ws)
+same_minutes_law a [] = refl
+same_minutes_law a (w ∷ ws) = go (eqb (activity_in w) a) refl (same_minutes_law a ws)
   where
     go : (b : Bool) → eqb (activity_in w) a ≡ b → minutes_of ws ≡ replicate (same_minutes a ws) a ++ minutes_of (drop (same_words a ws) ws)
         → replicate (minutes_in w) (activity_in w) ++ minutes_of ws
@@ -212,7 +212,7 @@ module _ {words start text : List ℕ} {from at left a n i : ℕ} (w : Writing w
       let r : part ≤ left = omega arith in
       let ls = left_some left part w.some w.most r in
       let e : left_text left a n (drop i words) ≡ text_of_lines (part_lines left part (word_of part a)) ++ left_text left' a (n - part) (drop i words) =
-      ap text_of_lines (part_lines_lem a w.code (coded_minutes (drop i words)) (w.apart h) left n h w.some w.most ∙ rw (q, m) refl)
+      ap text_of_lines (part_lines_law a w.code (coded_minutes (drop i words)) (w.apart h) left n h w.some w.most ∙ rw (q, m) refl)
       ∙ lines_text (part_lines left part (word_of part a)) _ in
       let k = placed p (left_text left a n (drop i words)) (left_text left' a (n - part) (drop i words)) e in
       let b = part_length left part a w.code in
@@ -246,7 +246,7 @@ module _ {words start text : List ℕ} {from at left a n i : ℕ} (w : Writing w
     fetched : replicate n a ++ minutes_of (drop i words) ≡ replicate r.minutes (activity_in (get_or words i 0)) ++ minutes_of (drop (i + r.words) words)
     fetched =
         ap (λ (k : ℕ). replicate k a ++ minutes_of (drop i words)) z
-        ∙ same_minutes_lem (activity_in (get_or words i 0)) (drop i words)
+        ∙ same_minutes_law (activity_in (get_or words i 0)) (drop i words)
         ∙ rw (← there.minutes, ← there.words, drop-drop r.words i words) refl
 
     pub fetched_length : n + length (minutes_of (drop i words)) ≡ r.minutes + length (minutes_of (drop (i + r.words) words))

@@ -12,7 +12,7 @@ use borrow.Author.Tests.{lt-ltb, le-ltb}
 use Rattle.recording.specs.Tests.{pick}
 use Rattle.recording.specs.Words.{word_of, activities, rest, availability, other_work}
 use Rattle.recording.specs.Weeks.{week_minutes}
-use Rattle.recording.proofs.WordLaws.{minutes_in_lem, activity_in_lem}
+use Rattle.recording.proofs.WordLaws.{minutes_in_law, activity_in_law}
 use Rattle.text_lines.specs.Form.{line_end, week_line, closing_line, run_name, digit_zero, base, digit_at, decimal, line_text, text_of_lines}
 use Rattle.text.specs.Passes.{Put, part_lines}
 use Rattle.text_lines.specs.declared.Line.TheVariants as line
@@ -92,10 +92,10 @@ regroup p r d q = simp append_assoc
 part_bytes : (b d : Bool) (n a : ℕ) → a < activities → text_of_lines (pick b (line.Week ∷ []) [] ++ line.Run (word_of n a) ∷ pick d (line.Closing ∷ []) [])
     ≡ pick b (ended week_line) [] ++ run_name a ++ decimal n ++ ended closing_line ++ pick d (ended closing_line) []
 unfolding text_of_lines line_text
-part_bytes true true n a h = rw (minutes_in_lem n a h, activity_in_lem n a h) (sym (regroup (ended week_line) (run_name a) (decimal n) (ended closing_line)))
-part_bytes true false n a h = rw (minutes_in_lem n a h, activity_in_lem n a h) (sym (regroup (ended week_line) (run_name a) (decimal n) []))
-part_bytes false true n a h = rw (minutes_in_lem n a h, activity_in_lem n a h) (sym (regroup [] (run_name a) (decimal n) (ended closing_line)))
-part_bytes false false n a h = rw (minutes_in_lem n a h, activity_in_lem n a h) (sym (regroup [] (run_name a) (decimal n) []))
+part_bytes true true n a h = rw (minutes_in_law n a h, activity_in_law n a h) (sym (regroup (ended week_line) (run_name a) (decimal n) (ended closing_line)))
+part_bytes true false n a h = rw (minutes_in_law n a h, activity_in_law n a h) (sym (regroup (ended week_line) (run_name a) (decimal n) []))
+part_bytes false true n a h = rw (minutes_in_law n a h, activity_in_law n a h) (sym (regroup [] (run_name a) (decimal n) (ended closing_line)))
+part_bytes false false n a h = rw (minutes_in_law n a h, activity_in_law n a h) (sym (regroup [] (run_name a) (decimal n) []))
 
 pub part_text : (left n a : ℕ) → a < activities → text_of_lines (part_lines left n (word_of n a))
     ≡ pick (eqb left week_minutes) (ended week_line) [] ++ run_name a ++ decimal n ++ ended closing_line ++ pick (eqb left n) (ended closing_line) []

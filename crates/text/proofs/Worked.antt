@@ -54,7 +54,8 @@ pub record Worked : Type 0 where
   no_minutes : text_written (w 4 ∷ r 0 ∷ []) 0 ≡ refused 1
 
 pub worked : Worked
-unfolding opened run_name digit_at decimal line_text text_of_lines runs_then weeks_then_end same number_from number_after run_or line_of lines_from stage_after stage_from is_text words_of text_read joined_to
+unfolding opened run_name digit_at decimal line_text text_of_lines runs_then weeks_then_end same number_from number_after run_or line_of lines_from stage_after stage_from is_text
+    words_of text_read joined_to
     joined weeks_within weeks_joined text_written
 worked = record {
   paper = refl;

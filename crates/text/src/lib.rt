@@ -54,7 +54,7 @@ fn fill_if(text: &[u8], words: &mut [u32], wanted: bool)
 
 // Reading text: refusal 8, not of the form; 9, too few words; or the count of words, one a run line.
 pub fn read_text(text: &[u8], words: &mut [u32]) -> Filling
-    ensures result_value { written result ≡ counted (text_read text.now (length words.old)) }
+    ensures answer { written result ≡ counted (text_read text.now (length words.old)) }
     ensures words_after { words.new ≡ filled (text_read text.now (length words.old)) words.old }
 {
     let judgement = judge(text);
@@ -221,7 +221,7 @@ fn put_recording(words: &[u32], text: &mut [u8]) -> usize
 
 // Writing text: refusals 1 and 2; 10, too few bytes; or the text's length.
 pub fn write_text(words: &[u32], text: &mut [u8]) -> Filling
-    ensures result_value { written result ≡ counted (text_written words.now (length text.old)) }
+    ensures answer { written result ≡ counted (text_written words.now (length text.old)) }
     ensures text_after { text.new ≡ filled (text_written words.now (length text.old)) text.old }
 {
     let weighing = recording::weigh(words);

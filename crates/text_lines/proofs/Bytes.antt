@@ -129,13 +129,13 @@ unfolding number_from
 number_within v [] h = omega arith
 number_within v (b ∷ bs) h = go (eqb b closing) (is_empty bs) (is_digit b) (in_range (with_digit v b)) refl (number_within (with_digit v b) bs)
   where
-    in_range_lem : (n : ℕ) (a c : Bool) → leb n run_at_most ≡ c → pick a false c ≡ true → n ≤ run_at_most
-    in_range_lem n true c e f = absurd (false≢true f)
-    in_range_lem n false c e f = leb-true n run_at_most (e ∙ f)
+    in_range_law : (n : ℕ) (a c : Bool) → leb n run_at_most ≡ c → pick a false c ≡ true → n ≤ run_at_most
+    in_range_law n true c e f = absurd (false≢true f)
+    in_range_law n false c e f = leb-true n run_at_most (e ∙ f)
 
     go : (a c d g : Bool) → in_range (with_digit v b) ≡ g → (with_digit v b ≤ run_at_most → number_from (with_digit v b) bs ≤ run_at_most)
         → pick a (pick c v 0) (pick d (pick g (number_from (with_digit v b) bs) 0) 0) ≤ run_at_most
-    go a c d true e ih = within_picks a c d true v (number_from (with_digit v b) bs) h (ih (in_range_lem (with_digit v b) (eqb (with_digit v b) 0) _ refl e))
+    go a c d true e ih = within_picks a c d true v (number_from (with_digit v b) bs) h (ih (in_range_law (with_digit v b) (eqb (with_digit v b) 0) _ refl e))
     go a c d false e ih = within_picks a c d true v 0 h (omega arith)
 
 pub after_within : (name bs : List ℕ) → number_after name bs ≤ run_at_most

@@ -221,7 +221,7 @@ fn reading_within(
     beside: &mut [u32],
 ) -> Filling
     requires { measured words.now ≡ answered measure }
-    ensures result_value { written result ≡ counted (first_reading_given words.now (length reading.old)) }
+    ensures answer { written result ≡ counted (first_reading_given words.now (length reading.old)) }
     ensures reading_after { reading.new ≡ filled (first_reading_given words.now (length reading.old)) reading.old }
 {
     if measure.total <= recording::SHORT_TOTAL {
@@ -263,7 +263,7 @@ fn reading_within(
 // The same with room for few long rests.
 fn reading_of_few(words: &[u32], measure: Measure, reading: &mut [u8]) -> Filling
     requires { measured words.now ≡ answered measure }
-    ensures result_value { written result ≡ counted (first_reading_given words.now (length reading.old)) }
+    ensures answer { written result ≡ counted (first_reading_given words.now (length reading.old)) }
     ensures reading_after { reading.new ≡ filled (first_reading_given words.now (length reading.old)) reading.old }
 {
     let mut nogoods = [0u32; FEW_NOGOODS];
@@ -286,7 +286,7 @@ fn reading_of_few(words: &[u32], measure: Measure, reading: &mut [u8]) -> Fillin
 // The same with room for some long rests.
 fn reading_of_some(words: &[u32], measure: Measure, reading: &mut [u8]) -> Filling
     requires { measured words.now ≡ answered measure }
-    ensures result_value { written result ≡ counted (first_reading_given words.now (length reading.old)) }
+    ensures answer { written result ≡ counted (first_reading_given words.now (length reading.old)) }
     ensures reading_after { reading.new ≡ filled (first_reading_given words.now (length reading.old)) reading.old }
 {
     let mut nogoods = [0u32; SOME_NOGOODS];
@@ -309,7 +309,7 @@ fn reading_of_some(words: &[u32], measure: Measure, reading: &mut [u8]) -> Filli
 // The same with room for many long rests.
 fn reading_of_many(words: &[u32], measure: Measure, reading: &mut [u8]) -> Filling
     requires { measured words.now ≡ answered measure }
-    ensures result_value { written result ≡ counted (first_reading_given words.now (length reading.old)) }
+    ensures answer { written result ≡ counted (first_reading_given words.now (length reading.old)) }
     ensures reading_after { reading.new ≡ filled (first_reading_given words.now (length reading.old)) reading.old }
 {
     let mut nogoods = [0u32; MANY_NOGOODS];
@@ -332,7 +332,7 @@ fn reading_of_many(words: &[u32], measure: Measure, reading: &mut [u8]) -> Filli
 // The same with room for plenty of long rests.
 fn reading_of_plenty(words: &[u32], measure: Measure, reading: &mut [u8]) -> Filling
     requires { measured words.now ≡ answered measure }
-    ensures result_value { written result ≡ counted (first_reading_given words.now (length reading.old)) }
+    ensures answer { written result ≡ counted (first_reading_given words.now (length reading.old)) }
     ensures reading_after { reading.new ≡ filled (first_reading_given words.now (length reading.old)) reading.old }
 {
     let mut nogoods = [0u32; PLENTY_NOGOODS];
@@ -355,7 +355,7 @@ fn reading_of_plenty(words: &[u32], measure: Measure, reading: &mut [u8]) -> Fil
 // The same with room for as many long rests as there can be.
 fn reading_of_most(words: &[u32], measure: Measure, reading: &mut [u8]) -> Filling
     requires { measured words.now ≡ answered measure }
-    ensures result_value { written result ≡ counted (first_reading_given words.now (length reading.old)) }
+    ensures answer { written result ≡ counted (first_reading_given words.now (length reading.old)) }
     ensures reading_after { reading.new ≡ filled (first_reading_given words.now (length reading.old)) reading.old }
 {
     let mut nogoods = [0u32; MOST_NOGOODS];
@@ -378,7 +378,7 @@ fn reading_of_most(words: &[u32], measure: Measure, reading: &mut [u8]) -> Filli
 // The same with room by the number of long rests.
 fn reading_in_room(words: &[u32], measure: Measure, reading: &mut [u8]) -> Filling
     requires { measured words.now ≡ answered measure }
-    ensures result_value { written result ≡ counted (first_reading_given words.now (length reading.old)) }
+    ensures answer { written result ≡ counted (first_reading_given words.now (length reading.old)) }
     ensures reading_after { reading.new ≡ filled (first_reading_given words.now (length reading.old)) reading.old }
 {
     let count = measure.count;
@@ -399,7 +399,7 @@ fn reading_in_room(words: &[u32], measure: Measure, reading: &mut [u8]) -> Filli
 
 // The first lawful reading: refusals 1 and 2, then 4, then 13 where the verdict is a breach; or the count of its bytes.
 pub fn first_reading(words: &[u32], reading: &mut [u8]) -> Filling
-    ensures result_value { written result ≡ counted (first_reading_given words.now (length reading.old)) }
+    ensures answer { written result ≡ counted (first_reading_given words.now (length reading.old)) }
     ensures reading_after { reading.new ≡ filled (first_reading_given words.now (length reading.old)) reading.old }
 {
     let weighing = recording::weigh(words);
@@ -419,7 +419,7 @@ pub fn first_reading_lent(
     known: &mut [u32],
     beside: &mut [u32],
 ) -> Filling
-    ensures result_value { written result ≡ counted (first_reading_given words.now (length reading.old)) }
+    ensures answer { written result ≡ counted (first_reading_given words.now (length reading.old)) }
     ensures reading_after { reading.new ≡ filled (first_reading_given words.now (length reading.old)) reading.old }
 {
     let weighing = recording::weigh(words);

@@ -11,7 +11,7 @@ use Rattle.rules.specs.Fixed.{fixed_test}
 use Rattle.rules.specs.Verdict.{prefix, breach_minute, article, verdict}
 use Rattle.rules.specs.Operations.{breached, finding_of}
 use Rattle.rules.specs.Opened.{opened}
-use Rattle.rules.proofs.Breach.{HasLawful, prefix_lawful, Breach, breach_is, breach_after, is_none_lem}
+use Rattle.rules.proofs.Breach.{HasLawful, prefix_lawful, Breach, breach_is, breach_after, is_none_law}
 use Rattle.rules_limits.specs.Account.{account_from, opening}
 use Rattle.rules_limits.specs.declared.Break.{Break}
 use Rattle.rules_limits.proofs.AccountRight.{First, unbroken, broken as broken-at, account_right, first_least}
@@ -78,7 +78,7 @@ module _ (ms : List ℕ) (n : HasReading ms → ⊥) where
 
   finding : {m a : ℕ} → m ≡ breach_minute ms → a ≡ article (prefix m ms) → breached m a ≡ finding_of (verdict ms)
   unfolding verdict
-  finding {m} {a} e f = rw (is_none_lem ms no_lawful, f, sym e) refl
+  finding {m} {a} e f = rw (is_none_law ms no_lawful, f, sym e) refl
 
   pub bound_whole : first.rule ≡ 0 → Bound ms (length ms)
   bound_whole z = record {

@@ -19,12 +19,12 @@ use Rattle.rules.specs.Reading.{entry_bytes, reading_size, compensation_of, entr
 use Rattle.rules.specs.ReadingRules.{fields_test}
 use Rattle.rules.specs.Order.{Fields}
 use Rattle.rules.specs.Verdict.{lawful_fields, is_none, first_fields, first_lawful}
-use Rattle.rules.proofs.Breach.{HasLawful, first_fields_lem, is_none_lem, some_first}
+use Rattle.rules.proofs.Breach.{HasLawful, first_fields_law, is_none_law, some_first}
 use Rattle.rules_items.specs.Items.{spans_from, spans_in, rest_weeks, Zeros}
 use Rattle.rules_reading.proofs.LaterLaws.{nowhere, map_at, spans_are, if_zero}
 use Rattle.verdict_completion.specs.States.{start_state}
 use Rattle.verdict_completion.specs.Runs.{Kept}
-use Rattle.verdict_completion.specs.Completable.{Course, at, count, rest_week, Completable, Lies}
+use Rattle.verdict_completion.specs.Completable.{Course, count, rest_week, Completable, Lies}
 use Rattle.verdict_completion.proofs.Carriers.{extend, extended}
 use Rattle.verdict_completion.proofs.RunLaws.{later_kept, kept_later}
 use Rattle.verdict_search.specs.Search.{Found, course_of, Sound, Lent}
@@ -69,7 +69,8 @@ module _ (starts ends nets compensations outstanding : List ℕ) (s : ℕ) (lies
   }
 
   pub some_reading : {r : Bool} {outstanding' nogoods : List ℕ}
-      → Found (Completable (course_of starts ends nets compensations s) (length starts) 0 (start_state (rest_week (course_of starts ends nets compensations s) 0)) outstanding) r outstanding outstanding'
+      → Found (Completable (course_of starts ends nets compensations s) (length starts) 0 (start_state (rest_week (course_of starts ends nets compensations s) 0)) outstanding) r
+      outstanding outstanding'
       (Sound (course_of starts ends nets compensations s) nogoods)
       → Some (rests_only starts ends nets s) r
   unfolding entries compensation_of
@@ -94,8 +95,8 @@ module _ (rs : List Span) where
   size : length starts ≡ length rs
   size = length-map rs (λ (r : Span). r.start)
 
-  spans_back_lem : spans_in starts ends (length starts) ≡ rs
-  spans_back_lem =
+  spans_back_law : spans_in starts ends (length starts) ≡ rs
+  spans_back_law =
       ap (spans_from starts ends 0) size
       ∙ spans_are starts ends rs 0
       (λ j h. ap (λ (n : ℕ). get_or starts n 0) (let e : 0 + j ≡ j = omega arith in e) ∙ map_at (λ r. r.start) rs j nowhere h)
@@ -153,7 +154,7 @@ module _ (ms : List ℕ) where
       let k : KeptThere (long_rests ms) fields =
       later_kept (rest_weeks (long_rests ms)) (counts_by (nets_of ms)) (judged_end ms) (long_rests ms) fields (rests_ordered ms)
       (later_none (fixed_test ms) _ (sym (reading_by_numbers ms (nets_of ms) (λ i h. refl) fields) ∙ z)) in
-      subst (λ (rs : List Span). KeptThere rs fields) (sym (spans_back_lem (long_rests ms))) k
+      subst (λ (rs : List Span). KeptThere rs fields) (sym (spans_back_law (long_rests ms))) k
     where
       later_none : (n x : ℕ) → if_none n x ≡ 0 → x ≡ 0
       later_none zero x e = e
@@ -162,7 +163,7 @@ module _ (ms : List ℕ) where
   pub kept_lawful : fixed_test ms ≡ 0 → (fields : List ℕ) → KeptBy (rests_in ms) fields → lawful_fields ms fields ≡ true
   unfolding lawful_fields
   kept_lawful f fields k =
-      let k' : KeptThere (long_rests ms) fields = subst (λ (rs : List Span). KeptThere rs fields) (spans_back_lem (long_rests ms)) k in
+      let k' : KeptThere (long_rests ms) fields = subst (λ (rs : List Span). KeptThere rs fields) (spans_back_law (long_rests ms)) k in
       let z = kept_later (rest_weeks (long_rests ms)) (counts_by (nets_of ms)) (judged_end ms) (long_rests ms) fields (rests_ordered ms) k' in
       eq-eqb (fields_test ms fields) 0 (reading_by_numbers ms (nets_of ms) (λ i h. refl) fields ∙ if_zero (fixed_test ms) _ f ∙ z)
 
@@ -182,7 +183,7 @@ module _ (ms : List ℕ) where
 
   pub least : {f : List ℕ} → first_fields ms ≡ some f → Least (rests_in ms) f
   least {f} e =
-      let first = first_fields_lem ms e in
+      let first = first_fields_law ms e in
       let l = first.sound in
       record {
         bounded = as_many f l.bounded;
@@ -207,7 +208,7 @@ pub from_has : {ms : List ℕ} → HasLawful ms → HasReading ms
 from_has (r, l) = (r, l.bounded, l.keeps)
 
 pub has_none : (ms : List ℕ) → (fixed_test ms ≡ 0 → ⊥) → false ≡ not (is_none (first_lawful ms))
-has_none ms f = sym (ap (λ (o : Option (List ℕ)). not (is_none o)) (is_none_lem ms (λ h. f (fixed_first ms h.0 h.1.keeps))))
+has_none ms f = sym (ap (λ (o : Option (List ℕ)). not (is_none o)) (is_none_law ms (λ h. f (fixed_first ms h.0 h.1.keeps))))
 
 module _ (ms : List ℕ) {r : Bool} (a : Readable ms r) where
   pub has_it : fixed_test ms ≡ 0 → r ≡ not (is_none (first_lawful ms))
@@ -215,7 +216,7 @@ module _ (ms : List ℕ) {r : Bool} (a : Readable ms r) where
     where
       at : (t : Bool) → r ≡ t → t ≡ not (is_none (first_lawful ms))
       at true e = sym (ap not (some_first ms (to_has (a.yes e f))))
-      at false e = sym (ap (λ (o : Option (List ℕ)). not (is_none o)) (is_none_lem ms (λ h. a.no e (from_has h))))
+      at false e = sym (ap (λ (o : Option (List ℕ)). not (is_none o)) (is_none_law ms (λ h. a.no e (from_has h))))
 
 -- the answer that goes by the fixed rules first
 pub by_fixed : (ms : List ℕ) (rule : ℕ) {t : Bool} → fixed_test ms ≡ rule → ByRule (rests_in ms) rule t → t ≡ not (is_none (first_lawful ms))

@@ -1,6 +1,6 @@
 -- Inner: what the functions of this layer answer. Nobody has to believe it: no public contract cites it.
 -- Assumes nothing.
-use Rattle.std.specs.Prelude.{◌≡◌, ◌⊎◌, Bool, true, false, List, map, ℕ, zero, suc, ◌+◌, ◌-◌, ◌*◌, ◌≤◌, ◌<◌, ltb, length, get_or, take}
+use Rattle.std.specs.Prelude.{◌≡◌, ◌⊎◌, Bool, true, false, List, map, ℕ, zero, suc, ◌+◌, ◌-◌, ◌≤◌, ◌<◌, ltb, length, get_or, take}
 use Rattle.recording.specs.Tests.{pick}
 use Rattle.recording.specs.Words.{rest, minutes_of}
 use Rattle.recording.specs.Rests.{judged_end, long_rests, long_rests_at_most}

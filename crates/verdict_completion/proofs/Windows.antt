@@ -143,9 +143,9 @@ module _ (rest_week : ℕ → Bool) where
         rw (ne_eqb st.week 0 (λ z. omega arith))
         (ap₂ ◌and◌ (capped weekly_at_least _ _ _ _ b.weekly c.weekly) (capped regular_at_least _ _ _ _ b.regular c.regular))
 
-    pair_kept_lem : ((w : ℕ) → w + 1 ≡ st.week → enough_in rest_week past w ≡ true) → pair_kept st ≡ true
+    pair_kept_law : ((w : ℕ) → w + 1 ≡ st.week → enough_in rest_week past w ≡ true) → pair_kept st ≡ true
     unfolding pair_kept
-    pair_kept_lem h = at st.week refl
+    pair_kept_law h = at st.week refl
       where
         at : (n : ℕ) → n ≡ st.week → pair_kept st ≡ true
         at zero e = or_left _ _ (eq-eqb st.week 0 (sym e))
@@ -180,7 +180,7 @@ module _ (rest_week : ℕ → Bool) where
   unfolding advance
   advance_on zero st P seen h k = k st (record { seen = seen; week = omega arith; ended = refl; short = refl })
   advance_on (suc n) st P seen h k =
-      let t = pair_kept_lem seen (λ w e. h w (omega arith)) in
+      let t = pair_kept_law seen (λ w e. h w (omega arith)) in
       rw t (advance_on n (week_on st) P (seen_next seen t) (λ w l. h w (omega arith)) (λ there r. k there (reached_next r)))
 
   -- and it succeeds only there

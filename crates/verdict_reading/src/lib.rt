@@ -54,7 +54,7 @@ pub fn reading_among(
     beside: &mut [u32],
 ) -> Filling
     requires { (measured words.now ≡ answered measure) × Roomy words.now starts.old ends.old nets.old }
-    ensures result_value { written result ≡ counted (first_reading_given words.now (length reading.old)) }
+    ensures answer { written result ≡ counted (first_reading_given words.now (length reading.old)) }
     ensures reading_after { reading.new ≡ filled (first_reading_given words.now (length reading.old)) reading.old }
 {
     let count = measure.count;

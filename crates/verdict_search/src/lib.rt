@@ -77,7 +77,8 @@ pub fn place(
     n: usize,
 ) -> Went
     requires { let c = course_of starts.now ends.now nets.now compensations.now s in Given c j m outstanding.old nogoods.old j next.old n × AtRest c j here }
-    ensures { let c = course_of starts.now ends.now nets.now compensations.now s in Leads c (λ o. Tries c (Later c j) j here o) j n next.old next.new outstanding.old outstanding.new nogoods.new result }
+    ensures { let c = course_of starts.now ends.now nets.now compensations.now s in
+        Leads c (λ o. Tries c (Later c j) j here o) j n next.old next.new outstanding.old outstanding.new nogoods.new result }
 {
     let put = verdict_fronts::put(next, n, outstanding, m, here);
     let n = put.n;
@@ -128,7 +129,8 @@ pub fn step(
     n: usize,
 ) -> Went
     requires { let c = course_of starts.now ends.now nets.now compensations.now s in Given c j m outstanding.old nogoods.old j next.old n × Before c j st }
-    ensures { let c = course_of starts.now ends.now nets.now compensations.now s in Leads c (λ o. Completable c (count c - j) j st o) j n next.old next.new outstanding.old outstanding.new nogoods.new result }
+    ensures { let c = course_of starts.now ends.now nets.now compensations.now s in
+        Leads c (λ o. Completable c (count c - j) j st o) j n next.old next.new outstanding.old outstanding.new nogoods.new result }
 {
     if j == starts.len() {
         let yes = closes(starts, ends, nets, compensations, s, outstanding, st, m);
@@ -184,7 +186,8 @@ fn daily(
 ) -> Went
     requires { let c = course_of starts.now ends.now nets.now compensations.now s in
         Given c j m outstanding.old nogoods.old (j + 1) next.old n × AtRest c j here × (least_net Daily + compensation ≤ length_at c j) }
-    ensures { let c = course_of starts.now ends.now nets.now compensations.now s in Leads c (λ o. ReadDaily c (Later c j) j here compensation o) (j + 1) n next.old next.new outstanding.old outstanding.new nogoods.new result }
+    ensures { let c = course_of starts.now ends.now nets.now compensations.now s in
+        Leads c (λ o. ReadDaily c (Later c j) j here compensation o) (j + 1) n next.old next.new outstanding.old outstanding.new nogoods.new result }
 {
     let short = verdict_steps::is_short(ends[j] - starts[j], nets[j], compensation);
     let after = verdict_steps::after_daily(here, short);
@@ -227,7 +230,8 @@ fn count_in(
 ) -> Went
     requires { let c = course_of starts.now ends.now nets.now compensations.now s in
         Given c j m outstanding.old nogoods.old (j + 1) next.old n × (j < count c) × Before c (j + 1) after × (reduction_of (Weekly standing) ≤ compensation_at_most) × (w < 255) }
-    ensures { let c = course_of starts.now ends.now nets.now compensations.now s in Leads c (λ o. Later c j after (set o j (outstanding_by standing w))) (j + 1) n next.old next.new outstanding.old outstanding.new nogoods.new result }
+    ensures { let c = course_of starts.now ends.now nets.now compensations.now s in
+        Leads c (λ o. Later c j after (set o j (outstanding_by standing w))) (j + 1) n next.old next.new outstanding.old outstanding.new nogoods.new result }
 {
     let reduction = outstanding[m];
     outstanding[m] = verdict_steps::needed(verdict_steps::outstanding_of(standing, w), s);
@@ -271,7 +275,8 @@ fn in_week(
     requires { let c = course_of starts.now ends.now nets.now compensations.now s in Given c j m outstanding.old nogoods.old (j + 1) next.old n × AtRest c j here
         × (standing ≡ standing_for (length_at c j) compensation) × (least_net (Weekly Regular) + compensation ≤ length_at c j)
         × (at starts.now j < week_start (w + 1)) × (week_start w < at ends.now j) }
-    ensures { let c = course_of starts.now ends.now nets.now compensations.now s in Leads c (λ o. Counted c (Later c j) j here w compensation o) (j + 1) n next.old next.new outstanding.old outstanding.new nogoods.new result }
+    ensures { let c = course_of starts.now ends.now nets.now compensations.now s in
+        Leads c (λ o. Counted c (Later c j) j here w compensation o) (j + 1) n next.old next.new outstanding.old outstanding.new nogoods.new result }
 {
     let Brought::To(there) = verdict_steps::advance(starts, ends, j + 1, here, w) else {
         return Went { yes: false, n: n };
@@ -321,7 +326,8 @@ fn weekly(
 ) -> Went
     requires { let c = course_of starts.now ends.now nets.now compensations.now s in Given c j m outstanding.old nogoods.old (j + 1) next.old n × AtRest c j here
         × (standing ≡ standing_for (length_at c j) compensation) × (least_net (Weekly Regular) + compensation ≤ length_at c j) }
-    ensures { let c = course_of starts.now ends.now nets.now compensations.now s in Leads c (λ o. ReadWeekly c (Later c j) j here compensation o) (j + 1) n next.old next.new outstanding.old outstanding.new nogoods.new result }
+    ensures { let c = course_of starts.now ends.now nets.now compensations.now s in
+        Leads c (λ o. ReadWeekly c (Later c j) j here compensation o) (j + 1) n next.old next.new outstanding.old outstanding.new nogoods.new result }
 {
     let end = ends[j];
     let mut w = starts[j] / recording::WEEK_MINUTES;
@@ -375,7 +381,8 @@ fn read_as(
     n: usize,
 ) -> Went
     requires { let c = course_of starts.now ends.now nets.now compensations.now s in Given c j m outstanding.old nogoods.old (j + 1) next.old n × AtRest c j here × TakenAs c j compensation rest.kind }
-    ensures { let c = course_of starts.now ends.now nets.now compensations.now s in Leads c (λ o. ReadAs c (Later c j) j here compensation rest.kind o) (j + 1) n next.old next.new outstanding.old outstanding.new nogoods.new result }
+    ensures { let c = course_of starts.now ends.now nets.now compensations.now s in
+        Leads c (λ o. ReadAs c (Later c j) j here compensation rest.kind o) (j + 1) n next.old next.new outstanding.old outstanding.new nogoods.new result }
 {
     let kind = rest.kind;
     match kind {
@@ -431,7 +438,8 @@ fn choose(
     n: usize,
 ) -> Went
     requires { let c = course_of starts.now ends.now nets.now compensations.now s in Given c j m outstanding.old nogoods.old (j + 1) next.old n × AtRest c j here × (compensation ≤ total_at_most) }
-    ensures { let c = course_of starts.now ends.now nets.now compensations.now s in Leads c (λ o. Reads c (Later c j) j here compensation o) (j + 1) n next.old next.new outstanding.old outstanding.new nogoods.new result }
+    ensures { let c = course_of starts.now ends.now nets.now compensations.now s in
+        Leads c (λ o. Reads c (Later c j) j here compensation o) (j + 1) n next.old next.new outstanding.old outstanding.new nogoods.new result }
 {
     let start = starts[j];
     let end = ends[j];
@@ -516,7 +524,8 @@ pub fn compensate(
     m: usize,
     n: usize,
 ) -> Went
-    requires { let c = course_of starts.now ends.now nets.now compensations.now s in Given c j m outstanding.old nogoods.old (j + 1) next.old n × AtRest c j here × (i ≤ m) × (compensation ≤ total_at_most) }
+    requires { let c = course_of starts.now ends.now nets.now compensations.now s in Given c j m outstanding.old nogoods.old (j + 1) next.old n × AtRest c j here × (i ≤ m)
+        × (compensation ≤ total_at_most) }
     ensures { let c = course_of starts.now ends.now nets.now compensations.now s in Leads c (λ o. Compensates (Reads c (Later c j) j here) (length_at c j) (j - i) i compensation o) (j + 1) n
         next.old next.new outstanding.old outstanding.new nogoods.new result }
 {

@@ -16,7 +16,7 @@ use Rattle.recording.proofs.TestLaws.{less_or_not}
 use Rattle.rules.specs.Verdict.{prefix, first_lawful, breach_minute, article, verdict_by, verdict}
 use Rattle.rules.specs.Operations.{Finding, passed, breached, finding_of}
 use Rattle.rules.specs.Spans.{weeks_begun, is_breach, breaching, breach_spans}
-use Rattle.rules.proofs.Breach.{HasLawful, Breach, first_fields_lem, found_fields, first_none, prefix_lawful, shorter_lawful, breach_is, breach_after}
+use Rattle.rules.proofs.Breach.{HasLawful, Breach, first_fields_law, found_fields, first_none, prefix_lawful, shorter_lawful, breach_is, breach_after}
 use Rattle.verdict_spans.specs.Mondays.{last_week, Sound, last_from, spans_back}
 use Rattle.rules.proofs.Spans.{span, lawful_passes, none_breaches, span_is}
 use Rattle.verdict_spans.proofs.SpanLaws.{back_is}
@@ -32,7 +32,7 @@ found ms = at (first_lawful ms) refl
   where
     at : (o : Option (List ℕ)) → first_lawful ms ≡ o → Found ms (finding_of (verdict_by o (breach_minute ms) (article (prefix (breach_minute ms) ms))))
     at none e = unlawful (first_none ms e)
-    at (some r) e = let (f, q, b) = found_fields ms e in lawful (f, (first_fields_lem ms q).sound)
+    at (some r) e = let (f, q, b) = found_fields ms e in lawful (f, (first_fields_law ms q).sound)
 
 -- a breach has a minute of the recording
 pub sound_from : (ms : List ℕ) → length ms ≤ total_at_most → Sound (answered (finding_of (verdict ms)))
@@ -77,11 +77,11 @@ module _ (ms : List ℕ) where
             none_breaches (prefix stretch from) (λ w. k.none_there (shorter_lawful from (breach_minute from) stretch g w))
             ∙ sym (le-leb (a + week_of (breach_minute from - 1)) b (omega (arith, p.1)))
 
-    breaks_by_lem : breaching ms (span a b) ≡ leb (last_from ms a) b
+    breaks_by_law : breaching ms (span a b) ≡ leb (last_from ms a) b
     unfolding breaching
-    breaks_by_lem = ap (λ (l : List ℕ). is_breach (verdict l)) (span_is ms (span a b) h) ∙ by_week (found from)
+    breaks_by_law = ap (λ (l : List ℕ). is_breach (verdict l)) (span_is ms (span a b) h) ∙ by_week (found from)
 
   -- THE LAW: the walk comes to the document's spans
-  pub spans_back_lem : breach_spans ms ≡ spans_back weeks (last_from ms) 0 weeks
+  pub spans_back_law : breach_spans ms ≡ spans_back weeks (last_from ms) 0 weeks
   unfolding breach_spans
-  spans_back_lem = back_is weeks (last_from ms) (breaching ms) own breaks_by_lem
+  spans_back_law = back_is weeks (last_from ms) (breaching ms) own breaks_by_law

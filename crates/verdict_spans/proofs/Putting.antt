@@ -29,7 +29,7 @@ use Rattle.verdict_spans.specs.declared.Seat.{Seat}
 use Rattle.verdict_spans.specs.declared.Spans.{Spans}
 use Rattle.verdict_spans.specs.declared.Found.{Found}
 use Rattle.rules.proofs.Spans.{span}
-use Rattle.verdict_spans.proofs.FromMondays.{sound_from, spans_back_lem}
+use Rattle.verdict_spans.proofs.FromMondays.{sound_from, spans_back_law}
 use Rattle.verdict_spans.proofs.Seats.{seat_end, seat_before}
 
 -- ---- the walk goes no further than the weeks
@@ -47,7 +47,7 @@ back_length weeks last_of first (suc n) = at (ltb (last_of first) (nearest weeks
 pub spans_few : (ms : List ℕ) → length ms ≤ total_at_most → length (breach_spans ms) ≤ weeks_at_most
 spans_few ms h =
     let all : ℕ = weeks_begun (length ms) in
-    omega (arith, ap length (spans_back_lem ms), back_length all (last_from ms) 0 all)
+    omega (arith, ap length (spans_back_law ms), back_length all (last_from ms) 0 all)
 
 weeks_few : (total : ℕ) → total ≤ total_at_most → weeks_begun total ≤ weeks_at_most
 weeks_few total h = omega arith
@@ -171,7 +171,7 @@ put_done {words} {firsts} {lasts} {at = at} k e =
     let all : ℕ = weeks_begun (length (minutes_of words)) in
     let z : k.left ≡ all = omega (arith, k.weeks) in
     let q : spans_back all (last_from (minutes_of words)) _ k.left ≡ breach_spans (minutes_of words) =
-    (λ i. spans_back all (last_from (minutes_of words)) (e i) (z i)) ∙ sym (spans_back_lem (minutes_of words)) in
+    (λ i. spans_back all (last_from (minutes_of words)) (e i) (z i)) ∙ sym (spans_back_law (minutes_of words)) in
     record { firsts_there = k.firsts_there; lasts_there = k.lasts_there; count = omega (arith, k.count, ap length q); listed = k.listed ∙ q }
 
 -- ---- the spans in front of two arrays

@@ -10,7 +10,7 @@ use native.Mathlib.Omega.{arith}
 use lib.Dec.{leb, ltb, eqb}
 use borrow.Author.Tests.{leb-true, le-leb, ltb-true, ltb-false, lt-ltb, eq-eqb, ne_eqb, eqb-true}
 use Rattle.recording.specs.Tests.{◌and◌, pick, any_of, keep}
-use Rattle.recording.proofs.TestLaws.{and_left, and_right, and_both, clash, is_false, same_test, less_or_not, any_of_lem, of_any, keep_append, and-false, Witness}
+use Rattle.recording.proofs.TestLaws.{and_left, and_right, and_both, clash, is_false, same_test, less_or_not, any_of_law, of_any, keep_append, and-false, Witness}
 use Rattle.rules.specs.Spans.{spans_beginning, spans_from, shorter_inside, least_breach}
 use Rattle.rules.specs.declared.Weeks.{Weeks}
 use Rattle.rules.proofs.Spans.{span, from_in, Within, of_from, Inside, inside_is, is_inside}
@@ -96,8 +96,8 @@ module _ (weeks : ℕ) (last_of : ℕ → ℕ) (breaks : Weeks → Bool) (own : 
     abbrev holds : Weeks → Bool
     holds t = shorter_inside (span a b) t and breaks t
 
-    broken_by_lem : (t : Weeks) → In t (spans_from 0 weeks) → Inside (span a b) t → breaks t ≡ true → any_of holds (spans_from 0 weeks) ≡ true
-    broken_by_lem t i k w = any_of_lem holds i (and_both _ _ (is_inside (span a b) t k) w)
+    broken_by_law : (t : Weeks) → In t (spans_from 0 weeks) → Inside (span a b) t → breaks t ≡ true → any_of holds (spans_from 0 weeks) ≡ true
+    broken_by_law t i k w = any_of_law holds i (and_both _ _ (is_inside (span a b) t k) w)
 
     to_end : least (span a b) ≡ true → (eqb b (last_of a) and ltb (last_of a) (near (suc a) n)) ≡ true
     unfolding least_breach
@@ -111,7 +111,7 @@ module _ (weeks : ℕ) (last_of : ℕ → ℕ) (breaks : Weeks → Bool) (own : 
 
         sooner : last_of a < b → ⊥
         sooner g =
-            none (broken_by_lem (span a (last_of a)) (from_in a (last_of a) 0 weeks (omega arith) (own a (omega arith)) (omega arith))
+            none (broken_by_law (span a (last_of a)) (from_in a (last_of a) 0 weeks (omega arith) (own a (omega arith)) (omega arith))
             (record { after = le_refl _; before = reached; shorter = omega (arith, own a (omega arith)) })
             (by a (last_of a) (own a (omega arith)) (omega arith) ∙ le-leb (last_of a) (last_of a) (le_refl _)))
 
@@ -125,7 +125,7 @@ module _ (weeks : ℕ) (last_of : ℕ → ℕ) (breaks : Weeks → Bool) (own : 
         held : near (suc a) n ≤ last_of a → (near (suc a) n ≡ weeks) ⊎ Near (suc a) (near (suc a) n) → ⊥
         held g (inl q) = omega (arith, reached, q)
         held g (inr q) =
-            none (broken_by_lem (span q.week (last_of q.week)) (from_in q.week (last_of q.week) 0 weeks (omega arith) (own q.week q.to) (omega (arith, q.is, reached)))
+            none (broken_by_law (span q.week (last_of q.week)) (from_in q.week (last_of q.week) 0 weeks (omega arith) (own q.week q.to) (omega (arith, q.is, reached)))
             (record {
               after = omega (arith, q.from);
               before = omega (arith, q.is, reached);

@@ -351,7 +351,7 @@ fn answer_of(found: Found) -> Filling
 // The spans that are a breach while no shorter span inside them is one, into a lent list, one record each: refusals 1 and 2, then 14 where the list has
 // too few.
 pub fn breach_spans(words: &[u32], list: &mut [Weeks]) -> Filling
-    ensures result_value { written result ≡ counted (spans_given words.now (length list.old)) }
+    ensures answer { written result ≡ counted (spans_given words.now (length list.old)) }
     ensures list_after { list.new ≡ filled (spans_given words.now (length list.old)) list.old }
 {
     let mut found = spans_of(words, list.len());

@@ -101,7 +101,7 @@ module _ (starts ends : List ℕ) (w : ℕ) where
     -- a week after that in which the rest before j starts, and not after that in which j starts
     module _
         (j : ℕ)
-        (in_range_lem : j ≤ length starts)
+        (in_range_law : j ≤ length starts)
         (after : 0 < j → week_of (at starts (j - 1)) < w)
         (upto : j < length starts → w ≤ week_of (at starts j))
       where

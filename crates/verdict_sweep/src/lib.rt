@@ -38,7 +38,8 @@ fn visit(
 ) -> Went
     requires { let c = course_of starts.now ends.now nets.now compensations.now s in Sized c outstanding.old × Sound c nogoods.old × (j < count c) × (entry_at (e + 1) ≤ length front.now)
         × Well c j front.now (entry_at e) × Front c (j + 1) next.old n }
-    ensures { let c = course_of starts.now ends.now nets.now compensations.now s in Leads c (λ o. Can c j front.now (entry_at e)) (j + 1) n next.old next.new outstanding.new outstanding.new nogoods.new result }
+    ensures { let c = course_of starts.now ends.now nets.now compensations.now s in
+        Leads c (λ o. Can c j front.now (entry_at e)) (j + 1) n next.old next.new outstanding.new outstanding.new nogoods.new result }
 {
     let p = verdict_nogoods::ENTRY_WORDS * e;
     verdict_fronts::outstanding_in(front, p, outstanding);
@@ -434,7 +435,8 @@ pub fn possible(
     other: &mut [u32],
 ) -> Swept
     requires { let c = course_of starts.now ends.now nets.now compensations.now s in Lent c outstanding.old }
-    ensures { let c = course_of starts.now ends.now nets.now compensations.now s in Finds c (Completable c (count c) 0 (start_state (rest_week c 0)) outstanding.old) result.yes outstanding.old outstanding.new nogoods.new }
+    ensures { let c = course_of starts.now ends.now nets.now compensations.now s in
+        Finds c (Completable c (count c) 0 (start_state (rest_week c 0)) outstanding.old) result.yes outstanding.old outstanding.new nogoods.new }
 {
     let rest = rules_items::rest_week(starts, ends, starts.len(), 0);
     completes(

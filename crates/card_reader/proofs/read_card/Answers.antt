@@ -5,7 +5,7 @@ use Rattle.card_reader.proofs.read_card.Goals as goal
 
 pub returns-then-refusal-ne0 : goal.returns-then-refusal-ne0
 returns-then-refusal-ne0 c = let k = turned_away c.args.bytes.now c.args.words.now c.judge-found.ensures c.refusal_for-refusal.ensures c.put_words_if.ensures c.if-refusal-ne0.true in
-    record { result_value = k.answer; words_after = k.content }
+    record { answer = k.answer; words_after = k.content }
 
 pub overflow_cast-result : goal.overflow_cast-result
 overflow_cast-result c = let k = taken_there c.args.bytes.now c.args.words.now c.judge-found.ensures c.refusal_for-refusal.ensures c.put_words_if.ensures c.if-refusal-ne0.false in
@@ -13,4 +13,4 @@ overflow_cast-result c = let k = taken_there c.args.bytes.now c.args.words.now c
 
 pub returns : goal.returns
 returns c = let k = all_read c.args.bytes.now c.args.words.now c.judge-found.ensures c.refusal_for-refusal.ensures c.put_words_if.ensures c.if-refusal-ne0.false in
-    record { result_value = k.answer; words_after = k.content }
+    record { answer = k.answer; words_after = k.content }

@@ -1,6 +1,5 @@
 -- `desk_report::begin_pass` meets its contract. Assumes nothing.
 use Rattle.text.proofs.Puts.{put_then}
-use borrow.Author.Rules.{rules}
 use Rattle.desk_report.proofs.begin_pass.Goals as goal
 
 pub returns : goal.returns

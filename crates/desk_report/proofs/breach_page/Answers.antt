@@ -1,7 +1,6 @@
 -- `desk_report::breach_page` meets its contract. Assumes nothing.
 use Rattle.text.proofs.Puts.{put_then}
 use Rattle.desk_report.proofs.Pages.{breach_whole}
-use borrow.Author.Rules.{rules}
 use Rattle.desk_report.proofs.breach_page.Goals as goal
 
 pub returns : goal.returns

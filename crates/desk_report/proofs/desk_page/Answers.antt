@@ -4,12 +4,12 @@ use lib.ListN.{length}
 use Rattle.text_lines.specs.Reading.{text_read}
 use Rattle.desk_report.specs.Composing.{text_words}
 use Rattle.desk_report.proofs.Answered.{blank, within_words, desk_read}
-use borrow.Author.Rules.{rules}
 use Rattle.desk_report.proofs.desk_page.Goals as goal
 
 pub read_page-requires : goal.read_page-requires
-read_page-requires c = within_words (text_read c.args.text.now (length (blank text_words))) text_words c.read_text-answer.result c.read_text-answer.ensures.result_value c.read_text-answer.ensures.words_after
+read_page-requires c = within_words (text_read c.args.text.now (length (blank text_words))) text_words c.read_text-answer.result c.read_text-answer.ensures.answer
+    c.read_text-answer.ensures.words_after
 
 pub returns : goal.returns
 returns c = let told = c.read_text-answer.ensures in
-    rw (desk_read c.args.text.now text_words c.requires (omega arith) c.read_text-answer.result told.result_value told.words_after c.args.spans) c.read_page.ensures
+    rw (desk_read c.args.text.now text_words c.requires (omega arith) c.read_text-answer.result told.answer told.words_after c.args.spans) c.read_page.ensures

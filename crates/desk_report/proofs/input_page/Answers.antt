@@ -1,6 +1,5 @@
 -- `desk_report::input_page` meets its contract. Assumes nothing.
 use Rattle.desk_report.proofs.Answered.{input_over}
-use borrow.Author.Rules.{rules}
 use native.Mathlib.Omega.{arith}
 use Rattle.desk_report.proofs.input_page.Goals as goal
 

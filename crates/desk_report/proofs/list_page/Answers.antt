@@ -5,7 +5,6 @@ use Rattle.recording_list.proofs.Stored.{first_length}
 use Rattle.verdict_spans.specs.Found.{weeks_in}
 use Rattle.text.proofs.Puts.{put_then}
 use Rattle.desk_report.proofs.SpanLines.{lines_short}
-use borrow.Author.Rules.{rules}
 use Rattle.desk_report.proofs.list_page.Goals as goal
 
 pub put_all-requires : goal.put_all-requires

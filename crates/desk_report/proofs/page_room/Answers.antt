@@ -1,6 +1,5 @@
 -- `desk_report::page_room` meets its contract. Assumes nothing.
 use Rattle.desk_report.proofs.Answered.{input_size, verdict_room, spans_room}
-use borrow.Author.Rules.{rules}
 use Rattle.desk_report.proofs.page_room.Goals as goal
 
 pub returns-then-spans : goal.returns-then-spans

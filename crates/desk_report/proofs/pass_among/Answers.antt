@@ -1,6 +1,5 @@
 -- `desk_report::pass_among` meets its contract. Assumes nothing.
 use Rattle.desk_report.proofs.Pages.{starts_size, ends_size, starts_fit, ends_fit, readable, closing_room, pass_whole}
-use borrow.Author.Rules.{rules}
 use Rattle.desk_report.proofs.pass_among.Goals as goal
 
 pub slice_bounds-put_rests-end : goal.slice_bounds-put_rests-end

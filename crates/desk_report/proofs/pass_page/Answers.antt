@@ -2,7 +2,6 @@
 use native.Mathlib.Omega.{arith}
 use Rattle.recording.specs.Scan.{short_rests}
 use Rattle.desk_report.proofs.Answered.{places_few, places_all}
-use borrow.Author.Rules.{rules}
 use Rattle.desk_report.proofs.pass_page.Goals as goal
 
 pub pass_among-requires : goal.pass_among-requires

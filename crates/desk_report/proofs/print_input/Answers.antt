@@ -2,7 +2,6 @@
 use native.Mathlib.Omega.{arith}
 use mathlib.Core.Path.{refl}
 use Rattle.desk_report.proofs.Answered.{input_size, in_place}
-use borrow.Author.Rules.{rules}
 use Rattle.desk_report.proofs.print_input.Goals as goal
 
 pub overflow_cast-result : goal.overflow_cast-result
@@ -10,4 +9,4 @@ overflow_cast-result c = omega (arith, c.input_page-n.ensures.next_is, input_siz
 
 pub returns : goal.returns
 returns c = let fits = c.page_room-enough.ensures c.args.input.now refl in
-    let k = in_place _ c.args.out.now (omega (arith, fits)) c.input_page-n.ensures in record { result_value = k.answer; out_after = k.content }
+    let k = in_place _ c.args.out.now (omega (arith, fits)) c.input_page-n.ensures in record { answer = k.answer; out_after = k.content }

@@ -1,9 +1,7 @@
 -- `desk_report::put_rests` meets its contract. The invariant: the lines that are left, put from here on, make what all of them make. Assumes nothing.
-use native.Mathlib.Omega.{arith}
 use Prim.Native.Nat.{◌-◌}
 use lib.ListN.{length}
-use Rattle.desk_report.proofs.RestLines.{Going, going_first, going_on, going_done, going_length}
-use borrow.Author.Rules.{rules}
+use Rattle.desk_report.proofs.RestLines.{Going}
 use Rattle.desk_report.proofs.put_rests.Given as goal
 
 abbrev pub invariant-loop-i : goal.invariant-loop-i

@@ -3,7 +3,6 @@ use native.Mathlib.Omega.{arith}
 use lib.ListN.{length-take}
 use Rattle.desk_report.specs.Composing.{read_text}
 use Rattle.desk_report.proofs.Answered.{front_within}
-use borrow.Author.Rules.{rules}
 use Rattle.desk_report.proofs.read_page.Goals as goal
 
 pub slice_bounds-words_page-end : goal.slice_bounds-words_page-end

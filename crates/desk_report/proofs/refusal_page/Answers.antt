@@ -1,6 +1,5 @@
 -- `desk_report::refusal_page` meets its contract. Assumes nothing.
 use Rattle.text.proofs.Puts.{put_then}
-use borrow.Author.Rules.{rules}
 use Rattle.desk_report.proofs.refusal_page.Goals as goal
 
 pub returns : goal.returns

@@ -1,6 +1,5 @@
 -- `desk_report::rests_in` meets its contract. Assumes nothing.
 use native.Mathlib.Omega.{arith}
-use borrow.Author.Rules.{rules}
 use Rattle.desk_report.proofs.rests_in.Goals as goal
 
 pub returns-then-card : goal.returns-then-card

@@ -1,6 +1,5 @@
 -- `desk_report::spans_page` meets its contract. Assumes nothing.
 use Rattle.desk_report.proofs.SpanLines.{page_refused, page_listed}
-use borrow.Author.Rules.{rules}
 use Rattle.desk_report.proofs.spans_page.Goals as goal
 
 pub list_page-requires : goal.list_page-requires

@@ -4,7 +4,6 @@ use mathlib.Core.Path.{sym, ap, ◌∙◌}
 use Rattle.verdict_judging.specs.Judgements.{finding_by}
 use Rattle.desk_report.specs.Composing.{reading_room}
 use Rattle.desk_report.proofs.Answered.{breached_text, refused_text}
-use borrow.Author.Rules.{rules}
 use Rattle.desk_report.proofs.unread_page.Goals as goal
 
 pub breach_page-requires : goal.breach_page-requires

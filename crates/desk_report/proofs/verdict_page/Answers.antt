@@ -2,7 +2,6 @@
 use native.Mathlib.Omega.{arith}
 use Rattle.recording.specs.Scan.{short_rests}
 use Rattle.desk_report.proofs.Answered.{fits_few, fits_all}
-use borrow.Author.Rules.{rules}
 use Rattle.desk_report.proofs.verdict_page.Goals as goal
 
 pub verdict_among-requires : goal.verdict_among-requires

@@ -1,5 +1,4 @@
 -- `desk_report::words_page` meets its contract. Assumes nothing.
-use borrow.Author.Rules.{rules}
 use Rattle.desk_report.proofs.words_page.Goals as goal
 
 pub returns-then-spans : goal.returns-then-spans

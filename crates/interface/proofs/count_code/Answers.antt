@@ -1,6 +1,5 @@
 -- `interface::count_code` meets its contract. Assumes nothing.
 use mathlib.Core.Path.{sym, ap}
-use borrow.Author.Rules.{rules}
 use Rattle.recording.specs.Operations.{written}
 use Rattle.interface.specs.Codes.{code_of, itself}
 use Rattle.interface.proofs.count_code.Goals as goal

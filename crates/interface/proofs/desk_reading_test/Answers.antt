@@ -1,6 +1,5 @@
 -- `interface::desk_reading_test` meets its contract. Assumes nothing.
 use mathlib.Core.Path.{ap, ◌∙◌}
-use borrow.Author.Rules.{rules}
 use Rattle.interface.specs.Codes.{code_of, itself}
 use Rattle.interface.proofs.desk_reading_test.Goals as goal
 

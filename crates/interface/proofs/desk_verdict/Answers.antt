@@ -1,6 +1,5 @@
 -- `interface::desk_verdict` meets its contract. Assumes nothing.
 use mathlib.Core.Path.{ap, ◌∙◌}
-use borrow.Author.Rules.{rules}
 use Rattle.interface.specs.Codes.{code_of, finding_value}
 use Rattle.interface.proofs.desk_verdict.Goals as goal
 

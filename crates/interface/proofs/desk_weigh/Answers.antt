@@ -1,7 +1,6 @@
 -- `interface::desk_weigh` meets its contract. Assumes nothing.
 use mathlib.Core.Path.{sym, ap}
 use native.Mathlib.Omega.{arith}
-use borrow.Author.Rules.{rules}
 use Rattle.recording.proofs.Listing.{refused_there, measured_there}
 use Rattle.interface.specs.Codes.{code_of, measure_value}
 use Rattle.interface.proofs.CodeLaws.{count_few}

@@ -1,7 +1,6 @@
 -- `interface::moved_code` meets its contract. Assumes nothing.
 use mathlib.Core.Path.{sym, ap}
 use native.Mathlib.Omega.{arith}
-use borrow.Author.Rules.{rules}
 use Rattle.rules_moves.specs.Moved.{moved}
 use Rattle.interface.specs.Codes.{code_of, itself}
 use Rattle.interface.proofs.moved_code.Goals as goal

@@ -1,6 +1,5 @@
 -- `interface::rule_code` meets its contract. Assumes nothing.
 use mathlib.Core.Path.{sym, ap}
-use borrow.Author.Rules.{rules}
 use Rattle.rules_fixed.specs.Tested.{tested}
 use Rattle.interface.specs.Codes.{code_of, itself}
 use Rattle.interface.proofs.rule_code.Goals as goal

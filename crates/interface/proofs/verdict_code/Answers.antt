@@ -1,6 +1,5 @@
 -- `interface::verdict_code` meets its contract. Assumes nothing.
 use mathlib.Core.Path.{sym, ap}
-use borrow.Author.Rules.{rules}
 use Rattle.verdict_judging.specs.Judgements.{finding_by}
 use Rattle.interface.specs.Codes.{code_of, finding_value}
 use Rattle.interface.proofs.verdict_code.Goals as goal

@@ -1,8 +1,6 @@
 -- `rules_account::next_part` meets its contract. Assumes nothing.
 use mathlib.Core.Path.{sym, ◌∙◌}
 use native.Mathlib.Omega.{arith}
-use borrow.Author.Rules.{rules}
-use Prim.Native.Nat.{◌+◌, ◌-◌, ◌<◌, ◌≤◌}
 use Rattle.rules_limits.proofs.PartRight.{part_ran, minute_ran}
 use Rattle.rules_account.proofs.next_part.Goals as goal
 

@@ -1,6 +1,5 @@
 -- `rules_account::opening_account` meets its contract. Assumes nothing.
 use mathlib.Core.Path.{refl}
-use borrow.Author.Rules.{rules}
 use Rattle.rules_account.proofs.opening_account.Goals as goal
 
 pub returns : goal.returns

@@ -1,6 +1,5 @@
 -- `rules_account::part_after` meets its contract. Assumes nothing.
 use native.Mathlib.Omega.{arith}
-use borrow.Author.Rules.{rules}
 use borrow.Author.Tests.{ne_eqb}
 use Prim.Native.Nat.{◌-◌}
 use Rattle.rules_limits.specs.Parts.{rest_part, busy_part, part_after}

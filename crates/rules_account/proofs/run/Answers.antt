@@ -1,11 +1,7 @@
 -- `rules_account::run` meets its contract. Assumes nothing.
 use mathlib.Core.Path.{refl}
 use native.Mathlib.Omega.{arith}
-use borrow.Author.Rules.{rules}
-use Prim.Native.Nat.{◌+◌}
-use lib.ListN.{replicate}
-use Rattle.rules_limits.specs.Account.{account_from}
-use Rattle.rules_account.proofs.Running.{Running, run_on, run_done}
+use Rattle.rules_account.proofs.Running.{run_on, run_done}
 use Rattle.rules_account.proofs.run.Goals as goal
 
 pub loop-left-init : goal.loop-left-init

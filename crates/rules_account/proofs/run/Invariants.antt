@@ -1,11 +1,8 @@
 -- `rules_account::run` meets its contract. Assumes nothing.
-use mathlib.Core.Path.{refl}
-use native.Mathlib.Omega.{arith}
-use borrow.Author.Rules.{rules}
 use Prim.Native.Nat.{◌+◌}
 use lib.ListN.{replicate}
 use Rattle.rules_limits.specs.Account.{account_from}
-use Rattle.rules_account.proofs.Running.{Running, run_on, run_done}
+use Rattle.rules_account.proofs.Running.{Running}
 use Rattle.rules_account.proofs.run.Given as goal
 
 abbrev pub invariant-loop-left : goal.invariant-loop-left

@@ -1,5 +1,4 @@
 -- `rules_account::same_breaches` meets its contract. Assumes nothing.
-use borrow.Author.Rules.{rules}
 use Rattle.recording.proofs.TestLaws.{and_is}
 use Rattle.rules_limits.specs.Parts.{same_breaches}
 use Rattle.rules_account.proofs.same_breaches.Goals as goal

@@ -2,7 +2,6 @@
 use mathlib.Core.Path.{◌≡◌, refl}
 use mathlib.Core.List.{List}
 use native.Mathlib.Omega.{arith}
-use borrow.Author.Rules.{rules}
 use borrow.Author.Tests.{eq-eqb, ne_eqb, le-ltb, lt-ltb}
 use Rattle.recording.specs.Tests.{◌or◌}
 use Rattle.rules.specs.Operations.{entry_at}
@@ -17,17 +16,17 @@ entry_from reading at = let z : at + entry_bytes - at ≡ entry_bytes = omega ar
 
 pub returns-then-reading-ne0 : goal.returns-then-reading-ne0
 unfolding entry_at ◌or◌
-returns-then-reading-ne0 c = simp (ne_eqb _ _ c.if-reading-ne0.true) record { entry_in_reading = tt; result_value = refl }
+returns-then-reading-ne0 c = simp (ne_eqb _ _ c.if-reading-ne0.true) record { entry_in_reading = tt; answer = refl }
 
 pub returns-then-number-eq0 : goal.returns-then-number-eq0
 unfolding entry_at ◌or◌
-returns-then-number-eq0 c = simp (eq-eqb _ _ c.if-reading-ne0.false, eq-eqb _ _ c.if-number-eq0.true) record { entry_in_reading = tt; result_value = refl }
+returns-then-number-eq0 c = simp (eq-eqb _ _ c.if-reading-ne0.false, eq-eqb _ _ c.if-number-eq0.true) record { entry_in_reading = tt; answer = refl }
 
 pub returns-then-reading-number : goal.returns-then-reading-number
 unfolding entry_at ◌or◌
-returns-then-reading-number c = simp (eq-eqb _ _ c.if-reading-ne0.false, ne_eqb _ _ c.if-number-eq0.false, lt-ltb _ _ c.if-reading-number.true) record { entry_in_reading = tt; result_value = refl }
+returns-then-reading-number c = simp (eq-eqb _ _ c.if-reading-ne0.false, ne_eqb _ _ c.if-number-eq0.false, lt-ltb _ _ c.if-reading-number.true) record { entry_in_reading = tt; answer = refl }
 
 pub returns : goal.returns
 unfolding entry_at ◌or◌
 returns c = simp (eq-eqb _ _ c.if-reading-ne0.false, ne_eqb _ _ c.if-number-eq0.false, le-ltb _ _ c.if-reading-number.false)
-    record { entry_in_reading = (refl, omega arith); result_value = entry_from _ (entry_bytes * (c.args.number - 1)) }
+    record { entry_in_reading = (refl, omega arith); answer = entry_from _ (entry_bytes * (c.args.number - 1)) }

@@ -1,5 +1,4 @@
 -- `rules_entries::put_entry` meets its contract. Assumes nothing.
-use borrow.Author.Rules.{rules}
 use native.Mathlib.Omega.{arith}
 use lib.ListN.{length-set}
 use Rattle.rules_entries.proofs.put_entry.Goals as goal

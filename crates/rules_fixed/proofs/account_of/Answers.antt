@@ -1,11 +1,7 @@
 -- `rules_fixed::account_of` meets its contract. Assumes nothing.
-use mathlib.Core.Path.{◌≡◌, refl}
-use mathlib.Core.List.{◌∷◌}
-use Prim.Native.Nat.{◌-◌, ◌≤◌}
+use mathlib.Core.Path.{refl}
 use native.Mathlib.Omega.{arith}
-use lib.ListN.{length, get_or}
-use Rattle.rules_fixed.proofs.Surveying.{Walking, start_walking, word_room, word_on, word_after, walk_done}
-use borrow.Author.Rules.{rules}
+use Rattle.rules_fixed.proofs.Surveying.{start_walking, word_room, word_on, word_after, walk_done}
 use Rattle.rules_fixed.proofs.account_of.Goals as goal
 
 pub walk-init : goal.walk-init

@@ -1,11 +1,9 @@
 -- `rules_fixed::account_of` meets its contract. Assumes nothing.
-use mathlib.Core.Path.{◌≡◌, refl}
+use mathlib.Core.Path.{◌≡◌}
 use mathlib.Core.List.{◌∷◌}
 use Prim.Native.Nat.{◌-◌, ◌≤◌}
-use native.Mathlib.Omega.{arith}
 use lib.ListN.{length, get_or}
-use Rattle.rules_fixed.proofs.Surveying.{Walking, start_walking, word_room, word_on, word_after, walk_done}
-use borrow.Author.Rules.{rules}
+use Rattle.rules_fixed.proofs.Surveying.{Walking}
 use Rattle.rules_fixed.proofs.account_of.Given as goal
 
 abbrev pub invariant-walk : goal.invariant-walk

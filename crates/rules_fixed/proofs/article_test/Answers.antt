@@ -1,6 +1,5 @@
 -- `rules_fixed::article_test` meets its contract. Assumes nothing.
 use native.Mathlib.Omega.{arith}
-use borrow.Author.Rules.{rules}
 use Rattle.recording.specs.Words.{minutes_of}
 use Rattle.rules.specs.Fixed.{first_article}
 use Rattle.rules.specs.Operations.{article_tested}

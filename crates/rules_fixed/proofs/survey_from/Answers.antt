@@ -2,7 +2,6 @@
 use mathlib.Core.Path.{ap, ◌∙◌}
 use Rattle.rules_limits.specs.Account.{account_from, opening}
 use Rattle.rules_fixed.proofs.Surveying.{all_there}
-use borrow.Author.Rules.{rules}
 use Rattle.rules_fixed.proofs.survey_from.Goals as goal
 
 pub returns : goal.returns

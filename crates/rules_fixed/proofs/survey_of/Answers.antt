@@ -1,7 +1,6 @@
 -- `rules_fixed::survey_of` meets its contract. Assumes nothing.
 use Rattle.recording.specs.Words.{minutes_of}
 use Rattle.rules_fixed.proofs.Surveying.{surveyed_alone}
-use borrow.Author.Rules.{rules}
 use Rattle.rules_fixed.proofs.survey_of.Goals as goal
 
 pub survey_from-requires : goal.survey_from-requires

@@ -1,5 +1,4 @@
 -- `rules_items::as_read` meets its contract. Assumes nothing.
-use borrow.Author.Rules.{rules}
 use borrow.Author.Tests.{eq-eqb, ne_eqb}
 use Rattle.rules.specs.Reading.{as_read}
 use Rattle.rules_items.proofs.as_read.Goals as goal

@@ -1,7 +1,6 @@
 -- `rules_items::compensate` meets its contract. Assumes nothing.
 use mathlib.Core.Path.{sym}
 use native.Mathlib.Omega.{arith}
-use borrow.Author.Rules.{rules}
 use Prim.Native.Nat.{◌-◌}
 use Rattle.rules_items.proofs.ItemLaws.{added_to-suc}
 use lib.Seq.{set_out}

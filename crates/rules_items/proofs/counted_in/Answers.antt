@@ -1,5 +1,4 @@
 -- `rules_items::counted_in` meets its contract. Assumes nothing.
-use borrow.Author.Rules.{rules}
 use Rattle.rules_items.proofs.counted_in.Goals as goal
 
 pub returns-then-rest : goal.returns-then-rest

@@ -1,5 +1,4 @@
 -- `rules_items::end_before` meets its contract. Assumes nothing.
-use borrow.Author.Rules.{rules}
 use Rattle.rules_items.proofs.ItemLaws.{end_before_suc}
 use Rattle.rules_items.proofs.end_before.Goals as goal
 

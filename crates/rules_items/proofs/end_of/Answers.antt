@@ -1,6 +1,5 @@
 -- `rules_items::end_of` meets its contract. Assumes nothing.
 use mathlib.Core.Path.{refl}
-use borrow.Author.Rules.{rules}
 use borrow.Author.Tests.{le-ltb, lt-ltb}
 use Rattle.rules_items.proofs.ItemLaws.{end_at_suc}
 use Rattle.rules_items.proofs.end_of.Goals as goal

@@ -1,6 +1,5 @@
 -- `rules_items::enough_in` meets its contract. Assumes nothing.
 use native.Mathlib.Omega.{arith}
-use borrow.Author.Rules.{rules}
 use Prim.Native.Nat.{◌+◌}
 use lib.ListN.{get_or}
 use Rattle.rules_items.specs.Items.{compensation_at_most}

@@ -1,7 +1,6 @@
 -- `rules_items::formed_item` meets its contract. Assumes nothing.
 use mathlib.Core.Path.{sym}
 use native.Mathlib.Omega.{arith}
-use borrow.Author.Rules.{rules}
 use borrow.Author.Tests.{eq-eqb, ne_eqb, le-leb, lt-leb, le-ltb, lt-ltb}
 use Rattle.recording.specs.Tests.{◌and◌, ◌or◌}
 use Rattle.recording.specs.Weeks.{touches}

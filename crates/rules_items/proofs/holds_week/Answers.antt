@@ -1,5 +1,4 @@
 -- `rules_items::holds_week` meets its contract. Assumes nothing.
-use borrow.Author.Rules.{rules}
 use borrow.Author.Tests.{le-leb, lt-leb}
 use Rattle.recording.specs.Tests.{◌and◌}
 use Rattle.recording.specs.Weeks.{inside}

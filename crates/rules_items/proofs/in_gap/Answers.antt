@@ -1,5 +1,4 @@
 -- `rules_items::in_gap` meets its contract. Assumes nothing.
-use borrow.Author.Rules.{rules}
 use Rattle.recording.specs.Tests.{◌or◌}
 use Rattle.rules_items.proofs.in_gap.Goals as goal
 

@@ -1,5 +1,4 @@
 -- `rules_items::in_time` meets its contract. Assumes nothing.
-use borrow.Author.Rules.{rules}
 use borrow.Author.Tests.{eq-eqb, ne_eqb}
 use Rattle.rules_items.proofs.in_time.Goals as goal
 

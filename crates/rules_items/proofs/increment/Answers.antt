@@ -1,7 +1,6 @@
 -- `rules_items::increment` meets its contract. Assumes nothing.
 use mathlib.Core.Path.{sym}
 use native.Mathlib.Omega.{arith}
-use borrow.Author.Rules.{rules}
 use lib.Seq.{set_out}
 use Rattle.rules_items.proofs.increment.Goals as goal
 

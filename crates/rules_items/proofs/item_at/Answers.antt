@@ -1,5 +1,4 @@
 -- `rules_items::item_at` meets its contract. Assumes nothing.
-use borrow.Author.Rules.{rules}
 use Rattle.rules_items.proofs.item_at.Goals as goal
 
 pub returns : goal.returns

@@ -1,5 +1,4 @@
 -- `rules_items::long_enough` meets its contract. Assumes nothing.
-use borrow.Author.Rules.{rules}
 use Rattle.rules_items.proofs.long_enough.Goals as goal
 
 pub returns-in-Daily : goal.returns-in-Daily

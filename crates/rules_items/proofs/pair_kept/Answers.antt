@@ -1,5 +1,4 @@
 -- `rules_items::pair_kept` meets its contract. Assumes nothing.
-use borrow.Author.Rules.{rules}
 use borrow.Author.Tests.{le-leb, lt-leb}
 use Rattle.recording.specs.Tests.{◌or◌}
 use Rattle.rules_items.proofs.pair_kept.Goals as goal

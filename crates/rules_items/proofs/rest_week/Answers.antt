@@ -1,9 +1,7 @@
 -- `rules_items::rest_week` meets its contract. Assumes nothing.
 use mathlib.Core.Path.{sym, ◌∙◌}
 use native.Mathlib.Omega.{arith}
-use borrow.Author.Rules.{rules}
-use Prim.Native.Nat.{◌-◌, ◌≤◌}
-use Rattle.rules_items.proofs.PairLaws.{Looking, look_start, look_found, look_on, look_none}
+use Rattle.rules_items.proofs.PairLaws.{look_start, look_found, look_on, look_none}
 use Rattle.rules_items.proofs.rest_week.Goals as goal
 
 pub loop-i-init : goal.loop-i-init

@@ -1,9 +1,6 @@
 -- `rules_items::rest_week` meets its contract. Assumes nothing.
-use mathlib.Core.Path.{sym, ◌∙◌}
-use native.Mathlib.Omega.{arith}
-use borrow.Author.Rules.{rules}
 use Prim.Native.Nat.{◌-◌, ◌≤◌}
-use Rattle.rules_items.proofs.PairLaws.{Looking, look_start, look_found, look_on, look_none}
+use Rattle.rules_items.proofs.PairLaws.{Looking}
 use Rattle.rules_items.proofs.rest_week.Given as goal
 
 abbrev pub invariant-loop-i : goal.invariant-loop-i

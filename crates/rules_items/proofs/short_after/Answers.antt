@@ -1,6 +1,5 @@
 -- `rules_items::short_after` meets its contract. Assumes nothing.
 use mathlib.Core.Path.{refl, sym, ◌∙◌}
-use borrow.Author.Rules.{rules}
 use Rattle.rules_items.proofs.ItemLaws.{kind_is}
 use Rattle.rules_items.specs.Items.{short_after}
 use native.Mathlib.Nat.{add-zero}

@@ -1,5 +1,4 @@
 -- `rules_items::standing_of` meets its contract. Assumes nothing.
-use borrow.Author.Rules.{rules}
 use borrow.Author.Tests.{lt-ltb, le-ltb}
 use Rattle.rules_items.proofs.standing_of.Goals as goal
 

@@ -1,6 +1,5 @@
 -- `rules_items::tally_after` meets its contract. Assumes nothing.
 use mathlib.Core.Path.{refl}
-use borrow.Author.Rules.{rules}
 use Rattle.rules_items.specs.Items.{broken_by, tally_by}
 use Rattle.rules_items.proofs.tally_after.Goals as goal
 

@@ -1,6 +1,5 @@
 -- `rules_limits::breached_at` meets its contract. Assumes nothing.
 use mathlib.Core.Path.{sym, ◌∙◌}
-use borrow.Author.Rules.{rules}
 use Rattle.rules_limits.proofs.PartRight.{none_more, first_as_it_was}
 use Rattle.rules_limits.proofs.breached_at.Goals as goal
 

@@ -1,5 +1,4 @@
 -- `rules_limits::broken_at` meets its contract. Assumes nothing.
-use borrow.Author.Rules.{rules}
 use Rattle.recording.proofs.TestLaws.{or_is}
 use Rattle.rules_limits.specs.Account.{broken_at}
 use Rattle.rules_limits.proofs.broken_at.Goals as goal

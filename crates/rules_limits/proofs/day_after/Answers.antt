@@ -1,5 +1,4 @@
 -- `rules_limits::day_after` meets its contract. Assumes nothing.
-use borrow.Author.Rules.{rules}
 use borrow.Author.Tests.{le-leb, lt-leb}
 use Rattle.recording.specs.Rests.{long_rest_minutes}
 use Rattle.rules_limits.specs.Account.{day_after}

@@ -1,5 +1,4 @@
 -- `rules_limits::first_article` meets its contract. Assumes nothing.
-use borrow.Author.Rules.{rules}
 use Rattle.rules.specs.Fixed.{first_article}
 use Rattle.rules_limits.proofs.first_article.Goals as goal
 

@@ -1,5 +1,4 @@
 -- `rules_limits::smallest_rule` meets its contract. Assumes nothing.
-use borrow.Author.Rules.{rules}
 use Rattle.rules.specs.Fixed.{smallest_rule}
 use Rattle.rules_limits.proofs.smallest_rule.Goals as goal
 

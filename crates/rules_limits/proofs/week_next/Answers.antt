@@ -1,5 +1,4 @@
 -- `rules_limits::week_next` meets its contract. Assumes nothing.
-use borrow.Author.Rules.{rules}
 use borrow.Author.Tests.{eq-eqb, ne_eqb}
 use Rattle.rules_limits.specs.Account.{week_next}
 use Rattle.rules_limits.proofs.week_next.Goals as goal

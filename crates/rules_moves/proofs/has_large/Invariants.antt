@@ -1,12 +1,9 @@
 -- `rules_moves::has_large` meets its contract. Assumes nothing.
-use mathlib.Core.Path.{◌≡◌, refl, sym, ◌∙◌}
+use mathlib.Core.Path.{◌≡◌}
 use Prim.Native.Nat.{◌-◌, ◌≤◌}
-use native.Mathlib.Omega.{arith}
 use lib.ListN.{length, drop}
 use Rattle.rules.specs.Reading.{fields_in}
 use Rattle.rules_moves.specs.Moves.{too_large}
-use Rattle.rules_moves.proofs.Moving.{large_here, large_later, large_end}
-use borrow.Author.Rules.{rules}
 use Rattle.rules_moves.proofs.has_large.Given as goal
 
 abbrev pub invariant-loop-at : goal.invariant-loop-at

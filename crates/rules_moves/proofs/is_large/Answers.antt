@@ -1,7 +1,6 @@
 -- `rules_moves::is_large` meets its contract. Assumes nothing.
 use borrow.Author.Tests.{lt-ltb, le-ltb}
 use Rattle.recording.specs.Tests.{◌or◌}
-use borrow.Author.Rules.{rules}
 use Rattle.rules_moves.proofs.is_large.Goals as goal
 
 pub returns-then-week-gt-STORED_WEEK : goal.returns-then-week-gt-STORED_WEEK

@@ -7,7 +7,6 @@ use borrow.Author.Tests.{eq-eqb, ne_eqb, lt-ltb, le-ltb}
 use Rattle.rules.specs.Reading.{entry_bytes, fields_in}
 use Rattle.rules_moves.specs.Moves.{reading_narrowed}
 use Rattle.rules.proofs.FieldLaws.{fields_size}
-use borrow.Author.Rules.{rules}
 use Rattle.rules_moves.proofs.narrowing_refusal.Goals as goal
 
 pub returns-then-wide-ne0 : goal.returns-then-wide-ne0

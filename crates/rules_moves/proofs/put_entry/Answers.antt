@@ -1,7 +1,6 @@
 -- `rules_moves::put_entry` meets its contract. Assumes nothing.
 use mathlib.Core.List.{[], ◌∷◌}
 use Rattle.rules_moves.proofs.Moving.{put_next}
-use borrow.Author.Rules.{rules}
 use Rattle.rules_moves.proofs.put_entry.Goals as goal
 
 pub returns : goal.returns

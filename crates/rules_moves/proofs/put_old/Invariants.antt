@@ -1,14 +1,11 @@
 -- `rules_moves::put_old` meets its contract. Assumes nothing.
 use mathlib.Core.Path.{◌≡◌}
-use mathlib.Core.List.{[], ◌∷◌}
-use Prim.Native.Nat.{◌+◌, ◌-◌, ◌*◌, ◌≤◌}
-use native.Mathlib.Omega.{arith}
-use lib.ListN.{length, drop, get_or}
+use Prim.Native.Nat.{◌-◌, ◌*◌, ◌≤◌}
+use lib.ListN.{length, drop}
 use Rattle.rules.specs.Reading.{entry_bytes}
 use Rattle.rules_moves.specs.Moves.{stored_bytes}
 use Rattle.rules_moves.specs.Passes.{low_bytes}
-use Rattle.rules_moves.proofs.Moving.{lows_at, lows_end, Putting, start_putting, put_on, put_done}
-use borrow.Author.Rules.{rules}
+use Rattle.rules_moves.proofs.Moving.{Putting}
 use Rattle.rules_moves.proofs.put_old.Given as goal
 
 abbrev pub invariant-loop-from : goal.invariant-loop-from

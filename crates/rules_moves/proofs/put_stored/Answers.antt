@@ -1,7 +1,6 @@
 -- `rules_moves::put_stored` meets its contract. Assumes nothing.
 use mathlib.Core.List.{[], ◌∷◌}
 use Rattle.rules_moves.proofs.Moving.{put_next}
-use borrow.Author.Rules.{rules}
 use Rattle.rules_moves.proofs.put_stored.Goals as goal
 
 pub returns : goal.returns

@@ -1,13 +1,10 @@
 -- `rules_moves::put_wide` meets its contract. Assumes nothing.
-use mathlib.Core.Path.{◌≡◌}
 use mathlib.Core.List.{[], ◌∷◌}
-use Prim.Native.Nat.{◌+◌, ◌-◌, ◌*◌, ◌≤◌, ◌<◌}
+use Prim.Native.Nat.{◌+◌, ◌<◌}
 use native.Mathlib.Omega.{arith}
-use lib.ListN.{length, drop, get_or}
-use Rattle.rules.specs.Reading.{entry_bytes, byte_values, bytes_of}
-use Rattle.rules_moves.specs.Moves.{stored_bytes}
-use Rattle.rules_moves.proofs.Moving.{bytes_at, bytes_end, Putting, start_putting, put_on, put_done}
-use borrow.Author.Rules.{rules}
+use lib.ListN.{drop, get_or}
+use Rattle.rules.specs.Reading.{byte_values, bytes_of}
+use Rattle.rules_moves.proofs.Moving.{bytes_at, bytes_end, start_putting, put_on, put_done}
 use Rattle.rules_moves.proofs.put_wide.Goals as goal
 
 pub loop-from-init : goal.loop-from-init

@@ -1,5 +1,4 @@
 -- `rules_moves::put_wide_if` meets its contract. Assumes nothing.
-use borrow.Author.Rules.{rules}
 use Rattle.rules_moves.proofs.put_wide_if.Goals as goal
 
 pub returns-then-wanted : goal.returns-then-wanted

@@ -1,6 +1,5 @@
 -- `rules_nets::day_on` meets its contract. Assumes nothing.
 use mathlib.Core.Path.{◌∙◌}
-use borrow.Author.Rules.{rules}
 use borrow.Author.Tests.{eq-eqb, ne_eqb}
 use Rattle.rules_nets.specs.Nets.{closes}
 use Rattle.rules_nets.proofs.day_on.Goals as goal

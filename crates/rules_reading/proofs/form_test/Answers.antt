@@ -1,10 +1,7 @@
 -- `rules_reading::form_test` meets its contract. Assumes nothing.
 use mathlib.Core.Path.{sym, ◌∙◌}
 use native.Mathlib.Omega.{arith}
-use borrow.Author.Rules.{rules}
-use Prim.Native.Nat.{◌-◌, ◌≤◌}
-use borrow.Author.Tests.{not-true, not-false}
-use Rattle.rules_reading.proofs.WalkLaws.{Forming, form_start, form_on, form_broken, form_done, sane_item}
+use Rattle.rules_reading.proofs.WalkLaws.{form_start, form_on, form_broken, form_done, sane_item}
 use Rattle.rules_reading.proofs.form_test.Goals as goal
 
 pub loop-i-init : goal.loop-i-init

@@ -1,5 +1,4 @@
 -- `rules_reading::gap_rule` meets its contract. Assumes nothing.
-use borrow.Author.Rules.{rules}
 use borrow.Author.Tests.{le-leb, lt-leb}
 use Rattle.rules_reading.proofs.gap_rule.Goals as goal
 

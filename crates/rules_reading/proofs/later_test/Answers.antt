@@ -1,7 +1,5 @@
 -- `rules_reading::later_test` meets its contract. Assumes nothing.
 use mathlib.Core.Path.{refl, sym, ◌∙◌}
-use borrow.Author.Rules.{rules}
-use borrow.Author.Tests.{not-true, not-false}
 use Rattle.rules_reading.proofs.LaterLaws.{later_six, later_seven, later_broken, later_last, zeros_at}
 use Rattle.rules_reading.proofs.later_test.Goals as goal
 

@@ -1,13 +1,9 @@
 -- `rules_reading::pairs_test` meets its contract. Assumes nothing.
-use mathlib.Core.Path.{refl, sym, ◌∙◌}
-use native.Mathlib.Omega.{arith}
-use borrow.Author.Rules.{rules}
 use Prim.Native.Nat.{◌≤◌, ◌+◌}
-use borrow.Author.Tests.{not-true, not-false}
 use Rattle.recording.specs.Tests.{◌or◌}
 use Rattle.recording.specs.Weeks.{week_of}
-use Rattle.rules_items.specs.Items.{enough_with, rule11_with, rest_weeks, spans_in}
-use Rattle.rules_items.proofs.PairLaws.{Pairing, pair_on, pair_broken, pair_done}
+use Rattle.rules_items.specs.Items.{enough_with, rest_weeks, spans_in}
+use Rattle.rules_items.proofs.PairLaws.{Pairing}
 use mathlib.Core.Bool.{not}
 use lib.Dec.{leb}
 use Rattle.recording.specs.Weeks.{week_start}

@@ -1,5 +1,4 @@
 -- `rules_reading::reading_test` meets its contract. Assumes nothing.
-use borrow.Author.Rules.{rules}
 use Rattle.rules_reading.proofs.LaterLaws.{test_refused, test_sized}
 use Rattle.recording.proofs.Listing.{refused_there, measured_there}
 use Rattle.rules_reading.proofs.reading_test.Goals as goal

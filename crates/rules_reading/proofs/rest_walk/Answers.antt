@@ -1,11 +1,8 @@
 -- `rules_reading::rest_walk` meets its contract. Assumes nothing.
-use mathlib.Core.Path.{◌≡◌, refl, sym, ap, ◌∙◌}
+use mathlib.Core.Path.{refl, sym, ap, ◌∙◌}
 use native.Mathlib.Omega.{arith}
-use borrow.Author.Rules.{rules}
-use Prim.Native.Nat.{◌-◌, ◌≤◌}
 use lib.ListN.{length}
-use borrow.Author.Tests.{not-true, not-false}
-use Rattle.rules_reading.proofs.WalkLaws.{Walking, walk_start, item_sane, too_short, walk_on, walk_through, compensate_room}
+use Rattle.rules_reading.proofs.WalkLaws.{walk_start, item_sane, too_short, walk_on, walk_through, compensate_room}
 use Rattle.rules_items.proofs.TallyLaws.{added_to-length}
 use Rattle.rules_reading.proofs.rest_walk.Goals as goal
 

@@ -1,5 +1,4 @@
 -- `rules_reading::tested_among` meets its contract. Assumes nothing.
-use borrow.Author.Rules.{rules}
 use Rattle.recording.proofs.Listing.{measured_is}
 use Rattle.rules_reading.proofs.LaterLaws.{laid, judged_most, test_fixed, test_later}
 use Rattle.rules_reading.proofs.tested_among.Goals as goal

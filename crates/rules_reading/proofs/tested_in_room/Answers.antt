@@ -1,5 +1,4 @@
 -- `rules_reading::tested_in_room` meets its contract. Assumes nothing.
-use borrow.Author.Rules.{rules}
 use Rattle.recording.specs.Scan.{short_rests}
 use Rattle.recording.specs.Rests.{long_rests_at_most}
 use Rattle.rules_reading.proofs.LaterLaws.{roomy_short, roomy_long, zeros_at}

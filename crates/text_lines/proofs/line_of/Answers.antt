@@ -46,25 +46,44 @@ pub word_of-requires : goal.word_of-requires
 word_of-requires c = omega (arith, c.run_minutes-resting.ensures, after_within (run_name rest) c.args.line.now)
 
 pub returns-then-resting-ne0 : goal.returns-then-resting-ne0
-returns-then-resting-ne0 c = sym (line_run _ (told _ _ c.same.ensures c.if-same.false) (told _ _ c.same-2.ensures c.if-same-2.false) (told _ _ c.same-3.ensures c.if-same-3.false) ∙ run_is rest _ _ c.run_minutes-resting.ensures c.word_of.ensures c.if-resting-ne0.true)
+returns-then-resting-ne0 c =
+    let run = line_run _ (told _ _ c.same.ensures c.if-same.false) (told _ _ c.same-2.ensures c.if-same-2.false) (told _ _ c.same-3.ensures c.if-same-3.false) in
+    sym (run ∙ run_is rest _ _ c.run_minutes-resting.ensures c.word_of.ensures c.if-resting-ne0.true)
 
 pub word_of-requires-then-available-ne0 : goal.word_of-requires-then-available-ne0
 word_of-requires-then-available-ne0 c = omega (arith, c.run_minutes-available.ensures, after_within (run_name availability) c.args.line.now)
 
 pub returns-then-available-ne0 : goal.returns-then-available-ne0
-returns-then-available-ne0 c = sym (not-rest _ (line_run _ (told _ _ c.same.ensures c.if-same.false) (told _ _ c.same-2.ensures c.if-same-2.false) (told _ _ c.same-3.ensures c.if-same-3.false)) c.run_minutes-resting.ensures c.if-resting-ne0.false ∙ run_is availability _ _ c.run_minutes-available.ensures c.word_of-then-available-ne0.ensures c.if-available-ne0.true)
+returns-then-available-ne0 c =
+    let run = line_run _ (told _ _ c.same.ensures c.if-same.false) (told _ _ c.same-2.ensures c.if-same-2.false) (told _ _ c.same-3.ensures c.if-same-3.false) in
+    let unrested = not-rest _ run c.run_minutes-resting.ensures c.if-resting-ne0.false in
+    sym (unrested ∙ run_is availability _ _ c.run_minutes-available.ensures c.word_of-then-available-ne0.ensures c.if-available-ne0.true)
 
 pub word_of-requires-then-working-ne0 : goal.word_of-requires-then-working-ne0
 word_of-requires-then-working-ne0 c = omega (arith, c.run_minutes-working.ensures, after_within (run_name other_work) c.args.line.now)
 
 pub returns-then-working-ne0 : goal.returns-then-working-ne0
-returns-then-working-ne0 c = sym (not-available _ (not-rest _ (line_run _ (told _ _ c.same.ensures c.if-same.false) (told _ _ c.same-2.ensures c.if-same-2.false) (told _ _ c.same-3.ensures c.if-same-3.false)) c.run_minutes-resting.ensures c.if-resting-ne0.false) c.run_minutes-available.ensures c.if-available-ne0.false ∙ run_is other_work _ _ c.run_minutes-working.ensures c.word_of-then-working-ne0.ensures c.if-working-ne0.true)
+returns-then-working-ne0 c =
+    let run = line_run _ (told _ _ c.same.ensures c.if-same.false) (told _ _ c.same-2.ensures c.if-same-2.false) (told _ _ c.same-3.ensures c.if-same-3.false) in
+    let unrested = not-rest _ run c.run_minutes-resting.ensures c.if-resting-ne0.false in
+    let occupied = not-available _ unrested c.run_minutes-available.ensures c.if-available-ne0.false in
+    sym (occupied ∙ run_is other_work _ _ c.run_minutes-working.ensures c.word_of-then-working-ne0.ensures c.if-working-ne0.true)
 
 pub word_of-requires-then-driving-ne0 : goal.word_of-requires-then-driving-ne0
 word_of-requires-then-driving-ne0 c = omega (arith, c.run_minutes-driving.ensures, after_within (run_name driving) c.args.line.now)
 
 pub returns-then-driving-ne0 : goal.returns-then-driving-ne0
-returns-then-driving-ne0 c = sym (not-work _ (not-available _ (not-rest _ (line_run _ (told _ _ c.same.ensures c.if-same.false) (told _ _ c.same-2.ensures c.if-same-2.false) (told _ _ c.same-3.ensures c.if-same-3.false)) c.run_minutes-resting.ensures c.if-resting-ne0.false) c.run_minutes-available.ensures c.if-available-ne0.false) c.run_minutes-working.ensures c.if-working-ne0.false ∙ run_is driving _ _ c.run_minutes-driving.ensures c.word_of-then-driving-ne0.ensures c.if-driving-ne0.true)
+returns-then-driving-ne0 c =
+    let run = line_run _ (told _ _ c.same.ensures c.if-same.false) (told _ _ c.same-2.ensures c.if-same-2.false) (told _ _ c.same-3.ensures c.if-same-3.false) in
+    let unrested = not-rest _ run c.run_minutes-resting.ensures c.if-resting-ne0.false in
+    let occupied = not-available _ unrested c.run_minutes-available.ensures c.if-available-ne0.false in
+    let at_most_driving = not-work _ occupied c.run_minutes-working.ensures c.if-working-ne0.false in
+    sym (at_most_driving ∙ run_is driving _ _ c.run_minutes-driving.ensures c.word_of-then-driving-ne0.ensures c.if-driving-ne0.true)
 
 pub returns : goal.returns
-returns c = sym (not-work _ (not-available _ (not-rest _ (line_run _ (told _ _ c.same.ensures c.if-same.false) (told _ _ c.same-2.ensures c.if-same-2.false) (told _ _ c.same-3.ensures c.if-same-3.false)) c.run_minutes-resting.ensures c.if-resting-ne0.false) c.run_minutes-available.ensures c.if-available-ne0.false) c.run_minutes-working.ensures c.if-working-ne0.false ∙ run_not driving _ _ c.run_minutes-driving.ensures c.if-driving-ne0.false)
+returns c =
+    let run = line_run _ (told _ _ c.same.ensures c.if-same.false) (told _ _ c.same-2.ensures c.if-same-2.false) (told _ _ c.same-3.ensures c.if-same-3.false) in
+    let unrested = not-rest _ run c.run_minutes-resting.ensures c.if-resting-ne0.false in
+    let occupied = not-available _ unrested c.run_minutes-available.ensures c.if-available-ne0.false in
+    let at_most_driving = not-work _ occupied c.run_minutes-working.ensures c.if-working-ne0.false in
+    sym (at_most_driving ∙ run_not driving _ _ c.run_minutes-driving.ensures c.if-driving-ne0.false)

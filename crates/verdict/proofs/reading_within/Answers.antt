@@ -1,6 +1,5 @@
 -- `verdict::reading_within` meets its contract. Assumes nothing.
 use native.Mathlib.Omega.{arith}
-use borrow.Author.Rules.{rules}
 use Rattle.verdict_judging.proofs.Answers.{within, total_is}
 use Rattle.verdict_breach.proofs.Slices.{roomy_short, roomy_long}
 use Rattle.verdict.proofs.reading_within.Goals as goal

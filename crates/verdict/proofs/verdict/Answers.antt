@@ -1,5 +1,4 @@
 -- `verdict::verdict` meets its contract. Assumes nothing.
-use borrow.Author.Rules.{rules}
 use Rattle.recording.proofs.Listing.{refused_there, measured_there}
 use Rattle.verdict_judging.proofs.Answers.{verdict_refused}
 use Rattle.verdict.proofs.verdict.Goals as goal

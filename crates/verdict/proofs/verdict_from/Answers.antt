@@ -1,7 +1,6 @@
 -- `verdict::verdict_from` meets its contract. Assumes nothing.
 use mathlib.Core.List.{◌∷◌}
 use native.Mathlib.Omega.{arith}
-use borrow.Author.Rules.{rules}
 use Rattle.verdict_breach.proofs.Slices.{roomy_short, roomy_long}
 use Rattle.verdict.proofs.verdict_from.Goals as goal
 

@@ -1,5 +1,4 @@
 -- `verdict::verdict_lent` meets its contract. Assumes nothing.
-use borrow.Author.Rules.{rules}
 use Rattle.recording.proofs.Listing.{refused_there, measured_there}
 use Rattle.verdict_judging.proofs.Answers.{verdict_refused}
 use Rattle.verdict.proofs.verdict_lent.Goals as goal

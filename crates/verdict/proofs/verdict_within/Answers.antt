@@ -1,7 +1,6 @@
 -- `verdict::verdict_within` meets its contract. Assumes nothing.
 use Rattle.recording.specs.Words.{minutes_of}
 use Rattle.verdict_judging.proofs.Answers.{within, total_is, verdict_found}
-use borrow.Author.Rules.{rules}
 use Rattle.verdict.proofs.verdict_within.Goals as goal
 
 pub verdict_from-requires : goal.verdict_from-requires

@@ -1,7 +1,6 @@
 -- `verdict_breach::active_in` meets its contract. Assumes nothing.
 use native.Mathlib.Omega.{arith}
 use Rattle.verdict_breach.proofs.Actives.{active_none, active_some}
-use borrow.Author.Rules.{rules}
 use Rattle.verdict_breach.proofs.active_in.Goals as goal
 
 pub returns-then-to-first : goal.returns-then-to-first

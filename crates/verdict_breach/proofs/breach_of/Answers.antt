@@ -1,5 +1,4 @@
 -- `verdict_breach::breach_of` meets its contract. Assumes nothing.
-use borrow.Author.Rules.{rules}
 use mathlib.Core.List.{◌∷◌}
 use Rattle.recording.specs.Words.{minutes_of}
 use Rattle.verdict_breach.proofs.Halving.{least_in_whole, least_in_fixed, breach_whole, breach_under, breach_here}

@@ -1,5 +1,4 @@
 -- `verdict_breach::day_readable` meets its contract. Assumes nothing.
-use borrow.Author.Rules.{rules}
 use native.Mathlib.Omega.{arith}
 use Rattle.verdict_breach.proofs.Days.{ends_low, first_starts, first_ends, first_nets, lies_first, over_bound, day_asked}
 use Rattle.verdict_breach.proofs.day_readable.Goals as goal

@@ -1,7 +1,6 @@
 -- `verdict_breach::day_start` meets its contract. Assumes nothing.
 use native.Mathlib.Omega.{arith}
 use Prim.Native.Nat.{◌-◌}
-use borrow.Author.Rules.{rules}
 use Rattle.verdict_breach.proofs.Days.{day_start_is}
 use Rattle.verdict_breach.proofs.day_start.Goals as goal
 

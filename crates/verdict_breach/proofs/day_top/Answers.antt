@@ -2,7 +2,6 @@
 use mathlib.Core.Logic.{inl, inr}
 use mathlib.Core.Path.{refl}
 use native.Mathlib.Omega.{arith}
-use borrow.Author.Rules.{rules}
 use Rattle.verdict_breach.proofs.day_top.Goals as goal
 
 pub returns-then-starts-n : goal.returns-then-starts-n

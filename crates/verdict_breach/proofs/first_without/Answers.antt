@@ -1,11 +1,9 @@
 -- `verdict_breach::first_without` meets its contract. Assumes nothing.
-use mathlib.Core.Path.{◌≡◌, refl, ◌∙◌}
-use Prim.Native.Nat.{◌+◌, ◌-◌}
-use lib.ListN.{length}
+use mathlib.Core.Path.{refl, ◌∙◌}
 use native.Mathlib.Omega.{arith}
 use borrow.Author.Tests.{not-true, not-false}
 use Rattle.verdict_breach.proofs.Days.{ends_low, lies_later}
-use Rattle.verdict_breach.proofs.Demands.{Asking, start_asking, ask_on, found_none, all_asked}
+use Rattle.verdict_breach.proofs.Demands.{start_asking, ask_on, found_none, all_asked}
 use Rattle.verdict_breach.proofs.first_without.Goals as goal
 
 pub next_demand-next-requires : goal.next_demand-next-requires

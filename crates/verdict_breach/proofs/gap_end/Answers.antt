@@ -1,6 +1,5 @@
 -- `verdict_breach::gap_end` meets its contract. Assumes nothing.
 use native.Mathlib.Omega.{arith}
-use borrow.Author.Rules.{rules}
 use Rattle.verdict_breach.proofs.gap_end.Goals as goal
 
 pub returns-then-last-s : goal.returns-then-last-s

@@ -1,10 +1,7 @@
 -- `verdict_breach::last_day` meets its contract. Assumes nothing.
-use borrow.Author.Rules.{rules}
-use mathlib.Core.Path.{◌≡◌, refl, ◌∙◌}
-use Prim.Native.Nat.{◌-◌}
-use lib.ListN.{length}
+use mathlib.Core.Path.{refl, ◌∙◌}
 use native.Mathlib.Omega.{arith}
-use Rattle.verdict_breach.proofs.Halving.{Halving, start_halving, halve_up, halve_down, halved}
+use Rattle.verdict_breach.proofs.Halving.{start_halving, halve_up, halve_down, halved}
 use Rattle.verdict_breach.proofs.last_day.Goals as goal
 
 pub loop-high-init : goal.loop-high-init

@@ -1,5 +1,4 @@
 -- `verdict_breach::lawful_by` meets its contract. Assumes nothing.
-use borrow.Author.Rules.{rules}
 use mathlib.Core.Path.{refl}
 use Rattle.verdict_breach.proofs.lawful_by.Goals as goal
 

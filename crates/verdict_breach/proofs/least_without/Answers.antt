@@ -1,5 +1,4 @@
 -- `verdict_breach::least_without` meets its contract. Assumes nothing.
-use borrow.Author.Rules.{rules}
 use mathlib.Core.List.{◌∷◌}
 use native.Mathlib.Omega.{arith}
 use Rattle.recording.specs.Words.{minutes_of}

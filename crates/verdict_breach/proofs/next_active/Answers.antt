@@ -1,10 +1,6 @@
 -- `verdict_breach::next_active` meets its contract. Assumes nothing.
-use mathlib.Core.List.{◌∷◌}
-use Prim.Native.Nat.{suc, ◌-◌}
-use lib.ListN.{length}
 use native.Mathlib.Omega.{arith}
-use borrow.Author.Rules.{rules}
-use Rattle.verdict_breach.proofs.Actives.{Ahead, first_on, first_active, next_room, next_on, next_there, all_rested}
+use Rattle.verdict_breach.proofs.Actives.{first_on, first_active, next_room, next_on, next_there, all_rested}
 use Rattle.verdict_breach.proofs.next_active.Goals as goal
 
 pub returns-then-first-ne0 : goal.returns-then-first-ne0

@@ -2,9 +2,7 @@
 use mathlib.Core.List.{◌∷◌}
 use Prim.Native.Nat.{suc, ◌-◌}
 use lib.ListN.{length}
-use native.Mathlib.Omega.{arith}
-use borrow.Author.Rules.{rules}
-use Rattle.verdict_breach.proofs.Actives.{Ahead, first_on, first_active, next_room, next_on, next_there, all_rested}
+use Rattle.verdict_breach.proofs.Actives.{Ahead}
 use Rattle.verdict_breach.proofs.next_active.Given as goal
 
 abbrev pub invariant-loop-i : goal.invariant-loop-i

@@ -1,7 +1,5 @@
 -- `verdict_breach::next_demand` meets its contract. Assumes nothing.
-use native.Mathlib.Omega.{arith}
-use borrow.Author.Rules.{rules}
-use Rattle.verdict_breach.proofs.Demands.{Demands, start_demands, demands_on, demands_done}
+use Rattle.verdict_breach.proofs.Demands.{Demands}
 use Rattle.verdict_breach.proofs.next_demand.Given as goal
 
 abbrev pub invariant-loop-i : goal.invariant-loop-i

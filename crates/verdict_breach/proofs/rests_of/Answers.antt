@@ -1,5 +1,4 @@
 -- `verdict_breach::rests_of` meets its contract. Assumes nothing.
-use borrow.Author.Rules.{rules}
 use native.Mathlib.Omega.{arith}
 use Rattle.verdict_breach.proofs.Slices.{in_front}
 use Rattle.verdict_breach.proofs.rests_of.Goals as goal

@@ -1,5 +1,4 @@
 -- `verdict_breach::some_long` meets its contract. Assumes nothing.
-use borrow.Author.Rules.{rules}
 use Rattle.recording.specs.Rests.{long_rests_at_most}
 use mathlib.Core.Path.{sym}
 use Rattle.verdict_sweep.proofs.Sweeps.{none_size, none_zeros}

@@ -1,5 +1,4 @@
 -- `verdict_breach::some_short` meets its contract. Assumes nothing.
-use borrow.Author.Rules.{rules}
 use Rattle.recording.specs.Scan.{short_rests}
 use mathlib.Core.Path.{sym}
 use Rattle.verdict_sweep.proofs.Sweeps.{none_size, none_zeros}

@@ -1,10 +1,8 @@
 -- `verdict_choosing::can_have` meets its contract. Assumes nothing.
-use borrow.Author.Rules.{rules}
 use mathlib.Core.Path.{refl, sym, subst}
 use mathlib.Core.Bool.{false≢true}
 use Prim.Native.Nat.{ℕ}
 use native.Mathlib.Omega.{arith}
-use borrow.Author.Tests.{not-true, not-false}
 use Rattle.rules_items.specs.Items.{added_to}
 use Rattle.verdict_search.specs.Search.{course_of, Lent, with_compensations}
 use Rattle.verdict_choosing.proofs.Placing.{if_no, if_carry, limited, limited_with, lent_of, before_with, room_with, with_carrier}

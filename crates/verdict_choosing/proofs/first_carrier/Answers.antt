@@ -1,12 +1,11 @@
 -- `verdict_choosing::first_carrier` meets its contract. Assumes nothing.
-use mathlib.Core.Path.{◌≡◌, refl, ap, ◌∙◌}
+use mathlib.Core.Path.{refl, ap, ◌∙◌}
 use mathlib.Core.Logic.{⊎_elim}
-use Prim.Native.Nat.{ℕ, ◌+◌, ◌-◌, ◌≤◌, ◌<◌, zero-le}
+use Prim.Native.Nat.{zero-le}
 use native.Mathlib.Omega.{arith}
 use lib.ListN.{length}
 use Rattle.recording.proofs.TestLaws.{less_or_not}
-use Rattle.verdict_search.specs.Search.{course_of, Sound}
-use Rattle.verdict_choosing.specs.Choices.{CanHave}
+use Rattle.verdict_search.specs.Search.{course_of}
 use Rattle.verdict_choosing.proofs.Placing.{sound_with, lent_same, before_with, at_rest_with, found_same, room_same, none_below}
 use Rattle.verdict_choosing.proofs.first_carrier.Goals as goal
 

@@ -1,18 +1,15 @@
 -- `verdict_choosing::first_weekly` meets its contract. Assumes nothing.
-use borrow.Author.Rules.{rules}
-use mathlib.Core.Path.{◌≡◌, refl, sym, ap, subst, ◌∙◌}
+use mathlib.Core.Path.{refl, sym, ap, subst, ◌∙◌}
 use mathlib.Core.List.{List}
-use Prim.Native.Nat.{ℕ, ◌+◌, ◌-◌, ◌≤◌, ◌<◌}
+use Prim.Native.Nat.{ℕ, ◌+◌, ◌≤◌}
 use native.Mathlib.Nat.{le_refl}
 use native.Mathlib.Omega.{arith}
 use lib.ListN.{length}
-use Rattle.recording.specs.Weeks.{week_minutes, week_start, week_of}
 use Rattle.rules.specs.ReadingRules.{least_net}
 use Rattle.rules.specs.declared.Kind.TheVariants.{Weekly}
 use Rattle.rules.specs.declared.Standing.TheVariants.{Regular}
 use Rattle.verdict_completion.specs.Completable.{at, length_at}
-use Rattle.verdict_search.specs.Search.{course_of, Sound}
-use Rattle.verdict_choosing.specs.Choices.{CanBeWeekly}
+use Rattle.verdict_search.specs.Search.{course_of}
 use Rattle.verdict_choosing.proofs.Placing.{sound_with, with_sound, lent_same, at_rest_with, first_same, first_here, none_before, none_at_all}
 use Rattle.verdict_choosing.proofs.first_weekly.Goals as goal
 

@@ -1,25 +1,19 @@
 -- `verdict_choosing::first_weekly` meets its contract. Assumes nothing.
-use borrow.Author.Rules.{rules}
-use mathlib.Core.Path.{◌≡◌, refl, sym, ap, subst, ◌∙◌}
-use mathlib.Core.List.{List}
+use mathlib.Core.Path.{◌≡◌}
 use Prim.Native.Nat.{ℕ, ◌+◌, ◌-◌, ◌≤◌, ◌<◌}
-use native.Mathlib.Nat.{le_refl}
-use native.Mathlib.Omega.{arith}
 use lib.ListN.{length}
 use Rattle.recording.specs.Weeks.{week_minutes, week_start, week_of}
-use Rattle.rules.specs.ReadingRules.{least_net}
-use Rattle.rules.specs.declared.Kind.TheVariants.{Weekly}
-use Rattle.rules.specs.declared.Standing.TheVariants.{Regular}
-use Rattle.verdict_completion.specs.Completable.{at, length_at}
+use Rattle.verdict_completion.specs.Completable.{at}
 use Rattle.verdict_search.specs.Search.{course_of, Sound}
 use Rattle.verdict_choosing.specs.Choices.{CanBeWeekly}
-use Rattle.verdict_choosing.proofs.Placing.{sound_with, with_sound, lent_same, at_rest_with, first_same, first_here, none_before, none_at_all}
 use Rattle.verdict_choosing.proofs.first_weekly.Given as goal
 
 abbrev pub invariant-loop-w : goal.invariant-loop-w
-invariant-loop-w l = (l.compensations ≡ l.initial.compensations) × (l.outstanding ≡ l.initial.outstanding) × (length l.nogoods ≡ length l.initial.nogoods) × (length l.front ≡ length l.initial.front) × (length l.other ≡ length l.initial.other)
+invariant-loop-w l = (l.compensations ≡ l.initial.compensations) × (l.outstanding ≡ l.initial.outstanding) × (length l.nogoods ≡ length l.initial.nogoods)
+    × (length l.front ≡ length l.initial.front) × (length l.other ≡ length l.initial.other)
     × (length l.known ≡ length l.initial.known) × (length l.beside ≡ length l.initial.beside) × (week_of (at l.starts l.j) ≤ l.w) × (week_start l.w ≤ at l.ends l.j + week_minutes)
-    × ((v y : ℕ) → v < l.w → CanBeWeekly (course_of l.starts l.ends l.nets l.initial.compensations l.s) l.j l.here l.initial.outstanding v y → ⊥) × Sound (course_of l.starts l.ends l.nets l.initial.compensations l.s) l.nogoods
+    × ((v y : ℕ) → v < l.w → CanBeWeekly (course_of l.starts l.ends l.nets l.initial.compensations l.s) l.j l.here l.initial.outstanding v y → ⊥)
+    × Sound (course_of l.starts l.ends l.nets l.initial.compensations l.s) l.nogoods
 
 abbrev pub decreases-loop-w : goal.decreases-loop-w
 decreases-loop-w l = at l.ends l.j - l.w

@@ -1,6 +1,5 @@
 -- `verdict_choosing::lacking` meets its contract. Assumes nothing.
 use mathlib.Core.Path.{ap, ◌∙◌}
-use borrow.Author.Rules.{rules}
 use Rattle.rules.specs.Reading.{reduction_of}
 use Rattle.rules.specs.declared.Kind.TheVariants.{Weekly}
 use Rattle.rules.specs.declared.Standing.{Standing}

@@ -1,5 +1,4 @@
 -- `verdict_first_reading::renew` meets its contract. Assumes nothing.
-use borrow.Author.Rules.{rules}
 use mathlib.Core.Path.{refl}
 use Rattle.verdict_first_reading.proofs.renew.Goals as goal
 

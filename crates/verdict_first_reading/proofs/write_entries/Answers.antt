@@ -1,18 +1,13 @@
 -- `verdict_first_reading::write_entries` meets its contract. Assumes nothing.
-use borrow.Author.Rules.{rules}
-use mathlib.Core.Path.{◌≡◌, refl, sym, ap, subst, ◌∙◌}
-use mathlib.Core.List.{List}
-use Prim.Native.Nat.{ℕ, ◌-◌, ◌*◌}
+use mathlib.Core.Path.{refl, sym, ap, subst, ◌∙◌}
 use native.Mathlib.Nat.{le_refl}
 use native.Mathlib.Omega.{arith}
 use lib.ListN.{length}
-use Rattle.rules.specs.Reading.{entry_bytes}
 use Rattle.rules_items.specs.Items.{Zeros}
 use Rattle.verdict_completion.specs.States.{start_state}
-use Rattle.verdict_search.specs.Search.{course_of, Sound, Lent, Before, with_compensations}
+use Rattle.verdict_search.specs.Search.{course_of, with_compensations}
 use Rattle.verdict_search.proofs.Slots.{before_start}
-use Rattle.verdict_choosing.specs.First.{Least, rests_only}
-use Rattle.verdict_choosing.proofs.Placing.{Progress, progress_start, progress_on, progress_end}
+use Rattle.verdict_choosing.proofs.Placing.{progress_start, progress_on, progress_end}
 use Rattle.verdict_first_reading.proofs.write_entries.Goals as goal
 
 pub rest_week-requires : goal.rest_week-requires

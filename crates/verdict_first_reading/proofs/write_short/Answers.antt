@@ -1,5 +1,4 @@
 -- `verdict_first_reading::write_short` meets its contract. Assumes nothing.
-use borrow.Author.Rules.{rules}
 use mathlib.Core.Path.{sym}
 use lib.ListN.{length}
 use Rattle.recording.specs.Scan.{short_rests}

@@ -1,5 +1,4 @@
 -- `verdict_fronts::all_matched` meets its contract. Assumes nothing.
-use borrow.Author.Rules.{rules}
 use native.Mathlib.Omega.{arith}
 use mathlib.Core.Bool.{false≢true}
 use Rattle.verdict_fronts.proofs.all_matched.Goals as goal

@@ -1,10 +1,8 @@
 -- `verdict_fronts::clear_slots` meets its contract. Assumes nothing.
-use borrow.Author.Rules.{rules}
-use mathlib.Core.Path.{◌≡◌, refl, ◌∙◌}
-use native.Mathlib.Omega.{arith}
-use lib.ListN.{length, length-set}
+use mathlib.Core.Path.{◌≡◌}
+use lib.ListN.{length}
 use Prim.Native.Nat.{◌-◌, ◌≤◌}
-use Rattle.verdict_fronts.proofs.FrontLaws.{Cleared, cleared_start, cleared_on, cleared_all}
+use Rattle.verdict_fronts.proofs.FrontLaws.{Cleared}
 use Rattle.verdict_fronts.proofs.clear_slots.Given as goal
 
 abbrev pub invariant-loop-i : goal.invariant-loop-i

@@ -1,11 +1,8 @@
 -- `verdict_fronts::copy` meets its contract. Assumes nothing.
-use borrow.Author.Rules.{rules}
-use mathlib.Core.Path.{◌≡◌, refl, ◌∙◌}
+use mathlib.Core.Path.{refl, ◌∙◌}
 use native.Mathlib.Omega.{arith}
-use lib.ListN.{length, length-set}
-use Prim.Native.Nat.{◌-◌, ◌≤◌}
-use Rattle.verdict_nogoods.specs.Table.{entry_words}
-use Rattle.verdict_fronts.proofs.FrontLaws.{CopiedBelow, copied_start, copied_on, copied_all}
+use lib.ListN.{length-set}
+use Rattle.verdict_fronts.proofs.FrontLaws.{copied_start, copied_on, copied_all}
 use Rattle.verdict_fronts.proofs.copy.Goals as goal
 
 pub loop-d-init : goal.loop-d-init

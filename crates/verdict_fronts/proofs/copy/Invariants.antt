@@ -1,11 +1,9 @@
 -- `verdict_fronts::copy` meets its contract. Assumes nothing.
-use borrow.Author.Rules.{rules}
-use mathlib.Core.Path.{◌≡◌, refl, ◌∙◌}
-use native.Mathlib.Omega.{arith}
-use lib.ListN.{length, length-set}
+use mathlib.Core.Path.{◌≡◌}
+use lib.ListN.{length}
 use Prim.Native.Nat.{◌-◌, ◌≤◌}
 use Rattle.verdict_nogoods.specs.Table.{entry_words}
-use Rattle.verdict_fronts.proofs.FrontLaws.{CopiedBelow, copied_start, copied_on, copied_all}
+use Rattle.verdict_fronts.proofs.FrontLaws.{CopiedBelow}
 use Rattle.verdict_fronts.proofs.copy.Given as goal
 
 abbrev pub invariant-loop-d : goal.invariant-loop-d

@@ -1,10 +1,6 @@
 -- `verdict_fronts::covers_all` meets its contract. Assumes nothing.
-use borrow.Author.Rules.{rules}
-use borrow.Author.Tests.{not-false}
-use mathlib.Core.Bool.{false≢true}
-use native.Mathlib.Omega.{arith}
 use Prim.Native.Nat.{◌≤◌}
-use Rattle.verdict_fronts.proofs.FrontLaws.{DominatedFrom, dominated_start, dominated_on, dominated_all}
+use Rattle.verdict_fronts.proofs.FrontLaws.{DominatedFrom}
 use Rattle.verdict_fronts.proofs.covers_all.Given as goal
 
 abbrev pub invariant-loop-e : goal.invariant-loop-e

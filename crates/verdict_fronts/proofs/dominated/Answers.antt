@@ -1,8 +1,7 @@
 -- `verdict_fronts::dominated` meets its contract. Assumes nothing.
-use borrow.Author.Rules.{rules}
 use mathlib.Core.Bool.{false≢true}
 use native.Mathlib.Omega.{arith}
-use Prim.Native.Nat.{◌-◌, ◌≤◌}
+use Prim.Native.Nat.{◌-◌}
 use Rattle.verdict_fronts.proofs.dominated.Goals as goal
 
 pub returns-then-dominates : goal.returns-then-dominates

@@ -1,8 +1,5 @@
 -- `verdict_fronts::dominated` meets its contract. Assumes nothing.
-use borrow.Author.Rules.{rules}
-use mathlib.Core.Bool.{false≢true}
-use native.Mathlib.Omega.{arith}
-use Prim.Native.Nat.{◌-◌, ◌≤◌}
+use Prim.Native.Nat.{◌≤◌}
 use Rattle.verdict_fronts.proofs.dominated.Given as goal
 
 abbrev pub invariant-loop-e : goal.invariant-loop-e

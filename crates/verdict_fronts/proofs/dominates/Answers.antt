@@ -1,5 +1,4 @@
 -- `verdict_fronts::dominates` meets its contract. Assumes nothing.
-use borrow.Author.Rules.{rules}
 use mathlib.Core.Bool.{false≢true}
 use Rattle.verdict_fronts.proofs.dominates.Goals as goal
 

@@ -1,5 +1,4 @@
 -- `verdict_fronts::move_entry` meets its contract. Assumes nothing.
-use borrow.Author.Rules.{rules}
 use Rattle.verdict_fronts.proofs.FrontLaws.{copied_self, copied_by}
 use Rattle.verdict_fronts.proofs.move_entry.Goals as goal
 

@@ -1,10 +1,8 @@
 -- `verdict_fronts::outstanding_in` meets its contract. Assumes nothing.
-use borrow.Author.Rules.{rules}
-use mathlib.Core.Path.{◌≡◌, refl, sym, ◌∙◌}
+use mathlib.Core.Path.{refl, sym, ◌∙◌}
 use native.Mathlib.Omega.{arith}
-use lib.ListN.{length, length-set}
-use Prim.Native.Nat.{◌-◌, ◌≤◌}
-use Rattle.verdict_fronts.proofs.FrontLaws.{Written, written_start, written_on, written_all, a_slot}
+use lib.ListN.{length-set}
+use Rattle.verdict_fronts.proofs.FrontLaws.{written_start, written_on, written_all, a_slot}
 use Rattle.verdict_fronts.proofs.outstanding_in.Goals as goal
 
 pub loop-i-init : goal.loop-i-init

@@ -1,10 +1,8 @@
 -- `verdict_fronts::outstanding_in` meets its contract. Assumes nothing.
-use borrow.Author.Rules.{rules}
-use mathlib.Core.Path.{◌≡◌, refl, sym, ◌∙◌}
-use native.Mathlib.Omega.{arith}
-use lib.ListN.{length, length-set}
+use mathlib.Core.Path.{◌≡◌}
+use lib.ListN.{length}
 use Prim.Native.Nat.{◌-◌, ◌≤◌}
-use Rattle.verdict_fronts.proofs.FrontLaws.{Written, written_start, written_on, written_all, a_slot}
+use Rattle.verdict_fronts.proofs.FrontLaws.{Written}
 use Rattle.verdict_fronts.proofs.outstanding_in.Given as goal
 
 abbrev pub invariant-loop-i : goal.invariant-loop-i

@@ -1,6 +1,4 @@
 -- `verdict_fronts::put` meets its contract. Assumes nothing.
-use borrow.Author.Rules.{rules}
-use borrow.Author.Tests.{not-false}
 use Rattle.verdict_fronts.proofs.FrontLaws.{not_placed}
 use Rattle.verdict_fronts.proofs.put.Goals as goal
 

@@ -1,5 +1,4 @@
 -- `verdict_fronts::put_entry` meets its contract. Assumes nothing.
-use borrow.Author.Rules.{rules}
 use native.Mathlib.Omega.{arith}
 use Rattle.verdict_fronts.proofs.FrontLaws.{dropped, no_room, appended}
 use Rattle.verdict_fronts.proofs.put_entry.Goals as goal

@@ -1,11 +1,7 @@
 -- `verdict_fronts::reductions_within` meets its contract. Assumes nothing.
-use borrow.Author.Rules.{rules}
-use mathlib.Core.Bool.{false≢true}
-use native.Mathlib.Omega.{arith}
 use Prim.Native.Nat.{◌-◌, ◌≤◌}
 use Rattle.verdict_nogoods.specs.Table.{reduction_in}
-use Rattle.verdict_nogoods.proofs.TableLaws.{PairedBelow, paired_start, paired_past, paired_on}
-use Rattle.verdict_fronts.proofs.FrontLaws.{paired_all}
+use Rattle.verdict_nogoods.proofs.TableLaws.{PairedBelow}
 use Rattle.verdict_fronts.proofs.reductions_within.Given as goal
 
 abbrev pub invariant-loop-d : goal.invariant-loop-d

@@ -1,11 +1,6 @@
 -- `verdict_fronts::remove_dominated` meets its contract. Assumes nothing.
-use borrow.Author.Rules.{rules}
-use borrow.Author.Tests.{not-false}
-use mathlib.Core.Path.{◌≡◌, refl, ◌∙◌}
+use mathlib.Core.Path.{refl, ◌∙◌}
 use native.Mathlib.Omega.{arith}
-use lib.ListN.{length}
-use Prim.Native.Nat.{◌-◌, ◌≤◌}
-use Rattle.verdict_fronts.specs.Front.{Removed}
 use Rattle.verdict_fronts.proofs.FrontLaws.{removed_start, removed_out, removed_on, removed_all}
 use Rattle.verdict_fronts.proofs.remove_dominated.Goals as goal
 

@@ -1,12 +1,8 @@
 -- `verdict_fronts::remove_dominated` meets its contract. Assumes nothing.
-use borrow.Author.Rules.{rules}
-use borrow.Author.Tests.{not-false}
-use mathlib.Core.Path.{◌≡◌, refl, ◌∙◌}
-use native.Mathlib.Omega.{arith}
+use mathlib.Core.Path.{◌≡◌}
 use lib.ListN.{length}
 use Prim.Native.Nat.{◌-◌, ◌≤◌}
 use Rattle.verdict_fronts.specs.Front.{Removed}
-use Rattle.verdict_fronts.proofs.FrontLaws.{removed_start, removed_out, removed_on, removed_all}
 use Rattle.verdict_fronts.proofs.remove_dominated.Given as goal
 
 abbrev pub invariant-loop-i : goal.invariant-loop-i

@@ -1,5 +1,4 @@
 -- `verdict_fronts::write_entry` meets its contract. Assumes nothing.
-use borrow.Author.Rules.{rules}
 use mathlib.Core.Bool.{false≢true}
 use mathlib.Core.Path.{sym, subst}
 use mathlib.Core.List.{List}

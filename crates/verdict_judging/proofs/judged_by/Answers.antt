@@ -1,5 +1,4 @@
 -- `verdict_judging::judged_by` meets its contract. Assumes nothing.
-use borrow.Author.Rules.{rules}
 use mathlib.Core.List.{◌∷◌}
 use mathlib.Core.Path.{sym, ap, ◌∙◌}
 use Rattle.recording.specs.Answers.{answered}

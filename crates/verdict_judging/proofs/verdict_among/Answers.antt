@@ -1,5 +1,4 @@
 -- `verdict_judging::verdict_among` meets its contract. Assumes nothing.
-use borrow.Author.Rules.{rules}
 use Rattle.verdict_breach.proofs.Lawfulness.{starts_size, ends_size, nets_size}
 use Rattle.verdict_judging.proofs.verdict_among.Goals as goal
 

@@ -9,7 +9,8 @@ use Rattle.verdict_merging.specs.Merging.{Trusted}
 use Rattle.verdict_merging.proofs.merge_on.Given as goal
 
 abbrev pub invariant-loop-i : goal.invariant-loop-i
-invariant-loop-i l = (l.i ≤ length l.starts + 1) × (length l.outstanding ≡ length l.initial.outstanding) × (length l.nogoods ≡ length l.initial.nogoods) × (length l.front ≡ length l.initial.front) × (length l.other ≡ length l.initial.other) ×
+invariant-loop-i l = (l.i ≤ length l.starts + 1) × (length l.outstanding ≡ length l.initial.outstanding) × (length l.nogoods ≡ length l.initial.nogoods)
+    × (length l.front ≡ length l.initial.front) × (length l.other ≡ length l.initial.other) ×
     (length l.known ≡ length l.initial.known) × (length l.beside ≡ length l.initial.beside) × (Sound (course_of l.starts l.ends l.nets l.compensations l.s) l.nogoods) ×
     (Front (course_of l.starts l.ends l.nets l.compensations l.s) l.i l.front l.n) × (Front (course_of l.starts l.ends l.nets l.compensations l.s) l.i l.known l.m) ×
     (led.Equal (Any (course_of l.starts l.ends l.nets l.compensations l.s) l.j l.initial.front l.f) (Any (course_of l.starts l.ends l.nets l.compensations l.s) l.i l.front l.n)) ×

@@ -1,11 +1,8 @@
 -- `verdict_nogoods::clear` meets its contract. Assumes nothing.
-use mathlib.Core.Path.{◌≡◌, refl, ◌∙◌}
+use mathlib.Core.Path.{refl, ◌∙◌}
 use mathlib.Core.Logic.{inl, inr}
 use native.Mathlib.Omega.{arith}
-use lib.ListN.{length, length-set}
-use borrow.Author.Rules.{rules}
-use Prim.Native.Nat.{◌+◌, ◌-◌, ◌≤◌}
-use Rattle.verdict_nogoods.specs.Table.{level_words, level_at, Empty}
+use lib.ListN.{length-set}
 use Rattle.verdict_nogoods.proofs.TableLaws.{empty_on, empty_all}
 use Rattle.verdict_nogoods.proofs.clear.Goals as goal
 

@@ -1,12 +1,8 @@
 -- `verdict_nogoods::clear` meets its contract. Assumes nothing.
-use mathlib.Core.Path.{◌≡◌, refl, ◌∙◌}
-use mathlib.Core.Logic.{inl, inr}
-use native.Mathlib.Omega.{arith}
-use lib.ListN.{length, length-set}
-use borrow.Author.Rules.{rules}
+use mathlib.Core.Path.{◌≡◌}
+use lib.ListN.{length}
 use Prim.Native.Nat.{◌+◌, ◌-◌, ◌≤◌}
 use Rattle.verdict_nogoods.specs.Table.{level_words, level_at, Empty}
-use Rattle.verdict_nogoods.proofs.TableLaws.{empty_on, empty_all}
 use Rattle.verdict_nogoods.proofs.clear.Given as goal
 
 abbrev pub invariant-loop-i : goal.invariant-loop-i

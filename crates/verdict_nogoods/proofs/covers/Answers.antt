@@ -1,11 +1,7 @@
 -- `verdict_nogoods::covers` meets its contract. Assumes nothing.
 use mathlib.Core.Bool.{false≢true}
 use native.Mathlib.Omega.{arith}
-use borrow.Author.Rules.{rules}
-use Prim.Native.Nat.{◌-◌, ◌≤◌}
-use Rattle.verdict_completion.specs.Completable.{at}
-use Rattle.verdict_nogoods.specs.Table.{reduction_in}
-use Rattle.verdict_nogoods.proofs.TableLaws.{PairedBelow, paired_start, paired_past, paired_on, paired_all}
+use Rattle.verdict_nogoods.proofs.TableLaws.{paired_start, paired_past, paired_on, paired_all}
 use Rattle.verdict_nogoods.proofs.covers.Goals as goal
 
 pub returns-then-stored-gt-REDUCTIONS_AT_MOST : goal.returns-then-stored-gt-REDUCTIONS_AT_MOST

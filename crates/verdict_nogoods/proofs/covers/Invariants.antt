@@ -1,11 +1,8 @@
 -- `verdict_nogoods::covers` meets its contract. Assumes nothing.
-use mathlib.Core.Bool.{false≢true}
-use native.Mathlib.Omega.{arith}
-use borrow.Author.Rules.{rules}
 use Prim.Native.Nat.{◌-◌, ◌≤◌}
 use Rattle.verdict_completion.specs.Completable.{at}
 use Rattle.verdict_nogoods.specs.Table.{reduction_in}
-use Rattle.verdict_nogoods.proofs.TableLaws.{PairedBelow, paired_start, paired_past, paired_on, paired_all}
+use Rattle.verdict_nogoods.proofs.TableLaws.{PairedBelow}
 use Rattle.verdict_nogoods.proofs.covers.Given as goal
 
 abbrev pub invariant-loop-d : goal.invariant-loop-d

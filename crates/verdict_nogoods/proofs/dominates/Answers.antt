@@ -1,6 +1,5 @@
 -- `verdict_nogoods::dominates` meets its contract. Assumes nothing.
 use mathlib.Core.Bool.{false≢true}
-use borrow.Author.Rules.{rules}
 use Rattle.verdict_nogoods.proofs.dominates.Goals as goal
 
 pub returns-then-table-p : goal.returns-then-table-p

@@ -1,10 +1,7 @@
 -- `verdict_nogoods::known` meets its contract. Assumes nothing.
 use mathlib.Core.Bool.{false≢true}
 use native.Mathlib.Omega.{arith}
-use borrow.Author.Rules.{rules}
-use Prim.Native.Nat.{◌-◌, ◌≤◌}
-use Rattle.verdict_nogoods.specs.Table.{ring_size, level_at}
-use Rattle.verdict_completion.specs.Completable.{at}
+use Prim.Native.Nat.{◌-◌}
 use Rattle.verdict_nogoods.proofs.known.Goals as goal
 
 pub returns-then-table-j : goal.returns-then-table-j

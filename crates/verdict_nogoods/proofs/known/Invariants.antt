@@ -1,8 +1,5 @@
 -- `verdict_nogoods::known` meets its contract. Assumes nothing.
-use mathlib.Core.Bool.{false≢true}
-use native.Mathlib.Omega.{arith}
-use borrow.Author.Rules.{rules}
-use Prim.Native.Nat.{◌-◌, ◌≤◌}
+use Prim.Native.Nat.{◌≤◌}
 use Rattle.verdict_nogoods.specs.Table.{ring_size, level_at}
 use Rattle.verdict_completion.specs.Completable.{at}
 use Rattle.verdict_nogoods.proofs.known.Given as goal

@@ -2,7 +2,6 @@
 use native.Mathlib.Nat.{pos_of_ne-zero}
 use native.Mathlib.Omega.{arith}
 use lib.ListN.{length-set}
-use borrow.Author.Rules.{rules}
 use Rattle.verdict_nogoods.proofs.TableLaws.{put_none, put_one}
 use Rattle.verdict_nogoods.proofs.put_reduction.Goals as goal
 

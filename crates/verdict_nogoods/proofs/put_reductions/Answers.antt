@@ -1,10 +1,6 @@
 -- `verdict_nogoods::put_reductions` meets its contract. Assumes nothing.
-use mathlib.Core.Path.{◌≡◌, refl, ◌∙◌}
+use mathlib.Core.Path.{refl, ◌∙◌}
 use native.Mathlib.Omega.{arith}
-use lib.ListN.{length}
-use borrow.Author.Rules.{rules}
-use Prim.Native.Nat.{◌-◌, ◌≤◌}
-use Rattle.verdict_nogoods.specs.Table.{PutAll}
 use Rattle.verdict_nogoods.proofs.TableLaws.{put_start, put_on, put_few, put_room, put_end}
 use Rattle.verdict_nogoods.proofs.put_reductions.Goals as goal
 

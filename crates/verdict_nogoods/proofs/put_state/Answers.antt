@@ -2,7 +2,6 @@
 use mathlib.Core.Path.{refl}
 use native.Mathlib.Omega.{arith}
 use lib.ListN.{length-set}
-use borrow.Author.Rules.{rules}
 use Rattle.verdict_nogoods.specs.Table.{words_written}
 use Rattle.verdict_nogoods.proofs.put_state.Goals as goal
 

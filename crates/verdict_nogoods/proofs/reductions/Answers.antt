@@ -1,8 +1,6 @@
 -- `verdict_nogoods::reductions` meets its contract. Assumes nothing.
-use mathlib.Core.Path.{◌≡◌, refl}
+use mathlib.Core.Path.{refl}
 use native.Mathlib.Omega.{arith}
-use borrow.Author.Rules.{rules}
-use Prim.Native.Nat.{◌-◌, ◌≤◌}
 use Rattle.verdict_nogoods.specs.Table.{outstanding_count}
 use Rattle.verdict_nogoods.proofs.TableLaws.{outstanding_count-next, outstanding_count-all}
 use Rattle.verdict_nogoods.proofs.reductions.Goals as goal

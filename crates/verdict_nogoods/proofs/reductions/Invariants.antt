@@ -1,10 +1,7 @@
 -- `verdict_nogoods::reductions` meets its contract. Assumes nothing.
-use mathlib.Core.Path.{◌≡◌, refl}
-use native.Mathlib.Omega.{arith}
-use borrow.Author.Rules.{rules}
+use mathlib.Core.Path.{◌≡◌}
 use Prim.Native.Nat.{◌-◌, ◌≤◌}
 use Rattle.verdict_nogoods.specs.Table.{outstanding_count}
-use Rattle.verdict_nogoods.proofs.TableLaws.{outstanding_count-next, outstanding_count-all}
 use Rattle.verdict_nogoods.proofs.reductions.Given as goal
 
 abbrev pub invariant-loop-i : goal.invariant-loop-i

@@ -3,7 +3,6 @@ use mathlib.Core.Path.{refl, sym, subst, ◌∙◌}
 use mathlib.Core.List.{List}
 use native.Mathlib.Omega.{arith}
 use lib.ListN.{set, length-set}
-use borrow.Author.Rules.{rules}
 use Prim.Native.Nat.{ℕ}
 use Rattle.verdict_completion.specs.Completable.{at}
 use Rattle.verdict_nogoods.specs.Table.{level_at, Remembered}

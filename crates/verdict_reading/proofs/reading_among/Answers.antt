@@ -1,5 +1,4 @@
 -- `verdict_reading::reading_among` meets its contract. Assumes nothing.
-use borrow.Author.Rules.{rules}
 use native.Mathlib.Omega.{arith}
 use mathlib.Core.Path.{sym, ◌∙◌}
 use Rattle.verdict_judging.proofs.Answers.{within, alone, count_few, rests_there, asked_there, least_there, told_short, told_none, told_pass, front_size, front_reading}
@@ -9,7 +8,7 @@ use Rattle.recording.specs.Words.{minutes_of}
 use Rattle.verdict_reading.proofs.reading_among.Goals as goal
 
 pub returns-then-reading-size : goal.returns-then-reading-size
-returns-then-reading-size c = let t = told_short c.args.words.now c.args.reading.now c.requires.0 c.if-reading-size.true in record { result_value = t.result; reading_after = t.buffer }
+returns-then-reading-size c = let t = told_short c.args.words.now c.args.reading.now c.requires.0 c.if-reading-size.true in record { answer = t.result; reading_after = t.buffer }
 
 pub rests_of-whole-requires : goal.rests_of-whole-requires
 unfolding minutes_of
@@ -81,7 +80,7 @@ pub returns-then-pass : goal.returns-then-pass
 returns-then-pass c = let rests = alone c.rests_of-whole.ensures in
     let lawful = sym c.if-pass.true ∙ asked_there rests c.requires.0 c.lawful_by-asked.ensures in
     let t = told_pass c.args.words.now c.args.reading.now c.requires.0 c.if-reading-size.false lawful
-    (λ f e. c.write_if.ensures.written c.if-pass.true f (least_there rests c.requires.0 e)) in record { result_value = t.result; reading_after = t.buffer }
+    (λ f e. c.write_if.ensures.written c.if-pass.true f (least_there rests c.requires.0 e)) in record { answer = t.result; reading_after = t.buffer }
 
 pub shape_of-starts : goal.shape_of-starts
 shape_of-starts c = c.rests_of-whole.auto.starts
@@ -95,4 +94,7 @@ shape_of-nets c = c.rests_of-whole.auto.nets
 -- a breach: nothing was written
 pub returns : goal.returns
 returns c = let unlawful = sym c.if-pass.false ∙ asked_there (alone c.rests_of-whole.ensures) c.requires.0 c.lawful_by-asked.ensures in
-    let t = told_none c.args.words.now c.args.reading.now c.requires.0 c.if-reading-size.false unlawful (c.write_if.ensures.left c.if-pass.false) in record { result_value = t.result; reading_after = t.buffer }
+    let t = told_none c.args.words.now c.args.reading.now c.requires.0 c.if-reading-size.false unlawful (c.write_if.ensures.left c.if-pass.false) in record {
+      answer = t.result;
+      reading_after = t.buffer;
+    }

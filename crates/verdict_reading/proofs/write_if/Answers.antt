@@ -1,6 +1,5 @@
 -- `verdict_reading::write_if` meets its contract. Assumes nothing.
 use mathlib.Core.Path.{refl}
-use borrow.Author.Rules.{rules}
 use Rattle.verdict_judging.proofs.Answers.{wrote, let_be}
 use Rattle.verdict_reading.proofs.write_if.Goals as goal
 

@@ -1,9 +1,7 @@
 -- `verdict_spans::in_front` meets its contract. Assumes nothing.
 use mathlib.Core.Path.{refl}
-use Prim.Native.Nat.{◌-◌}
 use native.Mathlib.Omega.{arith}
-use Rattle.verdict_spans.proofs.Putting.{Copying, start_copying, copy_on, copied}
-use borrow.Author.Rules.{rules}
+use Rattle.verdict_spans.proofs.Putting.{start_copying, copy_on, copied}
 use Rattle.verdict_spans.proofs.in_front.Goals as goal
 
 pub loop-i-init : goal.loop-i-init

@@ -1,9 +1,6 @@
 -- `verdict_spans::in_front` meets its contract. Assumes nothing.
-use mathlib.Core.Path.{refl}
 use Prim.Native.Nat.{◌-◌}
-use native.Mathlib.Omega.{arith}
-use Rattle.verdict_spans.proofs.Putting.{Copying, start_copying, copy_on, copied}
-use borrow.Author.Rules.{rules}
+use Rattle.verdict_spans.proofs.Putting.{Copying}
 use Rattle.verdict_spans.proofs.in_front.Given as goal
 
 abbrev pub invariant-loop-i : goal.invariant-loop-i

@@ -3,7 +3,6 @@ use mathlib.Core.Path.{refl, ap, subst}
 use native.Mathlib.Omega.{arith}
 use Rattle.verdict_judging.specs.Judgements.{finding_by}
 use Rattle.verdict_spans.specs.Mondays.{Sound}
-use borrow.Author.Rules.{rules}
 use Rattle.verdict_spans.proofs.last_week.Goals as goal
 
 pub overflow_sub-result : goal.overflow_sub-result

@@ -1,6 +1,5 @@
 -- `verdict_spans::next_of` meets its contract. Assumes nothing.
 use mathlib.Core.Path.{refl}
-use borrow.Author.Rules.{rules}
 use Rattle.verdict_spans.proofs.next_of.Goals as goal
 
 pub returns : goal.returns

@@ -1,10 +1,8 @@
 -- `verdict_spans::put_spans` meets its contract. Assumes nothing.
-use mathlib.Core.Path.{◌≡◌, refl, sym, ap, ◌∙◌}
+use mathlib.Core.Path.{refl, sym, ap, ◌∙◌}
 use native.Mathlib.Omega.{arith}
-use lib.ListN.{length}
 use Rattle.rules.specs.Spans.{weeks_begun}
-use Rattle.verdict_spans.proofs.Putting.{Putting, start_putting, monday_there, monday_reached, week_low, verdict_sound, last_is, put_none, place_there, place_low, put_one, put_done}
-use borrow.Author.Rules.{rules}
+use Rattle.verdict_spans.proofs.Putting.{start_putting, monday_there, monday_reached, week_low, verdict_sound, last_is, put_none, place_there, place_low, put_one, put_done}
 use Rattle.verdict_spans.proofs.put_spans.Goals as goal
 
 pub weeks_begun-weeks-requires : goal.weeks_begun-weeks-requires

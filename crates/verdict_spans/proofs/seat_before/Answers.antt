@@ -1,8 +1,6 @@
 -- `verdict_spans::seat_before` meets its contract. Assumes nothing.
 use native.Mathlib.Omega.{arith}
-use Rattle.verdict_spans.specs.Mondays.{Reaches}
 use Rattle.verdict_spans.proofs.Seats.{seat_some, seat_within, seat_back, seat_found}
-use borrow.Author.Rules.{rules}
 use Rattle.verdict_spans.proofs.seat_before.Goals as goal
 
 pub loop-start-init : goal.loop-start-init

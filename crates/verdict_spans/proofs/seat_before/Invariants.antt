@@ -1,8 +1,5 @@
 -- `verdict_spans::seat_before` meets its contract. Assumes nothing.
-use native.Mathlib.Omega.{arith}
 use Rattle.verdict_spans.specs.Mondays.{Reaches}
-use Rattle.verdict_spans.proofs.Seats.{seat_some, seat_within, seat_back, seat_found}
-use borrow.Author.Rules.{rules}
 use Rattle.verdict_spans.proofs.seat_before.Given as goal
 
 abbrev pub invariant-loop-start : goal.invariant-loop-start

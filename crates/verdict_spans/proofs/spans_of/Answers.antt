@@ -4,7 +4,6 @@ use mathlib.Core.Path.{refl, ap}
 use Rattle.recording.specs.declared.Measure.{Measure}
 use Rattle.recording.proofs.Listing.{refused_there, measured_there, measured_is}
 use Rattle.verdict_spans.proofs.Putting.{found_refused, found_short, found_done}
-use borrow.Author.Rules.{rules}
 use Rattle.verdict_spans.proofs.spans_of.Goals as goal
 
 pub returns-in_default : goal.returns-in_default

@@ -1,7 +1,6 @@
 -- `verdict_spans::spans_within` meets its contract. Assumes nothing.
 use mathlib.Core.Path.{refl}
 use Rattle.verdict_spans.proofs.Putting.{spans_listed}
-use borrow.Author.Rules.{rules}
 use Rattle.verdict_spans.proofs.spans_within.Goals as goal
 
 pub returns : goal.returns

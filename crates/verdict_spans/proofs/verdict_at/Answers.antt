@@ -7,7 +7,6 @@ use Rattle.recording.specs.Answers.{answered}
 use Rattle.rules.specs.Verdict.{verdict}
 use Rattle.rules.specs.Operations.{finding_of}
 use Rattle.verdict_spans.proofs.Seats.{seat_room, from_seat, seat_total, seat_limit}
-use borrow.Author.Rules.{rules}
 use Rattle.verdict_spans.proofs.verdict_at.Goals as goal
 
 pub bounds-words-index : goal.bounds-words-index

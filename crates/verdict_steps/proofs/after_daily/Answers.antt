@@ -1,5 +1,4 @@
 -- `verdict_steps::after_daily` meets its contract. Assumes nothing.
-use borrow.Author.Rules.{rules}
 use Rattle.verdict_steps.proofs.StepLaws.{same_after}
 use Rattle.verdict_steps.proofs.after_daily.Goals as goal
 

@@ -1,6 +1,5 @@
 -- `verdict_steps::after_weekly` meets its contract. Assumes nothing.
 use mathlib.Core.Path.{ap}
-use borrow.Author.Rules.{rules}
 use Rattle.verdict_completion.specs.declared.Counts.{Counts}
 use Rattle.verdict_steps.proofs.after_weekly.Goals as goal
 

@@ -1,6 +1,5 @@
 -- `verdict_steps::as_weekly` meets its contract. Assumes nothing.
 use mathlib.Core.Path.{ap}
-use borrow.Author.Rules.{rules}
 use Rattle.rules.specs.declared.Kind.TheVariants.{Weekly}
 use Rattle.verdict_steps.proofs.as_weekly.Goals as goal
 

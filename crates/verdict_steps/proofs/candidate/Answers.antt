@@ -1,9 +1,7 @@
 -- `verdict_steps::candidate` meets its contract. Assumes nothing.
 use native.Mathlib.Omega.{arith}
 use native.Mathlib.Nat.{le_refl}
-use borrow.Author.Rules.{rules}
-use Prim.Native.Nat.{◌-◌, ◌≤◌}
-use Rattle.verdict_steps.proofs.StepLaws.{Passed, passed_start, passed_on}
+use Rattle.verdict_steps.proofs.StepLaws.{passed_start, passed_on}
 use Rattle.verdict_steps.proofs.candidate.Goals as goal
 
 pub loop-d-init : goal.loop-d-init

@@ -1,7 +1,6 @@
 -- `verdict_steps::compensable` meets its contract. Assumes nothing.
 use native.Mathlib.Omega.{arith}
 use native.Mathlib.Nat.{pos_of_ne-zero}
-use borrow.Author.Rules.{rules}
 use borrow.Author.Tests.{leb-true, leb-false}
 use Rattle.verdict_steps.proofs.StepLaws.{says_no, not_le}
 use Rattle.verdict_steps.proofs.compensable.Goals as goal

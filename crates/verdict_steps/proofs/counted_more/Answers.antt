@@ -1,6 +1,5 @@
 -- `verdict_steps::counted_more` meets its contract. Assumes nothing.
 use mathlib.Core.Path.{sym}
-use borrow.Author.Rules.{rules}
 use Rattle.verdict_steps.proofs.StepLaws.{no_more}
 use Rattle.verdict_steps.proofs.counted_more.Goals as goal
 

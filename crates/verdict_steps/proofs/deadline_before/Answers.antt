@@ -1,7 +1,6 @@
 -- `verdict_steps::deadline_before` meets its contract. Assumes nothing.
 use native.Mathlib.Omega.{arith}
 use native.Mathlib.Nat.{pos_of_ne-zero}
-use borrow.Author.Rules.{rules}
 use borrow.Author.Tests.{leb-true, leb-false}
 use Rattle.verdict_steps.proofs.StepLaws.{says_no, deadline_before, not_before}
 use Rattle.verdict_steps.proofs.deadline_before.Goals as goal

@@ -1,6 +1,5 @@
 -- `verdict_steps::in_rest` meets its contract. Assumes nothing.
 use mathlib.Core.Path.{sym}
-use borrow.Author.Rules.{rules}
 use Rattle.verdict_steps.proofs.NearRests.{past_rests}
 use Rattle.verdict_steps.proofs.in_rest.Goals as goal
 

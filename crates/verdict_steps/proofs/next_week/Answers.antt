@@ -1,5 +1,4 @@
 -- `verdict_steps::next_week` meets its contract. Assumes nothing.
-use borrow.Author.Rules.{rules}
 use Rattle.verdict_steps.proofs.next_week.Goals as goal
 
 pub fresh_counts-current-requires : goal.fresh_counts-current-requires

@@ -1,5 +1,4 @@
 -- `verdict_steps::outstanding_of` meets its contract. Assumes nothing.
-use borrow.Author.Rules.{rules}
 use mathlib.Core.Path.{ap}
 use native.Mathlib.Omega.{arith}
 use Rattle.rules.specs.Reading.{reduction_of}

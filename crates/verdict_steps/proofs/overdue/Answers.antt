@@ -2,9 +2,7 @@
 use mathlib.Core.Bool.{true≢false}
 use native.Mathlib.Nat.{le_refl}
 use native.Mathlib.Omega.{arith}
-use borrow.Author.Rules.{rules}
-use Prim.Native.Nat.{◌≤◌}
-use Rattle.verdict_steps.proofs.StepLaws.{says_no, InTime, in_time_start, in_time_on, is_overdue, none_overdue}
+use Rattle.verdict_steps.proofs.StepLaws.{says_no, in_time_start, in_time_on, is_overdue, none_overdue}
 use Rattle.verdict_steps.proofs.overdue.Goals as goal
 
 pub loop-i-init : goal.loop-i-init

@@ -1,5 +1,4 @@
 -- `verdict_steps::pair_kept` meets its contract. Assumes nothing.
-use borrow.Author.Rules.{rules}
 use borrow.Author.Tests.{eq-eqb, ne_eqb, le-leb, lt-leb}
 use Rattle.recording.specs.Tests.{◌and◌, ◌or◌}
 use Rattle.verdict_completion.specs.States.{pair_kept}

@@ -1,6 +1,5 @@
 -- `verdict_steps::rest_near` meets its contract. Assumes nothing.
 use mathlib.Core.Path.{sym, ◌∙◌}
-use borrow.Author.Rules.{rules}
 use Rattle.verdict_steps.proofs.NearRests.{rest_found, near_none, near_before}
 use Rattle.verdict_steps.proofs.rest_near.Goals as goal
 
