@@ -12,18 +12,17 @@ use lib.Seq.{drop-cons, drop-length, sets, length-sets}
 use borrow.Author.Tests.{eq-eqb, ne_eqb, lt-ltb, le-ltb, leb-true, leb-false}
 use Rattle.recording.specs.Tests.{◌or◌, pick, one}
 use Rattle.recording.specs.Answers.{Answer, refused, answered, and_then, refuse_if, counted, filled}
-use Rattle.recording.specs.Words.{activities, minutes_in, activity_in, minutes_of}
-use Rattle.recording.specs.Operations.{total_at_most, fault_of, total_from, measure_of, measured}
+use Rattle.recording.specs.Words.{code_of, IsRunOf, minutes_in, activity_in, minutes_of}
+use Rattle.recording.specs.Operations.{total_at_most, fault_of, unless_fault, total_from, measure_of, measured}
 use Rattle.recording.proofs.TestLaws.{less_or_not, one_most}
-use Rattle.recording.proofs.WordLaws.{NoFault, no_fault_is, total_on, total_fault, total_done}
+use Rattle.recording.proofs.WordLaws.{NoFault, no_fault, total_after_on, total_after_fault, total_done}
 use Rattle.recording.specs.declared.Measure.{Measure}
+use Rattle.recording.specs.declared.Run.{Run}
 use Rattle.recording.proofs.Listing.{measured_is}
 use Rattle.recording.proofs.Slices.{sets_append, put_in_front}
 use Rattle.card_reader.specs.Form.{byte_values, day_minutes, bytes_of}
 use Rattle.card.specs.Writing.{change_of, is_written, change_if, changes_from, changes_of, record_of_minutes, is_whole_days, card_written}
-use Rattle.card.specs.Sizes.{changes_in_run, changes_counted, sized, refusal_in, PutIf}
-use Rattle.card.specs.declared.Size.{Size}
-use Rattle.card.specs.declared.Size.TheVariants as size
+use Rattle.card.specs.Sizes.{changes_in_run, changes_counted}
 use Rattle.card_reader.proofs.FormLaws.{bytes_length}
 
 -- ---- a part of a run that its day can take has one change or none
@@ -88,7 +87,8 @@ run_changes m before a zero ms l =
     length-append (change_if m before a) (changes_from (suc m % day_minutes) a ms) ∙ omega (arith, length_if m before a, in_run m before a 0, k)
 run_changes m before a (suc n) ms l =
     let q : (suc m % day_minutes + suc n) % day_minutes ≡ (m + suc (suc n)) % day_minutes = omega arith in
-    let k : length (changes_from ((suc m % day_minutes + suc n) % day_minutes) a ms) ≡ length (changes_from ((m + suc (suc n)) % day_minutes) a ms) = ap (λ (n : ℕ). length (changes_from n a ms)) q in
+    let k : length (changes_from ((suc m % day_minutes + suc n) % day_minutes) a ms) ≡ length (changes_from ((m + suc (suc n)) % day_minutes) a ms) =
+    ap (λ (n : ℕ). length (changes_from n a ms)) q in
     length-append (change_if m before a) (changes_from (suc m % day_minutes) a (replicate (suc n) a ++ ms))
     ∙ omega (
       arith,
@@ -143,51 +143,70 @@ unfolding changes_in_run
 few_in_run m before a n h l = omega (arith, one_most (is_written m before a))
 
 module _ {words : List ℕ} {sum before changes i : ℕ} (k : Counting words sum before changes i) where
-  module _ {fault : ℕ} (h : i < length words) (e : fault ≡ fault_of sum (get_or words i 0)) where
-    pub count_fault : (fault ≡ 0 → ⊥) → refused fault ≡ changes_counted words
-    unfolding changes_counted measured
-    count_fault n =
-        let g : total_from 0 words ≡ refused fault = k.same_total ∙ total_fault words sum i h (λ z. n (e ∙ z)) ∙ ap refused (sym e) in
-        rw g
+  module _ (h : i < length words) where
+    abbrev word_there : ℕ
+    word_there = get_or words i 0
 
     abbrev minutes_there : ℕ
-    minutes_there = minutes_in (get_or words i 0)
+    minutes_there = minutes_in word_there
 
     abbrev activity_there : ℕ
-    activity_there = activity_in (get_or words i 0)
+    activity_there = activity_in word_there
 
-    module _ {r : ℕ} (z : fault ≡ 0) (q : r ≡ changes_in_run (sum % day_minutes) before activity_there minutes_there) where
-      none : NoFault sum (get_or words i 0)
-      none = no_fault_is sum (get_or words i 0) (sym e ∙ z)
+    pub count_fault : {n : ℕ} → refused n ≡ unless_fault (fault_of sum word_there) (answered (sum + minutes_there)) → refused n ≡ changes_counted words
+    unfolding changes_counted measured
+    count_fault q = rw (k.same_total ∙ total_after_fault words sum i h (sym q)) refl
 
-      pub record Within : Type 0 where
-        pub changes_few : changes + r ≤ sum + minutes_there
-        pub total_few : sum + minutes_there ≤ total_at_most
+    module _ {total : ℕ} {run : Run} (e : answered total ≡ unless_fault (fault_of sum word_there) (answered (sum + minutes_there))) (there : IsRunOf word_there run) where
+      none : NoFault sum word_there
+      none = (no_fault sum word_there total _ (sym e)).0
 
-      pub count_within : Within
-      count_within = record {
-        changes_few = omega (arith, k.few, q, few_in_run (sum % day_minutes) before activity_there minutes_there (omega arith) none.some);
-        total_few = none.within;
-      }
+      total_is : total ≡ sum + minutes_there
+      total_is = sym (ap value (no_fault sum word_there total _ (sym e)).1)
+        where
+          value : Answer ℕ → ℕ
+          value (answered a) = a
+          value (refused n) = 0
 
-      counted_word : length (changes_from (sum % day_minutes) before (minutes_of (drop i words)))
-          ≡ changes_in_run (sum % day_minutes) before activity_there minutes_there
-          + length (changes_from ((sum + minutes_there) % day_minutes) activity_there (minutes_of (drop (i + 1) words)))
-      counted_word =
-          let p : (sum % day_minutes + minutes_there) % day_minutes ≡ (sum + minutes_there) % day_minutes = omega arith in
-          ap (λ (l : List ℕ). length (changes_from (sum % day_minutes) before l)) (next_word words i h)
-          ∙ run_counted (sum % day_minutes) before activity_there minutes_there (minutes_of (drop (i + 1) words)) (omega arith) none.some
-          ∙ ap (λ (n : ℕ). changes_in_run (sum % day_minutes) before activity_there minutes_there + length (changes_from n activity_there (minutes_of (drop (i + 1) words)))) p
+      pub record Fitting : Type 0 where
+        pub some : 1 ≤ run.minutes
+        pub most : run.minutes ≤ total_at_most
 
-      pub count_on : Counting words (sum + minutes_there) activity_there (changes + r) (i + 1)
-      count_on = record {
-        place = omega arith;
-        within = none.within;
-        same_total = k.same_total ∙ total_on words sum i h (sym e ∙ z);
-        minutes = omega (arith, k.minutes, next_length words i h);
-        same_changes = omega (arith, k.same_changes, q, counted_word);
-        few = count_within.changes_few;
-      }
+      pub run_within : Fitting
+      run_within = record { some = omega (arith, there.minutes, none.some); most = omega (arith, there.minutes, none.within) }
+
+      module _ {r : ℕ} (q : r ≡ changes_in_run (sum % day_minutes) before (code_of run.activity) run.minutes) where
+        changes_there : r ≡ changes_in_run (sum % day_minutes) before activity_there minutes_there
+        changes_there = q ∙ rw (there.activity, there.minutes) refl
+
+        pub record Within : Type 0 where
+          pub changes_few : changes + r ≤ total
+          pub total_few : total ≤ total_at_most
+
+        pub count_within : Within
+        count_within = record {
+          changes_few = omega (arith, k.few, changes_there, total_is, few_in_run (sum % day_minutes) before activity_there minutes_there (omega arith) none.some);
+          total_few = omega (arith, total_is, none.within);
+        }
+
+        counted_word : length (changes_from (sum % day_minutes) before (minutes_of (drop i words)))
+            ≡ changes_in_run (sum % day_minutes) before activity_there minutes_there
+            + length (changes_from (total % day_minutes) activity_there (minutes_of (drop (i + 1) words)))
+        counted_word =
+            let p : (sum % day_minutes + minutes_there) % day_minutes ≡ total % day_minutes = omega (arith, total_is) in
+            ap (λ (l : List ℕ). length (changes_from (sum % day_minutes) before l)) (next_word words i h)
+            ∙ run_counted (sum % day_minutes) before activity_there minutes_there (minutes_of (drop (i + 1) words)) (omega arith) none.some
+            ∙ ap (λ (n : ℕ). changes_in_run (sum % day_minutes) before activity_there minutes_there + length (changes_from n activity_there (minutes_of (drop (i + 1) words)))) p
+
+        pub count_on : Counting words total (code_of run.activity) (changes + r) (i + 1)
+        count_on = record {
+          place = omega arith;
+          within = count_within.total_few;
+          same_total = k.same_total ∙ (total_after_on words sum i h (sym e)).1;
+          minutes = omega (arith, k.minutes, next_length words i h, total_is);
+          same_changes = rw there.activity (omega (arith, k.same_changes, changes_there, counted_word));
+          few = count_within.changes_few;
+        }
 
   module _ (d : i ≡ length words) where
     all_weighed : measured words ≡ answered (measure_of (minutes_of words))
@@ -211,18 +230,6 @@ module _ {words : List ℕ} {sum before changes i : ℕ} (k : Counting words sum
     unfolding changes_counted is_whole_days
     count_done z = rw (all_weighed, sym sum_is, eq-eqb (sum % day_minutes) 0 z) (ap answered changes_are)
 
--- ---- a change put at a place
-pub put_two : {bytes bytes' bytes'' : List ℕ} {at c : ℕ} → bytes' ≡ set bytes at (c / byte_values) → bytes'' ≡ set bytes' (at + 1) (c % byte_values)
-    → PutIf true bytes at c (at + 2) bytes''
-unfolding bytes_of
-put_two p q = record { next_is = refl; bytes_are = q ∙ rw (p, add-one) }
-
-pub two_length : (bytes : List ℕ) (at a b : ℕ) {bytes' bytes'' : List ℕ} → bytes' ≡ set bytes at a → bytes'' ≡ set bytes' (at + 1) b → length bytes'' ≡ length bytes
-two_length bytes at a b {bytes'} p q = ap length q ∙ length-set bytes' (at + 1) b ∙ ap length p ∙ length-set bytes at a
-
-pub put_none : (bytes : List ℕ) (at c : ℕ) → PutIf false bytes at c at bytes
-put_none bytes at c = record { next_is = omega arith; bytes_are = refl }
-
 -- ---- the second pass over the words
 bytes_append : (xs ys : List ℕ) → bytes_of (xs ++ ys) ≡ bytes_of xs ++ bytes_of ys
 unfolding bytes_of
@@ -230,85 +237,92 @@ bytes_append [] ys = refl
 bytes_append (x ∷ xs) ys = ap (λ (l : List ℕ). x / byte_values ∷ x % byte_values ∷ l) (bytes_append xs ys)
 
 -- the change of a part, where it has one
-record PutPart (bytes : List ℕ) (at : ℕ) (cs : List ℕ) (next : ℕ) (bytes' : List ℕ) : Type 0 where
-  next_is : next ≡ at + length (bytes_of cs)
-  bytes_are : bytes' ≡ sets bytes at (bytes_of cs)
+pub record PutPart (bytes : List ℕ) (at : ℕ) (cs : List ℕ) (next : ℕ) (bytes' : List ℕ) : Type 0 where
+  pub next_is : next ≡ at + length (bytes_of cs)
+  pub few : length cs ≤ 1
+  pub bytes_are : bytes' ≡ sets bytes at (bytes_of cs)
 
-put_part : (minute before activity : ℕ) {bytes bytes' : List ℕ} {at c next : ℕ} {wanted : Bool} → wanted ≡ is_written minute before activity → c ≡ change_of activity minute
-    → PutIf wanted bytes at c next bytes' → PutPart bytes at (change_if minute before activity) next bytes'
-unfolding change_if bytes_of
-put_part minute before activity {bytes} {bytes'} {at} {c} {next} {wanted} t v k = rw (sym t, sym v) (go wanted k)
-  where
-    go : (b : Bool) → PutIf b bytes at c next bytes' → PutPart bytes at (pick b (c ∷ []) []) next bytes'
-    go true k = record { next_is = omega (arith, k.next_is); bytes_are = k.bytes_are }
-    go false k = record { next_is = omega (arith, k.next_is); bytes_are = k.bytes_are }
+module _ (minute before activity : ℕ) {bytes : List ℕ} {at : ℕ} where
+  pub put_two : {bytes' bytes'' : List ℕ} {c : ℕ} → true ≡ is_written minute before activity → c ≡ change_of activity minute
+      → bytes' ≡ set bytes at (c / byte_values) → bytes'' ≡ set bytes' (at + 1) (c % byte_values) → PutPart bytes at (change_if minute before activity) (at + 2) bytes''
+  unfolding change_if bytes_of
+  put_two t v p q = rw (sym t, sym v) (record { next_is = omega arith; few = omega arith; bytes_are = q ∙ rw (p, add-one) refl })
+
+  pub put_none : false ≡ is_written minute before activity → PutPart bytes at (change_if minute before activity) at bytes
+  unfolding change_if bytes_of
+  put_none t = rw (sym t) (record { next_is = omega arith; few = omega arith; bytes_are = refl })
 
 -- what is left, put from here on, makes what the whole makes
-pub record Putting (words bytes₀ bytes : List ℕ) (at minute before activity n i : ℕ) : Type 0 where
-  pub place : i ≤ length words
-  pub code : activity < activities
+pub record Putting (bytes₀ : List ℕ) (at₀ : ℕ) (whole bytes : List ℕ) (at minute before activity n : ℕ) (later : List ℕ) : Type 0 where
   pub day : minute < day_minutes
-  pub room : at + 2 * (n + length (minutes_of (drop i words))) ≤ 2 * total_at_most
-  pub same : sets bytes₀ 0 (record_of_minutes (minutes_of words)) ≡ sets bytes at (bytes_of (changes_from minute before (replicate n activity ++ minutes_of (drop i words))))
+  pub room : at + 2 * (n + length later) ≤ 2 * total_at_most
+  pub same : sets bytes₀ at₀ whole ≡ sets bytes at (bytes_of (changes_from minute before (replicate n activity ++ later)))
 
-pub start_putting : (words bytes : List ℕ) → length (minutes_of words) ≤ total_at_most → Putting words bytes bytes 0 0 0 0 0 0
-start_putting words bytes h = record { place = omega arith; code = omega arith; day = omega arith; room = omega arith; same = refl }
+pub start_putting : (words bytes : List ℕ) → length (minutes_of words) ≤ total_at_most
+    → Putting bytes 0 (record_of_minutes (minutes_of words)) bytes 0 0 0 0 0 (minutes_of words)
+start_putting words bytes h = record { day = omega arith; room = omega arith; same = refl }
 
-module _ {words bytes₀ bytes : List ℕ} {at minute before activity n i : ℕ} (p : Putting words bytes₀ bytes at minute before activity n i) where
-  pub fetch_on : i < length words → n ≡ 0 → Putting words bytes₀ bytes at minute before (activity_in (get_or words i 0)) (minutes_in (get_or words i 0)) (i + 1)
-  fetch_on h z = record {
-    place = omega arith;
-    code = omega arith;
-    day = p.day;
-    room = omega (arith, p.room, next_length words i h);
-    same = p.same ∙ ap (λ (k : ℕ). sets bytes at (bytes_of (changes_from minute before (replicate k activity ++ minutes_of (drop i words))))) z
-        ∙ ap (λ (l : List ℕ). sets bytes at (bytes_of (changes_from minute before l))) (next_word words i h);
-  }
+module _ {bytes₀ whole bytes later : List ℕ} {at₀ at minute before activity n : ℕ} (p : Putting bytes₀ at₀ whole bytes at minute before activity n later) where
+  -- from here on
+  pub from_here : Putting bytes at (bytes_of (changes_from minute before (replicate n activity ++ later))) bytes at minute before activity n later
+  from_here = record { day = p.day; room = p.room; same = refl }
 
-  pub put_done : n ≡ 0 → i ≡ length words → bytes ≡ sets bytes₀ 0 (record_of_minutes (minutes_of words))
-  unfolding minutes_of changes_from bytes_of
-  put_done z d = sym (p.same ∙ rw (z, none_left words i d))
+  pub further : {bytes' later' : List ℕ} {at' minute' before' activity' n' : ℕ}
+      → Putting bytes at (bytes_of (changes_from minute before (replicate n activity ++ later))) bytes' at' minute' before' activity' n' later'
+      → Putting bytes₀ at₀ whole bytes' at' minute' before' activity' n' later'
+  further q = record { day = q.day; room = q.room; same = p.same ∙ q.same }
 
-  pub put_length : length bytes ≡ length bytes₀
-  put_length =
-      sym (length-sets bytes at (bytes_of (changes_from minute before (replicate n activity ++ minutes_of (drop i words))))) ∙ sym (ap length p.same)
-      ∙ length-sets bytes₀ 0 (record_of_minutes (minutes_of words))
+  pub run_done : n ≡ 0 → Putting bytes₀ at₀ whole bytes at minute before 0 0 later
+  run_done z = record { day = p.day; room = omega (arith, p.room); same = p.same ∙ rw z refl }
 
-  pub part_on : {part c next : ℕ} {wanted : Bool} {bytes' : List ℕ} → (n ≡ 0 → ⊥) → part ≡ min n (day_minutes - minute) → wanted ≡ is_written minute before activity
-      → c ≡ change_of activity minute → PutIf wanted bytes at c next bytes'
-      → Putting words bytes₀ bytes' next ((minute + part) % day_minutes) activity activity (n - part) i
-  part_on {part} {c} {next} {wanted} {bytes'} z q t v k = record {
-    place = p.place;
-    code = p.code;
+  pub put_done : n ≡ 0 → later ≡ [] → bytes ≡ sets bytes₀ at₀ whole
+  unfolding changes_from bytes_of
+  put_done z d = sym (p.same ∙ rw (z, d) refl)
+
+  pub part_on : {part next : ℕ} {bytes' : List ℕ} → (n ≡ 0 → ⊥) → part ≡ min n (day_minutes - minute)
+      → PutPart bytes at (change_if minute before activity) next bytes'
+      → Putting bytes₀ at₀ whole bytes' next ((minute + part) % day_minutes) activity activity (n - part) later
+  part_on {part} {next} {bytes'} z q put = record {
     day = omega arith;
-    room = omega (arith, p.room, q, p.day, k.next_is, one_most wanted);
+    room = omega (arith, p.room, q, p.day, put.next_is, put.few, bytes_length (change_if minute before activity));
     same = p.same ∙ cut;
   }
     where
-      put : PutPart bytes at (change_if minute before activity) next bytes'
-      put = put_part minute before activity t v k
-
       left : List ℕ
-      left = replicate (n - part) activity ++ minutes_of (drop i words)
+      left = replicate (n - part) activity ++ later
 
-      parted : replicate n activity ++ minutes_of (drop i words) ≡ replicate part activity ++ left
+      parted : replicate n activity ++ later ≡ replicate part activity ++ left
       parted =
           let s : n ≡ part + (n - part) = omega (arith, q) in
-          ap (λ (l : List ℕ). l ++ minutes_of (drop i words)) (ap (λ (j : ℕ). replicate j activity) s ∙ sym (replicate-append-replicate part (n - part) activity))
-          ∙ append_assoc (replicate part activity) (replicate (n - part) activity) (minutes_of (drop i words))
+          ap (λ (l : List ℕ). l ++ later) (ap (λ (j : ℕ). replicate j activity) s ∙ sym (replicate-append-replicate part (n - part) activity))
+          ∙ append_assoc (replicate part activity) (replicate (n - part) activity) later
 
-      later : List ℕ
-      later = changes_from ((minute + part) % day_minutes) activity left
+      after : List ℕ
+      after = changes_from ((minute + part) % day_minutes) activity left
 
-      changes : changes_from minute before (replicate n activity ++ minutes_of (drop i words)) ≡ change_if minute before activity ++ later
+      changes : changes_from minute before (replicate n activity ++ later) ≡ change_if minute before activity ++ after
       changes = ap (changes_from minute before) parted ∙ part_changes minute before activity part left (omega (arith, q, p.day)) (omega (arith, q, p.day))
 
-      cut : sets bytes at (bytes_of (changes_from minute before (replicate n activity ++ minutes_of (drop i words)))) ≡ sets bytes' next (bytes_of later)
+      cut : sets bytes at (bytes_of (changes_from minute before (replicate n activity ++ later))) ≡ sets bytes' next (bytes_of after)
       cut =
           ap (λ (l : List ℕ). sets bytes at (bytes_of l)) changes
-          ∙ ap (sets bytes at) (bytes_append (change_if minute before activity) later)
-          ∙ sets_append bytes at (bytes_of (change_if minute before activity)) (bytes_of later)
-          ∙ rw (put.bytes_are, put.next_is)
+          ∙ ap (sets bytes at) (bytes_append (change_if minute before activity) after)
+          ∙ sets_append bytes at (bytes_of (change_if minute before activity)) (bytes_of after)
+          ∙ rw (put.bytes_are, put.next_is) refl
+
+-- the next word
+pub fetch_on : (words : List ℕ) {bytes₀ whole bytes : List ℕ} {at₀ at minute before i : ℕ} {run : Run} → Putting bytes₀ at₀ whole bytes at minute before 0 0 (minutes_of (drop i words))
+    → i < length words → IsRunOf (get_or words i 0) run
+    → Putting bytes₀ at₀ whole bytes at minute before (code_of run.activity) run.minutes (minutes_of (drop (i + 1) words))
+fetch_on words {bytes = bytes} {at = at} {minute = minute} {before = before} {i = i} p h r = record {
+  day = p.day;
+  room = omega (arith, p.room, next_length words i h, r.minutes);
+  same = p.same ∙ ap (λ (l : List ℕ). sets bytes at (bytes_of (changes_from minute before l))) (next_word words i h) ∙ rw (r.activity, r.minutes) refl;
+}
+
+pub none_to_put : (words : List ℕ) (i : ℕ) → i ≡ length words → minutes_of (drop i words) ≡ []
+unfolding minutes_of
+none_to_put words i e = ap minutes_of (none_left words i e)
 
 -- ---- what stands at each return of writing
 pub counted_words : (words : List ℕ) (room : ℕ) → card_written words room
@@ -357,14 +371,12 @@ module _ (words bytes : List ℕ) where
   by_count : {a : Answer ℕ} → changes_counted words ≡ a → card_written words (length bytes) ≡ and_then a if_room
   by_count e = counted_words words (length bytes) ∙ ap (λ (a : Answer ℕ). and_then a if_room) e
 
-  pub not_counted : {s : Size} {n f : ℕ} → sized s ≡ changes_counted words → s ≡ size.Refused n → f ≡ refusal_in s → WriteCard (refused f) bytes
-  not_counted {s} {n} {f} e q h =
-      let g : card_written words (length bytes) ≡ refused f = by_count (sym e ∙ ap sized q ∙ ap refused (sym (h ∙ ap refusal_in q))) in
-      record { answer = rw g; content = rw g }
+  pub not_counted : {f : ℕ} → changes_counted words ≡ refused f → WriteCard (refused f) bytes
+  not_counted e = let g = by_count e in record { answer = rw g refl; content = rw g refl }
 
-  module _ {s : Size} {n : ℕ} (e : sized s ≡ changes_counted words) (q : s ≡ size.Changes n) where
+  module _ {n : ℕ} (e : changes_counted words ≡ answered n) where
     counted_there : Counted words n
-    counted_there = counted_is words (sym e ∙ ap sized q)
+    counted_there = counted_is words e
 
     pub total_few : length (minutes_of words) ≤ total_at_most
     total_few = counted_there.within
@@ -372,21 +384,17 @@ module _ (words bytes : List ℕ) where
     pub count_few : n ≤ total_at_most
     count_few = omega (arith, counted_there.changes, few_changes 0 0 (minutes_of words), total_few)
 
-    module _ {bytes' : List ℕ} (put : bytes' ≡ pick (leb (2 * n) (length bytes)) (sets bytes 0 (record_of_minutes (minutes_of words))) bytes) where
-      pub few_bytes : leb (2 * n) (length bytes) ≡ false → WriteCard (refused 10) bytes'
-      few_bytes h =
-          let t : ltb (length bytes) (2 * n) ≡ true = lt-ltb (length bytes) (2 * n) (leb-false (2 * n) (length bytes) h) in
-          let g : card_written words (length bytes) ≡ refused 10 = by_count (sym e ∙ ap sized q) ∙ rw t in
-          record { answer = rw g; content = put ∙ rw (h, g) }
+    pub few_bytes : length bytes < 2 * n → WriteCard (refused 10) bytes
+    few_bytes h =
+        let g : card_written words (length bytes) ≡ refused 10 = by_count e ∙ rw (lt-ltb (length bytes) (2 * n) h) refl in
+        record { answer = rw g refl; content = rw g refl }
 
-      pub all_written : leb (2 * n) (length bytes) ≡ true → WriteCard (answered (2 * n)) bytes'
-      all_written h =
-          let l : 2 * n ≤ length bytes = leb-true (2 * n) (length bytes) h in
-          let t : ltb (length bytes) (2 * n) ≡ false = le-ltb (length bytes) (2 * n) l in
-          let g : card_written words (length bytes) ≡ answered (record_of_minutes (minutes_of words)) = by_count (sym e ∙ ap sized q) ∙ rw t in
-          let s : length (record_of_minutes (minutes_of words)) ≡ 2 * n =
-          bytes_length (changes_of (minutes_of words)) ∙ ap (λ (k : ℕ). 2 * k) (sym counted_there.changes) in
-          record {
-            answer = rw g (ap answered (sym s));
-            content = put ∙ rw (h, g) (put_in_front (record_of_minutes (minutes_of words)) bytes (omega (arith, s)));
-          }
+    pub all_written : {bytes' : List ℕ} → 2 * n ≤ length bytes → bytes' ≡ sets bytes 0 (record_of_minutes (minutes_of words)) → WriteCard (answered (2 * n)) bytes'
+    all_written l put =
+        let g : card_written words (length bytes) ≡ answered (record_of_minutes (minutes_of words)) = by_count e ∙ rw (le-ltb (length bytes) (2 * n) l) refl in
+        let s : length (record_of_minutes (minutes_of words)) ≡ 2 * n =
+        bytes_length (changes_of (minutes_of words)) ∙ ap (λ (k : ℕ). 2 * k) (sym counted_there.changes) in
+        record {
+          answer = rw g (ap answered (sym s));
+          content = put ∙ rw g (put_in_front (record_of_minutes (minutes_of words)) bytes (omega (arith, s)));
+        }

@@ -13,6 +13,8 @@ use Rattle.card_reader.specs.Form.{bytes_of}
 use Rattle.card_reader.specs.Reading.{changes_in, is_unknown, follows, all_follow, in_order, is_even, is_day_record, end_before, words_of, card_read}
 use Rattle.card.specs.Writing.{change_of, is_written, change_if, changes_from, is_whole_days, changes_of, card_written}
 use Rattle.card_reader.specs.Passes.{begun, after_change, judged_from, refusal_for}
+use Rattle.recording.specs.declared.Activity.TheVariants.{OtherWork}
+use Rattle.recording.specs.declared.Run.{Run}
 use Rattle.card.specs.Sizes.{changes_in_run, changes_counted}
 use Rattle.card_reader.proofs.Judging.{refusal_is}
 use Rattle.card_reader.proofs.FormLaws.{bytes_length}
@@ -106,7 +108,8 @@ most_counted : changes_counted (w 534240 ∷ []) ≡ answered 371
 unfolding fault_of changes_in_run is_written ◌or◌
 most_counted =
     let start = start_counting (w 534240 ∷ []) in
-    sym (count_done (count_on start {fault = 0} (omega arith) refl {r = 371} refl refl) refl refl)
+    let work : Run = record { activity = OtherWork; minutes = 534240 } in
+    sym (count_done (count_on start (omega arith) {total = 534240} {run = work} refl (record { activity = refl; minutes = refl }) {r = 371} refl) refl refl)
 
 most_written : counted (card_written (w 534240 ∷ []) 742) ≡ answered 742
 most_written =

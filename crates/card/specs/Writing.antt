@@ -1,4 +1,4 @@
--- Public: document 02, request 1, the day record of a recording.
+-- Public: the card's day record of a recording.
 -- Assumes nothing.
 use Rattle.std.specs.Prelude.{Bool, not, List, [], ◌∷◌, ◌++◌, ℕ, suc, ◌+◌, ◌*◌, ◌%◌, eqb, ltb, length}
 use Rattle.recording.specs.Tests.{◌or◌, pick}
@@ -7,11 +7,11 @@ use Rattle.recording.specs.Words.{rest, minutes_of}
 use Rattle.recording.specs.Operations.{measured}
 use Rattle.card_reader.specs.Form.{activity_place, day_minutes, bytes_of}
 
--- a change "with s, c, p zero"
+-- a change with the bits s, c and p zero
 unfoldable pub change_of : ℕ → ℕ → ℕ
 change_of activity minute = activity_place * activity + minute
 
--- "Written days have a change at minute 0 and wherever the activity differs from the minute before"
+-- Written days have a change at minute 0 and wherever the activity differs from the minute before.
 unfoldable pub is_written : ℕ → ℕ → ℕ → Bool
 is_written minute before activity = eqb minute 0 or not (eqb activity before)
 
@@ -34,11 +34,11 @@ changes_of ms = changes_from 0 rest ms
 abbrev pub record_of_minutes : List ℕ → List ℕ
 record_of_minutes ms = bytes_of (changes_of ms)
 
--- "only recordings of whole days can be written"
+-- Only recordings of whole days can be written.
 unfoldable pub is_whole_days : List ℕ → Bool
 is_whole_days ms = eqb (length ms % day_minutes) 0
 
--- "Writing refuses 1 and 2, then 11 for a part day, and last 10 for bytes lacking." `counted` and `filled` of it are the result and the `room` bytes.
+-- Writing refuses 1 and 2, then 11 for a part day, and last 10 for bytes lacking. `counted` and `filled` of it are the result and the `room` bytes.
 unfoldable pub card_written : List ℕ → ℕ → Answer (List ℕ)
 card_written words room =
     and_then (measured words) (λ _.

@@ -3,46 +3,38 @@ use mathlib.Core.Path.{◌≡◌, refl, sym, ap, ◌∙◌}
 use mathlib.Core.Logic.{◌⊎◌, inl, inr}
 use mathlib.Core.Bool.{Bool, true, false, not}
 use mathlib.Core.List.{List, [], ◌∷◌}
-use Prim.Native.Nat.{ℕ, suc, ◌+◌, ◌-◌, ◌*◌, ◌/◌, ◌≤◌, ◌<◌}
+use Prim.Native.Nat.{ℕ, suc, ◌+◌, ◌-◌, ◌*◌, ◌/◌, ◌%◌, ◌≤◌, ◌<◌}
 use native.Mathlib.Numerals.{add-one}
 use native.Mathlib.Omega.{arith}
 use lib.Dec.{eqb, ltb}
-use lib.ListN.{length, drop, get_or, set, length-drop, length-append, length-replicate}
+use lib.ListN.{length, take, drop, get_or, set, length-drop, length-append, length-replicate}
 use lib.Seq.{drop-cons, sets, length-sets}
-use borrow.Author.Tests.{eqb-true, eq-eqb, ne_eqb, ltb-true, ltb-false, lt-ltb, le-ltb}
+use borrow.Author.Tests.{not-true, not-false, eqb-true, eq-eqb, ne_eqb, ltb-true, ltb-false, lt-ltb, le-ltb}
 use Rattle.recording.specs.Tests.{◌and◌, ◌or◌, pick, any_of, count_of}
 use Rattle.recording.specs.Answers.{Answer, refused, answered, refuse_if, counted, filled}
 use Rattle.recording.specs.Words.{word_of, minutes_of}
 use Rattle.recording.specs.Operations.{total_at_most, unless_fault}
 use Rattle.recording.proofs.TestLaws.{and_left, and_right, or_cases, same_test, one_most}
 use Rattle.recording.proofs.WordLaws.{minutes_in_law, unless_some}
-use Rattle.recording.proofs.Slices.{put_in_front}
+use Rattle.recording.proofs.Slices.{part_rest, put_in_front}
 use Rattle.card_reader.specs.declared.Judgement.{Judgement}
 use Rattle.card_reader.specs.Form.{byte_values, day_minutes}
 use Rattle.card_reader.specs.Reading.{changes_in, change_minute, change_activity, begins_day, is_unknown, follows, all_follow, in_order, is_even, is_day_record, end_before, words_of, card_read}
-use Rattle.card_reader.specs.Passes.{ChangeAt, begun, after_change, judged_from, refusal_for}
+use Rattle.card_reader.specs.Passes.{begun, after_change, judged_from, refusal_for}
 
--- ---- the changes from a place on
-pub change_next : (bytes : List ℕ) (at : ℕ) → at + 2 ≤ length bytes
-    → changes_in (drop at bytes) ≡ (byte_values * get_or bytes at 0 + get_or bytes (at + 1) 0) ∷ changes_in (drop (at + 2) bytes)
-unfolding changes_in
-change_next bytes at h =
-    let a : at + 1 ≡ suc at = omega arith in
-    let b : at + 2 ≡ suc (suc at) = omega arith in
-    rw (drop-cons bytes at 0 (omega arith), drop-cons bytes (suc at) 0 (omega arith), a, b)
-
-pub change_read : (bytes : List ℕ) (at : ℕ) {high low : ℕ} → at + 2 ≤ length bytes → high ≡ get_or bytes at 0 → low ≡ get_or bytes (at + 1) 0
-    → get_or bytes at 0 < byte_values → get_or bytes (at + 1) 0 < byte_values → ChangeAt bytes at (byte_values * high + low)
-change_read bytes at h p q a b = rw (p, q) (record { changes = change_next bytes at h; fits = omega arith })
-
-no_change : (l : List ℕ) → length l < 2 → changes_in l ≡ []
+-- ---- the changes of bytes
+pub no_change : (bytes : List ℕ) → length bytes < 2 → changes_in bytes ≡ []
 unfolding changes_in
 no_change [] h = refl
 no_change (a ∷ []) h = refl
 no_change (a ∷ b ∷ l) h = absurd (omega arith)
 
-pub change_none : (bytes : List ℕ) (at : ℕ) → at ≤ length bytes → length bytes - at < 2 → changes_in (drop at bytes) ≡ []
-change_none bytes at h l = no_change (drop at bytes) (rw length-drop l)
+pub first_change : {high low : ℕ} (bytes : List ℕ) → 2 ≤ length bytes → high ≡ get_or bytes 0 0 → low ≡ get_or bytes 1 0
+    → changes_in bytes ≡ (byte_values * high + low) ∷ changes_in (take (length bytes - 2) (drop 2 bytes))
+unfolding changes_in
+first_change [] h p q = absurd (omega arith)
+first_change (a ∷ []) h p q = absurd (omega arith)
+first_change (a ∷ b ∷ l) h p q = rw (part_rest (a ∷ b ∷ l) 2, p, q) refl
 
 pub changes_count : (bytes : List ℕ) → length (changes_in bytes) ≡ length bytes / 2
 unfolding changes_in
@@ -50,30 +42,28 @@ changes_count [] = refl
 changes_count (a ∷ []) = refl
 changes_count (a ∷ b ∷ bytes) = let k = changes_count bytes in omega (arith, k)
 
--- ---- the first pass, change by change
-pub record Judging (bytes : List ℕ) (j : Judgement) (at : ℕ) : Type 0 where
-  pub within : at ≤ length bytes
-  pub few : j.days ≤ at
-  pub same : judged_from begun (changes_in bytes) ≡ judged_from j (changes_in (drop at bytes))
+-- ---- the first pass, change by change: those of the whole, and those that are left
+pub record Judging (whole : List ℕ) (j : Judgement) (left : List ℕ) : Type 0 where
+  pub few : j.days + length left ≤ length whole
+  pub same : judged_from begun whole ≡ judged_from j left
 
-pub start_judging : (bytes : List ℕ) → Judging bytes begun 0
-start_judging bytes = record { within = omega arith; few = omega arith; same = refl }
+pub start_judging : (whole : List ℕ) → Judging whole begun whole
+start_judging whole = record { few = omega arith; same = refl }
 
 days_after : (j : Judgement) (c : ℕ) → (after_change j c).days ≤ j.days + 1
 unfolding after_change
 days_after j c = omega (arith, one_most (begins_day c))
 
-pub judge_on : {bytes : List ℕ} {j r : Judgement} {at c : ℕ} → Judging bytes j at → at + 2 ≤ length bytes → ChangeAt bytes at c → r ≡ after_change j c → Judging bytes r (at + 2)
+pub judge_on : {whole left later : List ℕ} {j r : Judgement} {c : ℕ} → Judging whole j left → left ≡ c ∷ later → r ≡ after_change j c → Judging whole r later
 unfolding judged_from
-judge_on {bytes} {j} {r} {at} {c} w h k e = rw e (record {
-  within = h;
-  few = omega (arith, days_after j c, w.few);
-  same = w.same ∙ ap (judged_from j) k.changes;
+judge_on {j = j} {c = c} w k e = rw e (record {
+  few = omega (arith, days_after j c, w.few, ap length k);
+  same = w.same ∙ ap (judged_from j) k;
 })
 
-pub judge_done : {bytes : List ℕ} {j : Judgement} {at : ℕ} → Judging bytes j at → length bytes - at < 2 → j ≡ judged_from begun (changes_in bytes)
+pub judge_done : {whole left : List ℕ} {j : Judgement} → Judging whole j left → left ≡ [] → j ≡ judged_from begun whole
 unfolding judged_from
-judge_done {bytes} {j} {at} w h = sym (w.same ∙ ap (judged_from j) (change_none bytes at w.within h))
+judge_done {j = j} w e = sym (w.same ∙ ap (judged_from j) e)
 
 -- ---- what it comes to: the order
 and_assoc : (a b c : Bool) → (a and b) and c ≡ a and (b and c)
@@ -231,31 +221,22 @@ whole_days (c ∷ cs) t =
     }
 
 -- ---- the second pass, change by change
-pub record PuttingWords (bytes words₀ words : List ℕ) (at i : ℕ) : Type 0 where
-  pub within : at ≤ length bytes
-  pub few : i ≤ at
-  pub same : sets words₀ 0 (words_of (changes_in bytes)) ≡ sets words i (words_of (changes_in (drop at bytes)))
+pub record PuttingWords (whole words₀ words left : List ℕ) (i : ℕ) : Type 0 where
+  pub few : i + length left ≤ length whole
+  pub same : sets words₀ 0 (words_of whole) ≡ sets words i (words_of left)
 
-pub start_putting : (bytes words : List ℕ) → PuttingWords bytes words words 0 0
-start_putting bytes words = record { within = omega arith; few = omega arith; same = refl }
-
-pub put_on : {bytes words₀ words words' : List ℕ} {at i c end n w : ℕ} → PuttingWords bytes words₀ words at i → at + 2 ≤ length bytes → ChangeAt bytes at c
-    → end ≡ end_before (changes_in (drop (at + 2) bytes)) → n ≡ end - change_minute c → w ≡ word_of n (change_activity c) → words' ≡ set words i w
-    → PuttingWords bytes words₀ words' (at + 2) (i + 1)
+pub put_on : {whole words₀ words words' left later : List ℕ} {i c end n w : ℕ} → PuttingWords whole words₀ words left i → left ≡ c ∷ later
+    → end ≡ end_before later → n ≡ end - change_minute c → w ≡ word_of n (change_activity c) → words' ≡ set words i w
+    → PuttingWords whole words₀ words' later (i + 1)
 unfolding words_of
-put_on {bytes} {words₀} {words} {words'} {at} {i} {c} p h k e m v s = record {
-  within = h;
-  few = omega (arith, p.few);
-  same = p.same ∙ ap (λ (cs : List ℕ). sets words i (words_of cs)) k.changes ∙ rw (s, v, m, e, add-one);
+put_on {words = words} {i = i} p k e m v s = record {
+  few = omega (arith, p.few, ap length k);
+  same = p.same ∙ ap (λ (cs : List ℕ). sets words i (words_of cs)) k ∙ rw (s, v, m, e, add-one);
 }
 
-pub put_done : {bytes words₀ words : List ℕ} {at i : ℕ} → PuttingWords bytes words₀ words at i → length bytes - at < 2 → words ≡ sets words₀ 0 (words_of (changes_in bytes))
+pub put_done : {whole words₀ words left : List ℕ} {i : ℕ} → PuttingWords whole words₀ words left i → left ≡ [] → words ≡ sets words₀ 0 (words_of whole)
 unfolding words_of
-put_done {bytes} {words₀} {words} {at} {i} p h = sym (p.same ∙ ap (λ (cs : List ℕ). sets words i (words_of cs)) (change_none bytes at p.within h))
-
-pub put_length : {bytes words₀ words : List ℕ} {at i : ℕ} → PuttingWords bytes words₀ words at i → length words ≡ length words₀
-put_length {bytes} {words₀} {words} {at} {i} p =
-    sym (length-sets words i (words_of (changes_in (drop at bytes)))) ∙ sym (ap length p.same) ∙ length-sets words₀ 0 (words_of (changes_in bytes))
+put_done {words = words} {i = i} p e = sym (p.same ∙ ap (λ (cs : List ℕ). sets words i (words_of cs)) e)
 
 -- ---- the refusal
 past_limit : (d n : ℕ) → n ≡ day_minutes * d → ltb (total_at_most / day_minutes) d ≡ ltb total_at_most n
@@ -312,34 +293,60 @@ module _ (bytes : List ℕ) (room : ℕ) where
             room_for = ltb-false room (length bytes / 2) r;
           }
 
+-- which refusal it is
+module _ (j : Judgement) (size room : ℕ) where
+  pub odd_count : (size % 2 ≡ 0 → ⊥) → refusal_for j size room ≡ 11
+  unfolding refusal_for is_even ◌and◌
+  odd_count z = rw (ne_eqb _ _ z)
+
+  module _ (e : size % 2 ≡ 0) where
+    pub out_of_order : not j.ordered ≡ true → refusal_for j size room ≡ 11
+    unfolding refusal_for is_even ◌and◌
+    out_of_order o = rw (eq-eqb _ _ e, not-true j.ordered o)
+
+    module _ (o : not j.ordered ≡ false) where
+      pub some_unknown : not j.known ≡ true → refusal_for j size room ≡ 12
+      unfolding refusal_for is_even ◌and◌
+      some_unknown k = rw (eq-eqb _ _ e, not-false j.ordered o, not-true j.known k)
+
+      module _ (k : not j.known ≡ false) where
+        pub too_long : total_at_most / day_minutes < j.days → refusal_for j size room ≡ 2
+        unfolding refusal_for is_even ◌and◌
+        too_long l = rw (eq-eqb _ _ e, not-false j.ordered o, not-false j.known k, lt-ltb _ _ l)
+
+        module _ (l : j.days ≤ total_at_most / day_minutes) where
+          pub few_words : room < size / 2 → refusal_for j size room ≡ 9
+          unfolding refusal_for is_even ◌and◌
+          few_words r = rw (eq-eqb _ _ e, not-false j.ordered o, not-false j.known k, le-ltb (total_at_most / day_minutes) j.days l, lt-ltb _ _ r)
+
+          pub no_refusal : size / 2 ≤ room → refusal_for j size room ≡ 0
+          unfolding refusal_for is_even ◌and◌
+          no_refusal r = rw (eq-eqb _ _ e, not-false j.ordered o, not-false j.known k, le-ltb (total_at_most / day_minutes) j.days l, le-ltb room (size / 2) r)
+
 -- ---- what stands at each return of reading
 module _ (bytes words : List ℕ) where
   pub record ReadCard (r : Answer ℕ) (words' : List ℕ) : Type 0 where
     pub answer : r ≡ counted (card_read bytes (length words))
     pub content : words' ≡ filled (card_read bytes (length words)) words
 
-  module _ {j : Judgement} {n : ℕ} {words' : List ℕ} (p : j ≡ judged_from begun (changes_in bytes)) (q : n ≡ refusal_for j (length bytes) (length words))
-      (e : words' ≡ pick (eqb n 0) (sets words 0 (words_of (changes_in bytes))) words) where
-    number_is : n ≡ refusal_for (judged_from begun (changes_in bytes)) (length bytes) (length words)
-    number_is = q ∙ ap (λ (i : Judgement). refusal_for i (length bytes) (length words)) p
+  module _ {j : Judgement} (p : j ≡ judged_from begun (changes_in bytes)) where
+    by_number : card_read bytes (length words) ≡ unless_fault (refusal_for j (length bytes) (length words)) (answered (words_of (changes_in bytes)))
+    by_number = refusal_is bytes (length words) ∙ rw p refl
 
-    by_number : card_read bytes (length words) ≡ unless_fault n (answered (words_of (changes_in bytes)))
-    by_number = refusal_is bytes (length words) ∙ ap (λ (k : ℕ). unless_fault k (answered (words_of (changes_in bytes)))) (sym number_is)
+    pub turned_away : (n : ℕ) → refusal_for j (length bytes) (length words) ≡ n → (n ≡ 0 → ⊥) → ReadCard (refused n) words
+    turned_away n q h =
+        let g : card_read bytes (length words) ≡ refused n = by_number ∙ rw q (unless_some n _ h) in
+        record { answer = rw g; content = rw g }
 
-    pub turned_away : (n ≡ 0 → ⊥) → ReadCard (refused n) words'
-    turned_away h =
-        let g : card_read bytes (length words) ≡ refused n = by_number ∙ unless_some n _ h in
-        record { answer = rw g; content = e ∙ rw (ne_eqb n 0 h, g) }
+    module _ (z : refusal_for j (length bytes) (length words) ≡ 0) where
+      pub taken_there : Taken bytes (length words)
+      taken_there = taken bytes (length words) (rw p at z)
 
-    pub taken_there : n ≡ 0 → Taken bytes (length words)
-    taken_there z = taken bytes (length words) (sym number_is ∙ z)
-
-    pub all_read : n ≡ 0 → ReadCard (answered (length bytes / 2)) words'
-    all_read z =
-        let g : card_read bytes (length words) ≡ answered (words_of (changes_in bytes)) =
-        by_number ∙ ap (λ (k : ℕ). unless_fault k (answered (words_of (changes_in bytes)))) z in
-        let l = words_are bytes in
-        record {
-          answer = rw g (ap answered (sym l));
-          content = e ∙ rw (eq-eqb n 0 z, g) (put_in_front (words_of (changes_in bytes)) words (omega (arith, l, (taken_there z).room_for)));
-        }
+      pub all_read : {words' : List ℕ} → words' ≡ sets words 0 (words_of (changes_in bytes)) → ReadCard (answered (length bytes / 2)) words'
+      all_read e =
+          let g : card_read bytes (length words) ≡ answered (words_of (changes_in bytes)) = by_number ∙ rw z refl in
+          let l = words_are bytes in
+          record {
+            answer = rw g (ap answered (sym l));
+            content = e ∙ rw g (put_in_front (words_of (changes_in bytes)) words (omega (arith, l, taken_there.room_for)));
+          }

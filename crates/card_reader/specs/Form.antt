@@ -1,4 +1,4 @@
--- Public: document 02, request 1, the card's day record, said by generation: a list of days has bytes and has minutes, and some lists are allowed.
+-- Public: the card's day record, said by generation: a list of days has bytes and has minutes, and some lists are allowed.
 -- Assumes nothing.
 use Rattle.std.specs.Prelude.{◌≡◌, Bool, not, List, [], ◌∷◌, ◌++◌, ℕ, zero, suc, ◌+◌, ◌*◌, ◌/◌, ◌%◌, ◌<◌, leb}
 use Rattle.recording.specs.Tests.{◌and◌, pick, one}
@@ -12,8 +12,8 @@ pub record Change : Type 0 where
   pub activity : ℕ
   pub minute : ℕ
 
--- "from the top, bit s (slot), c (crew), p (card out), two activity bits with our codes, eleven bits of minute in the day": what one is worth at
--- each place
+-- A change is a number: from the top, bit s (slot), c (crew), p (card out), two activity bits with the codes of a word, eleven bits of minute in the day.
+-- What one is worth at each place:
 abbrev pub slot_place : ℕ
 slot_place = 32768
 
@@ -29,7 +29,7 @@ activity_place = 2048
 unfoldable pub number_of : Change → ℕ
 number_of c = slot_place * one c.slot + crew_place * one c.crew + out_place * one c.out + activity_place * c.activity + c.minute
 
--- "two-byte changes .., high byte first"
+-- A change is two bytes, the high one first.
 abbrev pub byte_values : ℕ
 byte_values = 256
 
@@ -37,7 +37,7 @@ unfoldable pub bytes_of : List ℕ → List ℕ
 bytes_of [] = []
 bytes_of (n ∷ ns) = n / byte_values ∷ n % byte_values ∷ bytes_of ns
 
--- "Card out with c zero means unknown activity."
+-- Card out with c zero means unknown activity.
 abbrev pub unknown : Change → Bool
 unknown c = c.out and not c.crew
 
@@ -45,12 +45,12 @@ unknown c = c.out and not c.crew
 abbrev pub day_minutes : ℕ
 day_minutes = 1440
 
--- a change after another of its day: "minutes rise within it"
+-- A change after another of its day: minutes rise within a day.
 pub data Rising : ℕ → List Change → Type 0 where
   none : {m : ℕ} → Rising m []
   next : {m : ℕ} {c : Change} {cs : List Change} → m < c.minute → c.minute < day_minutes → c.activity < activities → Rising c.minute cs → Rising m (c ∷ cs)
 
--- "Minute 0 always begins a day"
+-- Minute 0 always begins a day.
 pub data Day : List Change → Type 0 where
   day : {c : Change} {cs : List Change} → c.minute ≡ 0 → c.activity < activities → Rising 0 cs → Day (c ∷ cs)
 
@@ -86,7 +86,7 @@ unfoldable pub activities_from : ℕ → ℕ → ℕ → List Change → List �
 activities_from a t zero cs = []
 activities_from a t (suc n) cs = latest a t cs ∷ activities_from a (suc t) n cs
 
--- "the last activity runs to 1,440"
+-- The last activity of a day runs to 1,440.
 abbrev pub minutes_of_day : List Change → List ℕ
 minutes_of_day d = activities_from 0 0 day_minutes d
 

@@ -1,20 +1,15 @@
 -- Inner: what the functions that read a record answer. Nobody has to believe it: no public contract cites it.
 -- Assumes nothing.
-use Rattle.std.specs.Prelude.{◌≡◌, true, not, List, [], ◌∷◌, ℕ, ◌+◌, ◌-◌, ◌*◌, ◌/◌, ◌<◌, ltb, drop}
+use Rattle.std.specs.Prelude.{true, not, List, [], ◌∷◌, ℕ, ◌+◌, ◌-◌, ◌/◌, ltb}
 use Rattle.recording.specs.Tests.{◌and◌, pick, one}
 use Rattle.recording.specs.Operations.{total_at_most}
 use Rattle.card_reader.specs.declared.Judgement.{Judgement}
-use Rattle.card_reader.specs.Form.{byte_values, day_minutes}
-use Rattle.card_reader.specs.Reading.{changes_in, change_minute, begins_day, is_unknown, follows, is_even}
+use Rattle.card_reader.specs.Form.{day_minutes}
+use Rattle.card_reader.specs.Reading.{change_minute, begins_day, is_unknown, follows, is_even}
 
 -- no slice has so many places
 abbrev pub slice_places : ℕ
 slice_places = 9223372036854775808
-
--- the change that stands at a place
-pub record ChangeAt (bytes : List ℕ) (at c : ℕ) : Type 0 where
-  pub changes : changes_in (drop at bytes) ≡ c ∷ changes_in (drop (at + 2) bytes)
-  pub fits : c < byte_values * byte_values
 
 -- change after change. Before the first one nothing but minute 0 follows.
 abbrev pub begun : Judgement

@@ -1,44 +1,59 @@
-// The cases of document 01, "On the edge", that concern the fixed rules, and those in which several break at one minute: each line has N, S and k,
+// The edges of the fixed rules, and recordings in which several break at one minute: each line has the total, the judged end and the number of long rests,
 // what the fixed test answers for the stretch before the edge and at it, and what the article test does.
 #![tactic(auto)]
 
-use recording::Weighing;
-use rules_fixed::Tested;
+use recording::{Measure, Refusal};
 use std::io;
 
-fn show_weighing(out: &impl Print, w: Weighing) -> io::Result<()> {
-    match w {
-        Weighing::Refused(n) => print!(out; "refused {n}"),
-        Weighing::Weighed(m) => {
-            let total = m.total;
-            let judged = m.judged;
-            let count = m.count;
+fn show_weighing(out: &impl Print, weighing: Result<Measure, Refusal>) -> io::Result<()> {
+    match weighing {
+        Err(refusal) => {
+            let number = u32::from(refusal);
+            print!(out; "refused {number}")
+        }
+        Ok(measure) => {
+            let Measure {
+                total,
+                judged,
+                count,
+            } = measure;
             print!(out; "{total} {judged} {count}")
         }
     }
 }
 
-fn show_tested(out: &impl Print, m: u32, t: Tested) -> io::Result<()> {
-    match t {
-        Tested::Refused(n) => print!(out; "; {m} refused {n}"),
-        Tested::Answer(n) => print!(out; "; {m}: {n}"),
+fn show_tested(out: &impl Print, m: u32, answer: Result<u32, Refusal>) -> io::Result<()> {
+    match answer {
+        Err(refusal) => {
+            let number = u32::from(refusal);
+            print!(out; "; {m} refused {number}")
+        }
+        Ok(number) => print!(out; "; {m}: {number}"),
     }
+}
+
+// The number of the rule that the fixed test answers, and 0 for none.
+fn rule_tested(words: &[u32], m: u32) -> Result<u32, Refusal> {
+    rules_fixed::fixed_test(words, m).map(|rule| rule.map_or(0, |rule| u32::from(rule)))
+}
+
+// The place of the article that the article test answers, and 0 for none.
+fn place_tested(words: &[u32], m: u32) -> Result<u32, Refusal> {
+    rules_fixed::article_test(words, m).map(|article| article.map_or(0, |article| article.place()))
 }
 
 // What the recording weighs, and both tests for m minutes and for one more.
 fn show(out: &impl Print, name: &str, words: &[u32], m: u32) -> io::Result<()> {
     print!(out; "{name}: ")?;
     show_weighing(out, recording::weigh(words))?;
-    show_tested(out, m, rules_fixed::fixed_test(words, m))?;
-    if m < 4294967295 {
-        let next = m + 1;
-        show_tested(out, next, rules_fixed::fixed_test(words, next))?;
+    show_tested(out, m, rule_tested(words, m))?;
+    if let Some(next) = m.checked_add(1) {
+        show_tested(out, next, rule_tested(words, next))?;
     }
     print!(out; "; articles")?;
-    show_tested(out, m, rules_fixed::article_test(words, m))?;
-    if m < 4294967295 {
-        let next = m + 1;
-        show_tested(out, next, rules_fixed::article_test(words, next))?;
+    show_tested(out, m, place_tested(words, m))?;
+    if let Some(next) = m.checked_add(1) {
+        show_tested(out, next, place_tested(words, next))?;
     }
     println!(out)
 }

@@ -1,15 +1,22 @@
-// Readings at the edges of rules 6 to 11 and where a fixed rule comes first, the worked numbers of document 01, and the entry of a reading.
+// Readings at the edges of rules 6 to 11 and where a fixed rule comes first, what a weekly rest is by its net length, and the entry of a reading.
 #![tactic(auto)]
 
-use rules::{Kind, Standing};
-use rules_fixed::Tested;
+use recording::Refusal;
+use rules::{Kind, Rule, Standing};
 use rules_items::Item;
 use std::io;
 
-fn show_tested(out: &impl Print, t: Tested) -> io::Result<()> {
-    match t {
-        Tested::Refused(n) => println!(out; ": refused {n}"),
-        Tested::Answer(n) => println!(out; ": {n}"),
+fn show_tested(out: &impl Print, answer: Result<Option<Rule>, Refusal>) -> io::Result<()> {
+    match answer {
+        Err(refusal) => {
+            let n = u32::from(refusal);
+            println!(out; ": refused {n}")
+        }
+        Ok(None) => println!(out; ": 0"),
+        Ok(Some(rule)) => {
+            let n = u32::from(rule);
+            println!(out; ": {n}")
+        }
     }
 }
 
@@ -21,10 +28,8 @@ fn show(out: &impl Print, name: &str, words: &[u32], reading: &[u8]) -> io::Resu
 fn show_kind(out: &impl Print, kind: Kind) -> io::Result<()> {
     match kind {
         Kind::Daily => println!(out; "daily"),
-        Kind::Weekly(standing) => match standing {
-            Standing::Regular => println!(out; "regular weekly, reduced by 0"),
-            Standing::Reduced(d) => println!(out; "reduced weekly, reduced by {d}"),
-        },
+        Kind::Weekly(Standing::Regular) => println!(out; "regular weekly, reduced by 0"),
+        Kind::Weekly(Standing::Reduced(d)) => println!(out; "reduced weekly, reduced by {d}"),
     }
 }
 
@@ -33,7 +38,7 @@ fn show_net(out: &impl Print, net: u32) -> io::Result<()> {
     if 10000 < net {
         return Ok(());
     }
-    let rest = rules_items::as_read(Item {
+    let item = Item {
         number: 1,
         before: 0,
         start: 60,
@@ -43,17 +48,16 @@ fn show_net(out: &impl Print, net: u32) -> io::Result<()> {
         week: 0,
         carrier: 0,
         compensation: 0,
-    });
+    };
     print!(out; "net {net}: ")?;
-    let kind = rest.kind;
-    show_kind(out, kind)
+    show_kind(out, item.as_read().kind)
 }
 
 fn show_entry(out: &impl Print, reading: &[u8], number: usize) -> io::Result<()> {
     print!(out; "entry {number}: ")?;
-    let refusal = rules_entries::entry_refusal(reading, number);
-    if refusal != 0 {
-        return println!(out; "refused {refusal}");
+    if let Some(refusal) = rules_entries::entry_refusal(reading, number) {
+        let n = u32::from(refusal);
+        return println!(out; "refused {n}");
     }
     out.write_all(rules_entries::entry(reading, number))?;
     println!(out)

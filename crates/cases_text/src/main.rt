@@ -3,54 +3,36 @@
 
 ghost use Rattle.std.specs.Prelude.{◌≤◌};
 
-use recording::Filling;
+use recording::{Activity, Refusal, Run};
 use std::io;
+use text::Page;
 
-// The two last digits of a number.
-fn say_number(out: &impl Print, n: u32) -> io::Result<()> {
-    let digits = [(48 + n / 10 % 10) as u8, (48 + n % 10) as u8, 10];
-    out.write_all(&digits)
-}
-
-// A word: its activity and the five last digits of its minutes.
+// A word: its activity and its minutes.
 fn say_word(out: &impl Print, word: u32) -> io::Result<()> {
-    let activity = word % 4;
-    match activity {
-        0 => out.write_all(b" rest ")?,
-        1 => out.write_all(b" avail ")?,
-        2 => out.write_all(b" work ")?,
-        _ => out.write_all(b" drive ")?,
-    };
-    let n = word / 4;
-    let digits = [
-        (48 + n / 10000 % 10) as u8,
-        (48 + n / 1000 % 10) as u8,
-        (48 + n / 100 % 10) as u8,
-        (48 + n / 10 % 10) as u8,
-        (48 + n % 10) as u8,
-    ];
-    out.write_all(&digits)
+    let run = Run::from(word);
+    let minutes = run.minutes;
+    match run.activity {
+        Activity::Rest => print!(out; " rest {minutes:05}"),
+        Activity::Availability => print!(out; " avail {minutes:05}"),
+        Activity::OtherWork => print!(out; " work {minutes:05}"),
+        Activity::Driving => print!(out; " drive {minutes:05}"),
+    }
 }
 
 fn say_words(out: &impl Print, words: &[u32]) -> io::Result<()> {
-    let mut i = 0;
-    while i < words.len() {
-        say_word(out, words[i])?;
-        i += 1;
+    for &word in words {
+        say_word(out, word)?;
     }
-    out.write_all(b"\n")
+    print!(out; "\n")
 }
 
-fn say(out: &impl Print, answer: Filling) -> io::Result<()> {
+fn say(out: &impl Print, answer: Result<u32, Refusal>) -> io::Result<()> {
     match answer {
-        Filling::Refused(n) => {
-            out.write_all(b"refused ")?;
-            say_number(out, n)
+        Err(refusal) => {
+            let n = u32::from(refusal);
+            print!(out; "refused {n:02}\n")
         }
-        Filling::Written(n) => {
-            out.write_all(b"written ")?;
-            say_number(out, n)
-        }
+        Ok(n) => print!(out; "written {n:02}\n"),
     }
 }
 
@@ -70,16 +52,13 @@ fn read(out: &impl Print, text: &[u8]) -> io::Result<()> {
     let answer = text::read_text(text, &mut words);
     say(out, answer)?;
     say_words(out, &words)?;
-    match answer {
-        Filling::Refused(_) => Ok(()),
-        Filling::Written(n) => {
-            let count = n as usize;
-            if count <= 4 {
-                write(out, &words[0..count])?;
-            }
-            Ok(())
+    if let Ok(n) = answer {
+        let count = n as usize;
+        if count <= 4 {
+            write(out, &words[..count])?;
         }
     }
+    Ok(())
 }
 
 fn good(out: &impl Print) -> io::Result<()> {
@@ -139,14 +118,14 @@ fn read_weeks(out: &impl Print, n: usize) -> io::Result<()>
     requires { n ≤ 54 }
 {
     let mut text = [0u8; 1147];
-    let mut at = text::put_all(&mut text, 0, b"(recording\n");
-    let mut i = 0;
-    while i < n {
-        at = text::put_all(&mut text, at, b"(week\n(rest 10080)\n)\n");
-        i += 1;
+    let mut page = Page::new(&mut text);
+    page.put(b"(recording\n");
+    for _ in 0..n {
+        page.put(b"(week\n(rest 10080)\n)\n");
     }
-    let end = text::put_all(&mut text, at, b")\n");
-    read(out, &text[0..end])
+    page.put(b")\n");
+    let end = page.len;
+    read(out, &text[..end])
 }
 
 // Five run lines, or 53 weeks, and four words lent; then 54 weeks, which are not of the form.

@@ -1,14 +1,13 @@
-// The cases of document 01, "On the edge", the figures of source document 000, and the edges of weeks, debts and buffers, each
+// The cases on the edge of each rule, the six worked figures, and the edges of weeks, debts and buffers, each
 // with what the verdict answers. A pass shows its first reading: d is a daily rest (0/0/0), any other entry is kind/week/carrier. Last, cases of the
 // spans of weeks that are a breach, each span as first-last.
 #![tactic(auto)]
 
-use recording::Filling;
-use rules::Weeks;
-use rules_fixed::Tested;
+use recording::Refusal;
+use rules::{Article, Rule, Weeks};
 use std::io;
-use verdict_judging::Judgement;
-use verdict_spans::Found;
+use verdict_breach::Breach;
+use verdict_judging::Verdict;
 
 // Bytes enough for any reading.
 const READING_BYTES: usize = rules_entries::ENTRY_BYTES * recording::LONG_RESTS;
@@ -56,20 +55,16 @@ fn kept(words: &mut [u32], at: usize, byte: u8) -> usize {
 // Runs in the document's shorthand, as "d135 r15", into words from a place on; gives the place after them.
 fn runs(words: &mut [u32], at: usize, shorthand: &[u8]) -> usize {
     let mut next = at;
-    let mut i = 0;
-    while i < shorthand.len() {
-        next = kept(words, next, shorthand[i]);
-        i += 1;
+    for &byte in shorthand {
+        next = kept(words, next, byte);
     }
     next
 }
 
 fn times(words: &mut [u32], at: usize, count: u32, shorthand: &[u8]) -> usize {
     let mut next = at;
-    let mut i = 0;
-    while i < count {
+    for _ in 0..count {
         next = runs(words, next, shorthand);
-        i += 1;
     }
     next
 }
@@ -115,10 +110,8 @@ fn week(words: &mut [u32], at: usize, rest: u32) -> usize {
 
 fn weeks(words: &mut [u32], at: usize, rests: &[u32]) -> usize {
     let mut next = at;
-    let mut i = 0;
-    while i < rests.len() {
-        next = week(words, next, rests[i]);
-        i += 1;
+    for &rest in rests {
+        next = week(words, next, rest);
     }
     next
 }
@@ -153,34 +146,38 @@ fn show_entry(out: &impl Print, entry: &[u8]) -> io::Result<()> {
 
 fn show_entries(out: &impl Print, reading: &[u8]) -> io::Result<()> {
     let count = reading.len() / rules_entries::ENTRY_BYTES;
-    let mut number = 0;
-    while number < count {
-        number += 1;
-        show_entry(out, rules_entries::entry(reading, number))?;
+    for j in 0..count {
+        show_entry(out, rules_entries::entry(reading, j + 1))?;
     }
     Ok(())
 }
 
-fn show_article(out: &impl Print, article: u32) -> io::Result<()> {
+fn show_article(out: &impl Print, article: Article) -> io::Result<()> {
     match article {
-        1 => print!(out; "7"),
-        2 => print!(out; "6.1"),
-        3 => print!(out; "6.2"),
-        4 => print!(out; "6.3"),
-        5 => print!(out; "8.2"),
-        6 => print!(out; "8"),
-        _ => print!(out; "none"),
+        Article::Breaks => print!(out; "7"),
+        Article::DailyDriving => print!(out; "6.1"),
+        Article::WeeklyDriving => print!(out; "6.2"),
+        Article::FortnightlyDriving => print!(out; "6.3"),
+        Article::DailyRests => print!(out; "8.2"),
+        Article::Rests => print!(out; "8"),
     }
 }
 
-fn show_verdict(out: &impl Print, judgement: Judgement) -> io::Result<()> {
-    match judgement {
-        Judgement::Refused(n) => print!(out; ": refused {n}"),
-        Judgement::Passed => print!(out; ": pass"),
-        Judgement::Breached(breach) => {
-            let minute = breach.minute;
-            print!(out; ": breach {minute}, ")?;
-            show_article(out, breach.article)
+// The number of a refusal.
+fn show_refusal(out: &impl Print, refusal: Refusal) -> io::Result<()> {
+    let number = u32::from(refusal);
+    print!(out; "refused {number}")
+}
+
+fn show_verdict(out: &impl Print, answer: Result<Verdict, Refusal>) -> io::Result<()> {
+    print!(out; ": ")?;
+    match answer {
+        Err(refusal) => show_refusal(out, refusal),
+        Ok(Verdict::Pass) => print!(out; "pass"),
+        Ok(Verdict::Breach(breach)) => {
+            let Breach { minute, article } = breach;
+            print!(out; "breach {minute}, ")?;
+            show_article(out, article)
         }
     }
 }
@@ -189,8 +186,8 @@ fn show_verdict(out: &impl Print, judgement: Judgement) -> io::Result<()> {
 fn show_reading(out: &impl Print, words: &[u32]) -> io::Result<()> {
     let mut reading = [9u8; READING_BYTES];
     match verdict::first_reading(words, &mut reading) {
-        Filling::Refused(_) => Ok(()),
-        Filling::Written(n) => show_entries(out, first_bytes(&reading, n as usize)),
+        Err(_) => Ok(()),
+        Ok(n) => show_entries(out, first_bytes(&reading, n as usize)),
     }
 }
 
@@ -262,19 +259,18 @@ fn show_first_parts(out: &impl Print) -> io::Result<()> {
     show_runs(out, "d1 r15 d1 r30 d270 r30 d1")
 }
 
-// The article of a place in the regulation's order.
-fn show_place(out: &impl Print, tested: Tested) -> io::Result<()> {
-    match tested {
-        Tested::Refused(n) => print!(out; "; refused {n}"),
-        Tested::Answer(place) => {
-            print!(out; "; first ")?;
-            match place {
-                1 => show_article(out, 2),
-                2 => show_article(out, 3),
-                3 => show_article(out, 4),
-                4 => show_article(out, 1),
-                _ => show_article(out, place),
-            }
+// The first broken article in the regulation's order.
+fn show_first_article(
+    out: &impl Print,
+    answer: Result<Option<Article>, Refusal>,
+) -> io::Result<()> {
+    print!(out; "; ")?;
+    match answer {
+        Err(refusal) => show_refusal(out, refusal),
+        Ok(None) => print!(out; "first none"),
+        Ok(Some(article)) => {
+            print!(out; "first ")?;
+            show_article(out, article)
         }
     }
 }
@@ -284,7 +280,7 @@ fn show_first(out: &impl Print, name: &str, words: &[u32], count: usize, m: u32)
     let recording = first_words(words, count);
     print!(out; "{name}")?;
     show_verdict(out, verdict::verdict(recording))?;
-    show_place(out, rules_fixed::article_test(recording, m))?;
+    show_first_article(out, rules_fixed::article_test(recording, m))?;
     println!(out)
 }
 
@@ -505,10 +501,22 @@ fn set_weekly(reading: &mut [u8], at: usize, week: u8, carrier: u8) {
     }
 }
 
-fn show_tested(out: &impl Print, name: &str, tested: Tested) -> io::Result<()> {
-    match tested {
-        Tested::Refused(n) => println!(out; "{name}: refused {n}"),
-        Tested::Answer(n) => println!(out; "{name}: rule {n}"),
+fn show_tested(
+    out: &impl Print,
+    name: &str,
+    answer: Result<Option<Rule>, Refusal>,
+) -> io::Result<()> {
+    print!(out; "{name}: ")?;
+    match answer {
+        Err(refusal) => {
+            show_refusal(out, refusal)?;
+            println!(out)
+        }
+        Ok(None) => println!(out; "rule 0"),
+        Ok(Some(rule)) => {
+            let number = u32::from(rule);
+            println!(out; "rule {number}")
+        }
     }
 }
 
@@ -609,10 +617,11 @@ fn show_twelve(out: &impl Print, bytes: &[u8; 12]) -> io::Result<()> {
 }
 
 // What the first reading answers.
-fn show_filling(out: &impl Print, answer: Filling) -> io::Result<()> {
+fn show_written(out: &impl Print, answer: Result<u32, Refusal>) -> io::Result<()> {
+    print!(out; "; ")?;
     match answer {
-        Filling::Refused(n) => print!(out; "; refused {n}"),
-        Filling::Written(n) => print!(out; "; {n} bytes"),
+        Err(refusal) => show_refusal(out, refusal),
+        Ok(count) => print!(out; "{count} bytes"),
     }
 }
 
@@ -628,7 +637,7 @@ fn show_lent(out: &impl Print, shorthand: &str, lent: usize) -> io::Result<()> {
     let answer = verdict::first_reading(recording, &mut bytes[0..lent]);
     print!(out; "{shorthand} into {lent}")?;
     show_verdict(out, verdict::verdict(recording))?;
-    show_filling(out, answer)?;
+    show_written(out, answer)?;
     print!(out; ",")?;
     show_twelve(out, &bytes)
 }
@@ -651,21 +660,8 @@ fn show_refusals(out: &impl Print) -> io::Result<()> {
 }
 
 fn show_span(out: &impl Print, span: Weeks) -> io::Result<()> {
-    let first = span.first;
-    let last = span.last;
+    let Weeks { first, last } = span;
     print!(out; " {first}-{last}")
-}
-
-fn show_found(out: &impl Print, found: Found) -> io::Result<()> {
-    let count = found.count;
-    let mut i = 0;
-    while i < count {
-        if i < verdict_spans::WEEKS {
-            show_span(out, verdict_spans::weeks_at(found, i))?;
-        }
-        i += 1;
-    }
-    Ok(())
 }
 
 // The spans of weeks that are a breach, for a list of so many records.
@@ -676,17 +672,19 @@ fn show_spans(
     count: usize,
     room: usize,
 ) -> io::Result<()> {
-    print!(out; "{name} in a list of {room}")?;
-    let found = verdict_spans::spans_of(first_words(words, count), room);
-    let answer = found.answer;
-    match answer {
-        Filling::Refused(n) => println!(out; ": refused {n}"),
-        Filling::Written(_) => {
-            print!(out; ": spans")?;
-            show_found(out, found)?;
-            println!(out)
+    let mut list = [Weeks { first: 0, last: 0 }; verdict_spans::WEEKS];
+    let lent = &mut list[..room.min(verdict_spans::WEEKS)];
+    print!(out; "{name} in a list of {room}: ")?;
+    match verdict_spans::breach_spans(first_words(words, count), lent) {
+        Err(refusal) => show_refusal(out, refusal)?,
+        Ok(found) => {
+            print!(out; "spans")?;
+            for &span in lent.iter().take(found as usize) {
+                show_span(out, span)?;
+            }
         }
     }
+    println!(out)
 }
 
 fn show_runs_spans(out: &impl Print, shorthand: &str, room: usize) -> io::Result<()> {

@@ -2,35 +2,32 @@
 // `--spans` of its spans of weeks. It reads one byte more than an input may have, so that a longer one is seen.
 #![tactic(auto)]
 
-use recording::Filling;
+ghost use Rattle.std.specs.Prelude.{◌^◌, ◌≤◌};
+
+use desk_report::{Format, Shown};
 use std::env::FillError;
+use std::io;
 use std::io::Read;
 use std::rt::Env;
 
 const ENOUGH: usize = desk_report::INPUT_BYTES + 1;
 
-// What was read: so many bytes in front of the buffer, or an error.
-#[derive(Clone, Copy)]
-enum Given {
-    Bytes(usize),
-    Failed,
-}
+const CARD: &[u8] = b"--card";
 
-// Reads until the buffer is full, the input ends or a read fails.
-fn read_input(source: &mut impl Read, buffer: &mut [u8]) -> Given {
+const SPANS: &[u8] = b"--spans";
+
+// Reads until the buffer is full or the input ends; how many bytes stand in front of the buffer.
+fn read_input(source: &mut impl Read, buffer: &mut [u8]) -> io::Result<usize> {
     let mut done = 0;
+    // A read gives as many bytes as it likes, so this counts them.
     while done < buffer.len() {
-        match source.read(&mut buffer[done..]) {
-            Err(_) => return Given::Failed,
-            Ok(n) => {
-                if n == 0 {
-                    return Given::Bytes(done);
-                }
-                done += n;
-            }
+        let n = source.read(&mut buffer[done..])?;
+        if n == 0 {
+            break;
         }
+        done += n;
     }
-    Given::Bytes(done)
+    Ok(done)
 }
 
 fn write_page(rt: &(impl Print + Eprint), page: &[u8]) {
@@ -39,164 +36,129 @@ fn write_page(rt: &(impl Print + Eprint), page: &[u8]) {
     }
 }
 
-// What an argument says.
+// What an argument asks for.
 #[derive(Clone, Copy)]
 enum Argument {
-    Missing,
     Card,
     Spans,
-    Other,
 }
 
-fn said(bytes: &[u8]) -> Argument {
-    if check::same(bytes, b"--card") {
-        return Argument::Card;
+// An argument that is not known, or that stands there twice.
+#[derive(Clone, Copy)]
+struct Unknown;
+
+fn known(bytes: &[u8]) -> Result<Argument, Unknown> {
+    if bytes == CARD {
+        return Ok(Argument::Card);
     }
-    if check::same(bytes, b"--spans") {
-        return Argument::Spans;
+    if bytes == SPANS {
+        return Ok(Argument::Spans);
     }
-    Argument::Other
+    Err(Unknown)
 }
 
-// One that is longer than any known argument is another.
-fn said_at(rt: &impl Env, i: usize) -> Argument {
+// The argument at a place, if there is one. One that is longer than any known argument is not known.
+fn argument_at(rt: &impl Env, i: usize) -> Result<Option<Argument>, Unknown> {
     let mut bytes = [0u8; 8];
     match rt.arg(i, &mut bytes) {
-        Ok(n) => said(&bytes[..n]),
-        Err(FillError::TooLong) => Argument::Other,
-        Err(FillError::NotPresent) => Argument::Missing,
+        Ok(n) => {
+            let argument = known(&bytes[..n])?;
+            Ok(Some(argument))
+        }
+        Err(FillError::TooLong) => Err(Unknown),
+        Err(FillError::NotPresent) => Ok(None),
     }
 }
 
-// What the arguments ask for: a card's day record in place of a text, the spans of weeks in place of the verdict; and whether all of them are known.
+// What the arguments ask for: a card's day record in place of a text, the spans of weeks in place of the verdict.
 #[derive(Clone, Copy)]
 struct Asked {
-    card: bool,
-    spans: bool,
-    known: bool,
+    format: Format,
+    shown: Shown,
 }
 
-// The same with one argument more; the same one twice is not known.
-fn with(asked: Asked, said: Argument) -> Asked {
-    match said {
-        Argument::Missing => asked,
-        Argument::Card => Asked {
-            card: true,
-            spans: asked.spans,
-            known: asked.known & !asked.card,
-        },
-        Argument::Spans => Asked {
-            card: asked.card,
-            spans: true,
-            known: asked.known & !asked.spans,
-        },
-        Argument::Other => Asked {
-            card: asked.card,
-            spans: asked.spans,
-            known: false,
-        },
-    }
-}
-
-// At most two arguments are known.
-fn what_is_asked(rt: &impl Env) -> Asked {
-    let none = Asked {
-        card: false,
-        spans: false,
-        known: true,
-    };
-    let one = with(none, said_at(rt, 1));
-    let two = with(one, said_at(rt, 2));
-    match said_at(rt, 3) {
-        Argument::Missing => two,
-        _ => with(two, Argument::Other),
-    }
-}
-
-fn print_verdict(card: bool, input: &[u8], page: &mut [u8]) -> Filling {
-    if card {
-        return desk_report::print_card(input, page);
-    }
-    desk_report::print_desk(input, page)
-}
-
-fn print_spans(card: bool, input: &[u8], page: &mut [u8]) -> Filling {
-    if card {
-        return desk_report::print_card_spans(input, page);
-    }
-    desk_report::print_spans(input, page)
-}
-
-fn print(asked: Asked, input: &[u8], page: &mut [u8]) -> Filling {
-    if asked.spans {
-        return print_spans(asked.card, input, page);
-    }
-    print_verdict(asked.card, input, page)
-}
-
-// The answer by way of a lent page.
-fn answer_in(rt: &(impl Print + Eprint), asked: Asked, input: &[u8], page: &mut [u8]) {
-    let printed = print(asked, input, page);
-    match printed {
-        Filling::Refused(_) => (),
-        Filling::Written(n) => {
-            let count = n as usize;
-            if count <= page.len() {
-                write_page(rt, &page[..count]);
-            }
+impl Asked {
+    // The same with one argument more.
+    fn with(self, argument: Argument) -> Result<Asked, Unknown> {
+        match argument {
+            Argument::Card => match self.format {
+                Format::Text => Ok(Asked {
+                    format: Format::Card,
+                    ..self
+                }),
+                Format::Card => Err(Unknown),
+            },
+            Argument::Spans => match self.shown {
+                Shown::Verdict => Ok(Asked {
+                    shown: Shown::Spans,
+                    ..self
+                }),
+                Shown::Spans => Err(Unknown),
+            },
         }
     }
 }
 
-fn answer_short(rt: &(impl Print + Eprint), asked: Asked, input: &[u8]) {
-    let mut page = [0u8; desk_report::SHORT_PAGE_BYTES];
-    answer_in(rt, asked, input, &mut page);
+// There are two arguments at most, so a third one is not known or stands there twice.
+fn what_is_asked(rt: &impl Env) -> Result<Asked, Unknown> {
+    let mut asked = Asked {
+        format: Format::Text,
+        shown: Shown::Verdict,
+    };
+    for i in 1..4 {
+        match argument_at(rt, i)? {
+            Some(argument) => asked = asked.with(argument)?,
+            None => return Ok(asked),
+        }
+    }
+    Err(Unknown)
 }
 
-fn answer_middle(rt: &(impl Print + Eprint), asked: Asked, input: &[u8]) {
-    let mut page = [0u8; desk_report::MIDDLE_PAGE_BYTES];
-    answer_in(rt, asked, input, &mut page);
-}
-
-fn answer_long(rt: &(impl Print + Eprint), asked: Asked, input: &[u8]) {
-    let mut page = [0u8; desk_report::PAGE_BYTES];
-    answer_in(rt, asked, input, &mut page);
+// The answer by way of a page of so many bytes.
+fn answer_in<const BYTES: usize>(rt: &(impl Print + Eprint), asked: Asked, input: &[u8])
+    requires { BYTES ≤ 2 ^ 20 }
+{
+    let mut page = [0u8; BYTES];
+    if let Ok(n) = desk_report::print(asked.format, asked.shown, input, &mut page) {
+        if let Some(printed) = page.get(..n as usize) {
+            write_page(rt, printed);
+        }
+    }
 }
 
 // The same with the shortest page that is surely enough.
 fn answer(rt: &(impl Print + Eprint), asked: Asked, input: &[u8]) {
-    let enough = desk_report::page_room(asked.card, asked.spans, input.len());
+    let enough = desk_report::page_room(asked.format, asked.shown, input.len());
     if enough <= desk_report::SHORT_PAGE_BYTES {
-        answer_short(rt, asked, input);
+        answer_in::<{ desk_report::SHORT_PAGE_BYTES }>(rt, asked, input);
     } else if enough <= desk_report::MIDDLE_PAGE_BYTES {
-        answer_middle(rt, asked, input);
+        answer_in::<{ desk_report::MIDDLE_PAGE_BYTES }>(rt, asked, input);
     } else {
-        answer_long(rt, asked, input);
+        answer_in::<{ desk_report::PAGE_BYTES }>(rt, asked, input);
     }
 }
 
 fn run(rt: &(impl Input + Print + Eprint), asked: Asked) {
     let mut buffer = [0u8; ENOUGH];
-    let input = read_input(&mut rt.reader(), &mut buffer);
-    match input {
-        Given::Bytes(n) => {
-            if n <= ENOUGH {
-                answer(rt, asked, &buffer[..n]);
+    match read_input(&mut rt.reader(), &mut buffer) {
+        Ok(n) => {
+            if let Some(input) = buffer.get(..n) {
+                answer(rt, asked, input);
             }
         }
-        Given::Failed => {
+        Err(_) => {
             let _ = eprintln!(rt; "desk: standard input cannot be read");
         }
     }
 }
 
 fn main(rt: HostRuntime) {
-    let asked = what_is_asked(&rt);
-    if asked.known {
-        run(&rt, asked);
-    } else {
-        let _ = eprintln!(&rt;
-            "desk: the arguments are --card, for a card's day record, and --spans, for the spans of weeks"
-        );
+    match what_is_asked(&rt) {
+        Ok(asked) => run(&rt, asked),
+        Err(Unknown) => {
+            let _ = eprintln!(&rt;
+                "desk: the arguments are --card, for a card's day record, and --spans, for the spans of weeks"
+            );
+        }
     }
 }

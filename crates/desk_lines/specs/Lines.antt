@@ -1,4 +1,4 @@
--- Public: document 01, "Bracket text", the lines that the desk program prints; and document 02, request 6, that of a span of weeks.
+-- Public: the lines that the desk program prints.
 -- Assumes nothing.
 use Rattle.std.specs.Prelude.{List, [], ◌∷◌, ◌++◌, ℕ, eqb}
 use Rattle.recording.specs.Tests.{pick}
@@ -50,7 +50,7 @@ unfoldable pub numbered : List ℕ → ℕ → List ℕ
 numbered name n = name ++ spaced n ++ closed
 
 -- ---- the verdict's
--- "`(daily 240 900)` .. These are N, S and each rest's start and end; a weekly rest prints `(weekly start end week carrier)`."
+-- A daily rest prints `(daily start end)`, a weekly one `(weekly start end week carrier)`.
 unfoldable pub span_text : List ℕ → ℕ → ℕ → List ℕ
 span_text name start end = name ++ spaced start ++ spaced end
 
@@ -64,7 +64,7 @@ weekly_text start end week carrier = span_text weekly_name start end ++ spaced w
 unfoldable pub rest_text : ℕ → ℕ → ℕ → ℕ → ℕ → List ℕ
 rest_text start end kind week carrier = pick (eqb kind weekly_kind) (weekly_text start end week carrier) (daily_text start end)
 
--- "a being 7, 6.1, 6.2, 6.3, 8.2 or 8 for 1 to 6"
+-- Articles print as 7, 6.1, 6.2, 6.3, 8.2 or 8 for the numbers 1 to 6.
 unfoldable pub article_text : ℕ → List ℕ
 article_text a =
     pick (eqb a 1) (55 ∷ [])
@@ -83,6 +83,6 @@ breach_text m a = breach_name ++ spaced m ++ (space ∷ []) ++ article_text a ++
 abbrev pub weeks_name : List ℕ
 weeks_name = 40 ∷ 119 ∷ 101 ∷ 101 ∷ 107 ∷ 115 ∷ []
 
--- Document 02, request 6: "a record of its first and last week", here a line `(weeks first last)`
+-- A span prints its first and its last week, `(weeks first last)`.
 unfoldable pub weeks_text : ℕ → ℕ → List ℕ
 weeks_text first last = span_text weeks_name first last ++ closed

@@ -1,110 +1,97 @@
-// The lines that the desk program prints, each put at a place of a buffer. What is said of them stands in specs/.
+// The lines that the desk program prints, each put on a page. What is said of them stands in specs/.
 #![tactic(auto)]
 
-ghost use Rattle.std.specs.Prelude.{◌+◌, ◌≤◌, length};
-ghost use Rattle.text.specs.Passes.{Put, places, roomy};
+ghost use Rattle.std.specs.Prelude.{◌≡◌, ◌+◌, ◌≤◌, length};
+ghost use Rattle.rules.specs.Numbers.{number_of_article};
+ghost use Rattle.text.specs.Page.{places, Puts};
+ghost use Rattle.text.specs.Passes.{roomy};
 ghost use Rattle.desk_lines.specs.Lines.{spaced, numbered, span_text, daily_text, weekly_text, rest_text, article_text, breach_text, weeks_text};
 
+use recording::Span;
+use rules::{Article, Weeks};
+use text::Page;
+
 // A number after a space.
-fn put_spaced(out: &mut [u8], at: usize, n: u32) -> usize
-    requires { at + 7 ≤ places }
-    ensures { Put out.old at (spaced n) result out.new × (result ≤ at + 7) }
+fn put_spaced(page: &mut Page, n: u32)
+    requires { page.old.len + 7 ≤ places }
+    ensures text { Puts page.old (spaced n) page.new }
+    ensures short { page.new.len ≤ page.old.len + 7 }
 {
-    let next = text::put_all(out, at, b" ");
-    text::put_number(out, next, n)
+    page.put(b" ");
+    page.put_number(n);
 }
 
-// A line of a name and one number.
-pub fn put_numbered(out: &mut [u8], at: usize, name: &[u8], n: u32) -> usize
-    requires { at + length name.now + 9 ≤ places }
-    ensures { Put out.old at (numbered name.now n) result out.new × (result ≤ at + length name.now + 9) }
+/// A line of a name and one number.
+pub fn put_numbered(page: &mut Page, name: &[u8], n: u32)
+    requires { page.old.len + length name.now + 9 ≤ places }
+    ensures text { Puts page.old (numbered name.now n) page.new }
+    ensures short { page.new.len ≤ page.old.len + length name.now + 9 }
 {
-    let named = text::put_all(out, at, name);
-    let told = put_spaced(out, named, n);
-    text::put_all(out, told, b")\n")
+    page.put(name);
+    put_spaced(page, n);
+    page.put(b")\n");
 }
 
-// A name, a start and an end.
-fn put_span(out: &mut [u8], at: usize, name: &[u8], start: u32, end: u32) -> usize
-    requires { at + length name.now + 14 ≤ places }
-    ensures { Put out.old at (span_text name.now start end) result out.new × (result ≤ at + length name.now + 14) }
+// A name and two numbers.
+fn put_span(page: &mut Page, name: &[u8], first: u32, last: u32)
+    requires { page.old.len + length name.now + 14 ≤ places }
+    ensures text { Puts page.old (span_text name.now first last) page.new }
+    ensures short { page.new.len ≤ page.old.len + length name.now + 14 }
 {
-    let named = text::put_all(out, at, name);
-    let begun = put_spaced(out, named, start);
-    put_spaced(out, begun, end)
+    page.put(name);
+    put_spaced(page, first);
+    put_spaced(page, last);
 }
 
-// The line of a daily rest.
-fn put_daily(out: &mut [u8], at: usize, start: u32, end: u32) -> usize
-    requires { at ≤ roomy }
-    ensures { Put out.old at (daily_text start end) result out.new }
-{
-    let ended = put_span(out, at, b"(daily", start, end);
-    text::put_all(out, ended, b")\n")
-}
-
-// The line of a weekly rest.
-fn put_weekly(out: &mut [u8], at: usize, start: u32, end: u32, week: u32, carrier: u32) -> usize
-    requires { at ≤ roomy }
-    ensures { Put out.old at (weekly_text start end week carrier) result out.new }
-{
-    let ended = put_span(out, at, b"(weekly", start, end);
-    let counted = put_spaced(out, ended, week);
-    let carried = put_spaced(out, counted, carrier);
-    text::put_all(out, carried, b")\n")
-}
-
-// A rest's line, by its entry in the reading.
-pub fn put_rest(
-    out: &mut [u8],
-    at: usize,
-    start: u32,
-    end: u32,
-    kind: u32,
-    week: u32,
-    carrier: u32,
-) -> usize
-    requires { at ≤ roomy }
-    ensures { Put out.old at (rest_text start end kind week carrier) result out.new }
+/// A rest's line, by the kind, the week and the carrier of its entry in the reading.
+pub fn put_rest(page: &mut Page, rest: Span, kind: u32, week: u32, carrier: u32)
+    requires { page.old.len ≤ roomy }
+    ensures { Puts page.old (rest_text rest.start rest.end kind week carrier) page.new }
 {
     if kind == 1 {
-        return put_weekly(out, at, start, end, week, carrier);
+        put_span(page, b"(weekly", rest.start, rest.end);
+        put_spaced(page, week);
+        put_spaced(page, carrier);
+    } else {
+        put_span(page, b"(daily", rest.start, rest.end);
     }
-    put_daily(out, at, start, end)
+    page.put(b")\n");
 }
 
-// The article of a breach.
-fn put_article(out: &mut [u8], at: usize, article: u32) -> usize
-    requires { at ≤ roomy }
-    ensures { Put out.old at (article_text article) result out.new × (result ≤ at + 3) }
+// The article as it is written.
+#[tactic(auto, unfolding(crate::specs::Lines::article_text))]
+fn article_name(article: Article) -> &'static [u8]
+    ensures name { result.now ≡ article_text (number_of_article article) }
+    ensures short { length result.now ≤ 3 }
 {
     match article {
-        1 => text::put_all(out, at, b"7"),
-        2 => text::put_all(out, at, b"6.1"),
-        3 => text::put_all(out, at, b"6.2"),
-        4 => text::put_all(out, at, b"6.3"),
-        5 => text::put_all(out, at, b"8.2"),
-        _ => text::put_all(out, at, b"8"),
+        Article::Breaks => b"7",
+        Article::DailyDriving => b"6.1",
+        Article::WeeklyDriving => b"6.2",
+        Article::FortnightlyDriving => b"6.3",
+        Article::DailyRests => b"8.2",
+        Article::Rests => b"8",
     }
 }
 
-// The line of a breach.
-pub fn put_breach(out: &mut [u8], at: usize, minute: u32, article: u32) -> usize
-    requires { at + 24 ≤ roomy }
-    ensures { Put out.old at (breach_text minute article) result out.new × (result ≤ at + 20) }
+/// The line of a breach.
+pub fn put_breach(page: &mut Page, minute: u32, article: Article)
+    requires { page.old.len + 24 ≤ roomy }
+    ensures text { Puts page.old (breach_text minute (number_of_article article)) page.new }
+    ensures short { page.new.len ≤ page.old.len + 20 }
 {
-    let named = text::put_all(out, at, b"(breach");
-    let timed = put_spaced(out, named, minute);
-    let parted = text::put_all(out, timed, b" ");
-    let told = put_article(out, parted, article);
-    text::put_all(out, told, b")\n")
+    page.put(b"(breach");
+    put_spaced(page, minute);
+    page.put(b" ");
+    page.put(article_name(article));
+    page.put(b")\n");
 }
 
-// The line of a span of weeks.
-pub fn put_weeks(out: &mut [u8], at: usize, first: u32, last: u32) -> usize
-    requires { at ≤ roomy }
-    ensures { Put out.old at (weeks_text first last) result out.new }
+/// The line of a span of weeks.
+pub fn put_weeks(page: &mut Page, weeks: Weeks)
+    requires { page.old.len ≤ roomy }
+    ensures { Puts page.old (weeks_text weeks.first weeks.last) page.new }
 {
-    let ended = put_span(out, at, b"(weeks", first, last);
-    text::put_all(out, ended, b")\n")
+    put_span(page, b"(weeks", weeks.first, weeks.last);
+    page.put(b")\n");
 }

@@ -1,7 +1,7 @@
 -- What each answer prints: of the verdict, of the reading of a text, and of a page that is handed over. Assumes nothing.
 use mathlib.Core.Path.{◌≡◌, refl, sym, ap, subst, ◌∙◌}
 use mathlib.Core.Bool.{Bool, true, false}
-use mathlib.Core.List.{List}
+use mathlib.Core.List.{List, ◌++◌}
 use mathlib.Core.Option.{Option, none, some}
 use Prim.Native.Nat.{ℕ, zero, ◌+◌, ◌*◌, ◌≤◌, ◌<◌}
 use native.Mathlib.Omega.{arith}
@@ -9,12 +9,11 @@ use lib.Dec.{ltb}
 use lib.ListN.{length, take, drop, replicate, length-append, length-take, length-replicate}
 use lib.Seq.{take_at}
 use borrow.Author.Tests.{lt-ltb, le-ltb}
-use Rattle.recording.specs.Answers.{Answer, refused, answered, and_then, refuse_if, counted, filled}
+use Rattle.recording.specs.Answers.{Answer, refused, answered, and_then, refuse_if, counted, filled, answer_of, number_of}
 use Rattle.recording.specs.Words.{minutes_of}
 use Rattle.recording.specs.Rests.{long_rests, long_rests_at_most}
-use Rattle.recording.specs.Operations.{total_at_most, measured, written}
-use Rattle.recording.specs.declared.Filling.{Filling}
-use Rattle.recording.specs.declared.Filling.TheVariants as filling
+use Rattle.recording.specs.Operations.{total_at_most, measured}
+use Rattle.recording.specs.declared.Refusal.{Refusal}
 use Rattle.recording.specs.declared.Measure.{Measure}
 use Rattle.recording.proofs.LongRests.{few_rests}
 use Rattle.recording.proofs.Listing.{measured_is}
@@ -24,7 +23,9 @@ use Rattle.rules.specs.Operations.{Finding, passed, breached, reading_into, verd
 use Rattle.rules.proofs.EntryLaws.{first_size}
 use Rattle.rules.proofs.VerdictAndReading.{VerdictGiven, found_refused, found_pass, found_breach, verdict_given_law, breach_given}
 use Rattle.rules.proofs.VerdictAndReading.{ReadingGiven, turned_away, short, breaching, reading, reading_given}
-use Rattle.text.specs.Passes.{Put}
+use Rattle.text.specs.declared.page.Page.{Page}
+use Rattle.text.specs.Page.{Put, Puts}
+use Rattle.std.specs.Prelude.{Result, Ok, Err}
 use Rattle.verdict_spans.specs.Mondays.{weeks_at_most}
 use Rattle.text_lines.specs.Reading.{text_read}
 use Rattle.recording.proofs.Slices.{put_in_front}
@@ -32,7 +33,7 @@ use Rattle.card_reader.specs.Reading.{card_read}
 use Rattle.desk_report.specs.Printed.{answer_text, printed, words_answered, verdict_text, input_at_most, unless_over, input_read, desk_text, card_input_read, card_text, into_room}
 use Rattle.desk_report.specs.Printed.{printed_spans, spans_answered, spans_text, desk_spans_text, card_spans_text, input_text}
 use Rattle.desk_report.specs.Composing.{line_at_most, around_at_most, page_at_most, run_line_bytes, change_bytes, rest_words, rest_bytes, reading_room}
-use Rattle.desk_report.specs.Composing.{refusal_page, page_of, Read, Fits, Places, Within, refusal, front, words_text, read_text}
+use Rattle.desk_report.specs.Composing.{refusal_page, page_of, Read, Fits, Roomy, Within, refusal, front, words_text, read_text}
 use Rattle.desk_report.proofs.Pages.{refusal_size, page_size}
 use Rattle.desk_report.proofs.SpanLines.{spans_size}
 use Rattle.desk_report.proofs.Room.{room_same, card_room_same, text_words, card_words_within}
@@ -93,46 +94,43 @@ counted-refused (refused m) {n} e = let same : m ≡ n = cc in ap refused same
 counted-refused (answered r) e = let z : ◌≡◌ {A = ℕ} 0 1 = cc in absurd (omega arith)
 
 -- a reading is answered alike for each room that it fits into
-module _ (ws old : List ℕ) (k : Fits ws old) where
-  room_alike : first_reading_given ws (length old) ≡ first_reading_given ws reading_room
+module _ (ws : List ℕ) (bytes : ℕ) (k : Fits ws bytes) where
+  room_alike : first_reading_given ws bytes ≡ first_reading_given ws reading_room
   unfolding first_reading_given reading_size
   room_alike = at (measured ws) refl
     where
-      at : (a : Answer Measure) → measured ws ≡ a → and_then a (λ m. reading_into (length old) m.count (verdict (minutes_of ws)))
+      at : (a : Answer Measure) → measured ws ≡ a → and_then a (λ m. reading_into bytes m.count (verdict (minutes_of ws)))
           ≡ and_then a (λ m. reading_into reading_room m.count (verdict (minutes_of ws)))
       at (refused n) q = refl
       at (answered m) q =
           let is = measured_is ws q in
           let c : m.count ≡ length (long_rests (minutes_of ws)) = ap (λ (x : Measure). x.count) is.is in
           rw (
-            le-ltb (length old) (entry_bytes * m.count) (omega (arith, k.fits is.within)),
+            le-ltb bytes (entry_bytes * m.count) (omega (arith, k.fits is.within)),
             le-ltb reading_room (entry_bytes * m.count) (omega (arith, few_rests (minutes_of ws) is.within)),
           )
           refl
 
-  pub refused_alike : {n : ℕ} → refused n ≡ counted (first_reading_given ws (length old)) → first_reading_given ws reading_room ≡ refused n
-  refused_alike e = sym room_alike ∙ counted-refused _ e
+  pub refused_alike : {n room : ℕ} → room ≡ bytes → refused n ≡ counted (first_reading_given ws room) → first_reading_given ws reading_room ≡ refused n
+  refused_alike h e = sym room_alike ∙ counted-refused _ (rw h at e)
 
 -- arrays that are long enough: by the words, and for any recording
 module _ (ws : List ℕ) where
-  pub fits_few : (rests : ℕ) → length ws ≤ rest_words * rests → Fits ws (blank (entry_bytes * rests))
+  pub fits_few : (rests : ℕ) → length ws ≤ rest_words * rests → rests ≤ long_rests_at_most → Fits ws (entry_bytes * rests)
   unfolding reading_size
-  fits_few rests h = record { fits = λ w. omega (arith, rests_paid ws, length-replicate (entry_bytes * rests) zero) }
+  fits_few rests h l = record { fits = λ w. omega (arith, rests_paid ws); most = omega arith }
 
-  pub fits_all : Fits ws (blank reading_room)
+  pub fits_all : Fits ws reading_room
   unfolding reading_size
-  fits_all = record { fits = λ w. omega (arith, few_rests (minutes_of ws) w, length-replicate reading_room zero) }
-
-  places : (rests : ℕ) → length (long_rests (minutes_of ws)) ≤ rests → Places ws (blank rests) (blank rests)
-  places rests h = record { begun = rw length-replicate h; ended = rw length-replicate h }
+  fits_all = record { fits = λ w. omega (arith, few_rests (minutes_of ws) w); most = omega arith }
 
   module _ {reading : List ℕ} (read : Read ws reading) where
-    pub places_few : (rests : ℕ) → length reading ≤ entry_bytes * rests → Places ws (blank rests) (blank rests)
+    pub roomy_few : (rests : ℕ) → length reading ≤ entry_bytes * rests → rests ≤ long_rests_at_most → Roomy ws rests
     unfolding reading_size
-    places_few rests h = places rests (omega (arith, read.size))
+    roomy_few rests h l = record { enough = omega (arith, read.size); most = l }
 
-    pub places_all : Places ws (blank long_rests_at_most) (blank long_rests_at_most)
-    places_all = places long_rests_at_most (few_rests (minutes_of ws) read.within)
+    pub roomy_all : Roomy ws long_rests_at_most
+    roomy_all = record { enough = few_rests (minutes_of ws) read.within; most = omega arith }
 
 -- the breach, where the verdict is one
 pub breached_text : (ws : List ℕ) {m a : ℕ} → answered (breached m a) ≡ verdict_given ws → Breaching ws m a
@@ -210,29 +208,29 @@ not_over : (input : List ℕ) (read : Answer (List ℕ)) → length input ≤ in
 not_over input read h = rw (le-ltb input_at_most (length input) h) refl
 
 -- what an operation left in lent words, and the number that it told
-module _ (read : Answer (List ℕ)) (lent : ℕ) (f : Filling) {new : List ℕ} (told : written f ≡ counted read) (left : new ≡ filled read (blank lent)) where
+module _ (read : Answer (List ℕ)) (lent : ℕ) (f : Result ℕ Refusal) {new : List ℕ} (told : answer_of f ≡ counted read) (left : new ≡ filled read (blank lent)) where
   pub within_words : Within f new
   within_words = at f read told left
     where
-      at : (f : Filling) (a : Answer (List ℕ)) → written f ≡ counted a → new ≡ filled a (blank lent) → Within f new
-      at (filling.Refused n) a e b = refusal
-      at (filling.Written n) (refused m) e b = let z : ◌≡◌ {A = ℕ} 0 1 = cc in absurd (omega arith)
-      at (filling.Written n) (answered ws) e b = let z : n ≡ length ws = cc in front {n = n} {words = new} (omega (arith, ap length b, length-append ws (drop (length ws) (blank lent))))
+      at : (f : Result ℕ Refusal) (a : Answer (List ℕ)) → answer_of f ≡ counted a → new ≡ filled a (blank lent) → Within f new
+      at (Err r) a e b = refusal
+      at (Ok n) (refused m) e b = let z : ◌≡◌ {A = ℕ} 0 1 = cc in absurd (omega arith)
+      at (Ok n) (answered ws) e b = let z : n ≡ length ws = cc in front {n = n} {words = new} (omega (arith, ap length b, length-append ws (drop (length ws) (blank lent))))
 
-  pub read_printed : (spans : Bool) → printed_of spans read ≡ read_text spans (written f) new
+  pub read_printed : (spans : Bool) → printed_of spans read ≡ read_text spans (answer_of f) new
   unfolding read_text
   read_printed spans = at f read told left
     where
-      at : (f : Filling) (a : Answer (List ℕ)) → written f ≡ counted a → new ≡ filled a (blank lent) → printed_of spans a ≡ read_text spans (written f) new
-      at (filling.Refused n) (refused m) e b = let z : m ≡ n = cc in printed_refused spans refl ∙ ap refusal_page z
-      at (filling.Refused n) (answered ws) e b = let z : ◌≡◌ {A = ℕ} 0 1 = cc in absurd (omega arith)
-      at (filling.Written n) (refused m) e b = let z : ◌≡◌ {A = ℕ} 0 1 = cc in absurd (omega arith)
-      at (filling.Written n) (answered ws) e b =
+      at : (f : Result ℕ Refusal) (a : Answer (List ℕ)) → answer_of f ≡ counted a → new ≡ filled a (blank lent) → printed_of spans a ≡ read_text spans (answer_of f) new
+      at (Err r) (refused m) e b = let z : m ≡ number_of r = cc in printed_refused spans refl ∙ ap refusal_page z
+      at (Err r) (answered ws) e b = let z : ◌≡◌ {A = ℕ} 0 1 = cc in absurd (omega arith)
+      at (Ok n) (refused m) e b = let z : ◌≡◌ {A = ℕ} 0 1 = cc in absurd (omega arith)
+      at (Ok n) (answered ws) e b =
           let z : n ≡ length ws = cc in
           let t : take n new ≡ ws = ap (take n) b ∙ take_at ws (drop (length ws) (blank lent)) n (sym z) in
           printed_words spans refl ∙ ap (words_text spans) (sym t)
 
-pub front_within : {n : ℕ} {words : List ℕ} → Within (filling.Written n) words → n ≤ length words
+pub front_within : {n : ℕ} {words : List ℕ} → Within (Ok n) words → n ≤ length words
 front_within (front h) = h
 
 pub desk_refused : (text : List ℕ) {n : ℕ} → input_read text ≡ refused n → desk_text text ≡ refusal_page n
@@ -309,8 +307,8 @@ spans_room card input = at (read_of card input) refl
 
 -- the words that are lent are enough, for a text and for a day record
 module _ (input : List ℕ) (lent : ℕ) (within : length input ≤ input_at_most) where
-  pub desk_read : input_at_most ≤ run_line_bytes * lent → (f : Filling) {new : List ℕ} → written f ≡ counted (text_read input (length (blank lent)))
-      → new ≡ filled (text_read input (length (blank lent))) (blank lent) → (spans : Bool) → input_text false spans input ≡ read_text spans (written f) new
+  pub desk_read : input_at_most ≤ run_line_bytes * lent → (f : Result ℕ Refusal) {new : List ℕ} → answer_of f ≡ counted (text_read input (length (blank lent)))
+      → new ≡ filled (text_read input (length (blank lent))) (blank lent) → (spans : Bool) → input_text false spans input ≡ read_text spans (answer_of f) new
   unfolding input_read
   desk_read room f told left spans =
       input_is false spans input
@@ -318,8 +316,8 @@ module _ (input : List ℕ) (lent : ℕ) (within : length input ≤ input_at_mos
       ∙ room_same input (length input) (length (blank lent)) (omega arith) (omega (arith, length-replicate lent zero)))
       ∙ read_printed (text_read input (length (blank lent))) lent f told left spans
 
-  pub card_read_law : input_at_most ≤ change_bytes * lent → (f : Filling) {new : List ℕ} → written f ≡ counted (card_read input (length (blank lent)))
-      → new ≡ filled (card_read input (length (blank lent))) (blank lent) → (spans : Bool) → input_text true spans input ≡ read_text spans (written f) new
+  pub card_read_law : input_at_most ≤ change_bytes * lent → (f : Result ℕ Refusal) {new : List ℕ} → answer_of f ≡ counted (card_read input (length (blank lent)))
+      → new ≡ filled (card_read input (length (blank lent))) (blank lent) → (spans : Bool) → input_text true spans input ≡ read_text spans (answer_of f) new
   unfolding card_input_read
   card_read_law room f told left spans =
       input_is true spans input
@@ -341,34 +339,32 @@ module _ (page out : List ℕ) where
   unfolding into_room
   too_few h = let t = lt-ltb (length out) (length page) h in record { answer = rw t refl; content = rw t refl }
 
-  pub all_there : {next : ℕ} {new : List ℕ} → length page ≤ length out → Put out 0 page next new → Handed (answered (length page)) new
+  pub all_there : {n : ℕ} {new : List ℕ} → length page ≤ length out → n ≡ length page → new ≡ page ++ drop n out → Handed (answered n) new
   unfolding into_room
-  all_there h p = let t = le-ltb (length out) (length page) h in record { answer = rw t refl; content = p.text_is ∙ rw t (put_in_front page out h) }
+  all_there h z e = let t = le-ltb (length out) (length page) h in record { answer = rw (t, z) refl; content = e ∙ rw (t, z) refl }
 
   -- composed in place, with its count
-  pub in_place : {n : ℕ} {new : List ℕ} → length page ≤ length out → Put out 0 page n new → Handed (answered n) new
-  in_place h p = let k = all_there h p in record { answer = ap answered (omega (arith, p.next_is)) ∙ k.answer; content = k.content }
+  pub in_place : {n : ℕ} {new : List ℕ} → Put out 0 page n new → length page ≤ length out → Handed (answered n) new
+  in_place p h =
+      let z = p.next_is in
+      all_there h (omega (arith, z)) (p.text_is ∙ put_in_front page out h ∙ ap (λ (k : ℕ). page ++ drop k out) (omega (arith, z)))
 
--- the front of the buffer is the page
-module _ {bytes : List ℕ} (short : length bytes ≤ page_at_most) {u : List ℕ} {n : ℕ} (p : Put (blank page_at_most) 0 bytes n u) where
-  pub front_page : take n u ≡ bytes
+-- what is put on a new page
+pub put_anew : {bytes xs : List ℕ} {p q : Page} → p.bytes.now ≡ bytes → p.len ≡ 0 → Puts p xs q → Put bytes 0 xs q.len q.bytes.now
+put_anew b z k = record { next_is = k.put.next_is ∙ rw z refl; text_is = k.put.text_is ∙ rw (b, z) refl }
+
+-- the front of a buffer that is long enough is the page
+module _ {page : List ℕ} (short : length page ≤ page_at_most) {n : ℕ} {bytes : List ℕ} (p : Put (blank page_at_most) 0 page n bytes) where
+  pub front_page : take n bytes ≡ page
   front_page =
-      let h : length bytes ≤ length (blank page_at_most) = omega (arith, length-replicate page_at_most zero) in
-      ap (take n) (p.text_is ∙ put_in_front bytes (blank page_at_most) h) ∙ take_at bytes (drop (length bytes) (blank page_at_most)) n (omega (arith, p.next_is))
+      let h : length page ≤ length (blank page_at_most) = omega (arith, length-replicate page_at_most zero) in
+      ap (take n) (p.text_is ∙ put_in_front page (blank page_at_most) h) ∙ take_at page (drop (length page) (blank page_at_most)) n (omega (arith, p.next_is))
 
-  pub front_size : n ≡ length (take n u)
+  pub length_is : n ≡ length page
+  length_is = omega (arith, p.next_is)
+
+  pub front_size : n ≡ length (take n bytes)
   front_size = omega (arith, ap length front_page, p.next_is)
 
-  pub front_fits : n ≤ length u
-  front_fits = omega (arith, front_size, length-take n u)
-
-  pub front_short : length (take n u) ≤ page_at_most
-  front_short = omega (arith, ap length front_page)
-
-  -- what is handed over is the page
-  pub front_handed : (out : List ℕ) {told : Answer ℕ} {new : List ℕ} → told ≡ counted (into_room (take n u) (length out)) → new ≡ filled (into_room (take n u) (length out)) out
-      → Handed bytes out told new
-  front_handed out a b = record {
-    answer = a ∙ ap (λ (l : List ℕ). counted (into_room l (length out))) front_page;
-    content = b ∙ ap (λ (l : List ℕ). filled (into_room l (length out)) out) front_page;
-  }
+  pub front_fits : n ≤ length bytes
+  front_fits = omega (arith, front_size, length-take n bytes)

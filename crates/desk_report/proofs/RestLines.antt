@@ -8,9 +8,10 @@ use lib.ListN.{length, drop, get_or, length-append}
 use lib.Seq.{sets, drop-cons, drop-length, drop-drop, get_or-drop}
 use Rattle.recording.specs.declared.Span.{Span}
 use Rattle.rules.specs.Reading.{entry_bytes, carrier_of}
-use Rattle.text.specs.Passes.{Put, roomy}
+use Rattle.text.specs.declared.page.Page.{Page}
+use Rattle.text.specs.Page.{Puts}
+use Rattle.text.specs.Passes.{roomy}
 use Rattle.recording.proofs.Slices.{sets_append}
-use Rattle.text.proofs.Puts.{put_same_length}
 use Rattle.desk_lines.specs.Lines.{rest_text}
 use Rattle.desk_report.specs.Printed.{rests_text}
 use Rattle.desk_report.specs.Composing.{line_at_most, rests_of, Readable}
@@ -49,40 +50,36 @@ lines_next starts ends reading i h =
     rw (d, e, k, w, v, x, f, g)
 
 -- where the rest i comes next: what is left, put from here on, makes what the whole makes
-pub record Going (old : List ℕ) (at : ℕ) (starts ends reading : List ℕ) (out : List ℕ) (next i : ℕ) : Type 0 where
-  pub within : i ≤ length starts
-  pub room : next + line_at_most * (length starts - i) ≤ roomy
-  pub bytes : sets old at (rests_of starts ends reading) ≡ sets out next (lines_on starts ends reading i)
-  pub place : at + length (rests_of starts ends reading) ≡ next + length (lines_on starts ends reading i)
+pub record Going (old : Page) (starts ends reading : List ℕ) (page : Page) (i : ℕ) : Type 0 where
+  pub room : page.len + line_at_most * (length starts - i) ≤ roomy
+  pub bytes : sets old.bytes.now old.len (rests_of starts ends reading) ≡ sets page.bytes.now page.len (lines_on starts ends reading i)
+  pub place : old.len + length (rests_of starts ends reading) ≡ page.len + length (lines_on starts ends reading i)
+  pub same : page.bytes.ghost_name ≡ old.bytes.ghost_name
 
-pub going_first : {old : List ℕ} {at : ℕ} {starts ends reading : List ℕ} → Readable at starts ends reading → Going old at starts ends reading old at 0
-going_first r = record { within = omega arith; room = omega (arith, r.room); bytes = refl; place = refl }
+pub going_first : {old : Page} {starts ends reading : List ℕ} → Readable old starts ends reading → Going old starts ends reading old 0
+going_first r = record { room = omega (arith, r.room); bytes = refl; place = refl; same = refl }
 
-module _ {old : List ℕ} {at : ℕ} {starts ends reading out : List ℕ} {next i : ℕ} (g : Going old at starts ends reading out next i) where
-  pub going_on : {out' : List ℕ} {next' kind week carrier : ℕ} → i < length starts
+module _ {old : Page} {starts ends reading : List ℕ} {page : Page} {i : ℕ} (g : Going old starts ends reading page i) where
+  pub going_on : {page' : Page} {kind week carrier : ℕ} → i < length starts
       → kind ≡ get_or reading (entry_bytes * i) 0 → week ≡ get_or reading (entry_bytes * i + 1) 0
       → carrier ≡ carrier_of (get_or reading (entry_bytes * i + 2) 0) (get_or reading (entry_bytes * i + 3) 0)
-      → Put out next (rest_text (get_or starts i 0) (get_or ends i 0) kind week carrier) next' out' → Going old at starts ends reading out' next' (i + 1)
-  going_on {out'} {next'} {kind} {week} {carrier} h a b c p =
+      → Puts page (rest_text (get_or starts i 0) (get_or ends i 0) kind week carrier) page' → Going old starts ends reading page' (i + 1)
+  going_on {page'} {kind} {week} {carrier} h a b c p =
       let l : List ℕ = rest_text (get_or starts i 0) (get_or ends i 0) kind week carrier in
       let e : lines_on starts ends reading i ≡ l ++ lines_on starts ends reading (i + 1) = rw (a, b, c) (lines_next starts ends reading i h) in
       let s = rest_short (get_or starts i 0) (get_or ends i 0) kind week carrier in
       record {
-        within = omega arith;
-        room = omega (arith, g.room, p.next_is, s);
-        bytes = g.bytes ∙ ap (sets out next) e ∙ sets_append out next l (lines_on starts ends reading (i + 1)) ∙ rw (p.next_is, p.text_is);
-        place = g.place ∙ ap (λ (x : List ℕ). next + length x) e ∙ rw (length-append) (omega (arith, p.next_is));
+        room = omega (arith, g.room, p.put.next_is, s);
+        bytes = g.bytes ∙ ap (sets page.bytes.now page.len) e ∙ sets_append page.bytes.now page.len l (lines_on starts ends reading (i + 1)) ∙ rw (p.put.next_is, p.put.text_is) refl;
+        place = g.place ∙ ap (λ (x : List ℕ). page.len + length x) e ∙ rw (length-append) (omega (arith, p.put.next_is));
+        same = p.same ∙ g.same;
       }
 
-  lines_done : length starts ≤ i → lines_on starts ends reading i ≡ []
+  pub going_done : i ≡ length starts → Puts old (rests_of starts ends reading) page
   unfolding rests_of
-  lines_done h = let e : i ≡ length starts = omega (arith, g.within) in rw (e, drop-length)
-
-  pub going_done : length starts ≤ i → Put old at (rests_of starts ends reading) next out
-  going_done h = record {
-    next_is = omega (arith, g.place, ap length (lines_done h));
-    text_is = sym (g.bytes ∙ ap (sets out next) (lines_done h));
-  }
-
-  pub going_length : length out ≡ length old
-  going_length = put_same_length old out at next (rests_of starts ends reading) (lines_on starts ends reading i) g.bytes
+  going_done e =
+      let none : lines_on starts ends reading i ≡ [] = rw (e, drop-length) refl in
+      record {
+        put = record { next_is = omega (arith, g.place, ap length none); text_is = sym (g.bytes ∙ ap (sets page.bytes.now page.len) none) };
+        same = g.same;
+      }

@@ -4,23 +4,21 @@ use mathlib.Core.List.{List, [], ◌∷◌, ◌++◌, append-nil, append_assoc}
 use Prim.Native.Nat.{ℕ, zero, suc, ◌+◌, ◌*◌, ◌≤◌, ◌<◌}
 use native.Mathlib.Numerals.{add-one}
 use native.Mathlib.Omega.{arith}
-use lib.ListN.{length, length-append}
+use lib.ListN.{length, take, drop, get_or, length-append, length-take}
+use lib.Seq.{take_all, take_at}
 use borrow.Author.Tests.{le-ltb}
-use Rattle.recording.specs.Answers.{Answer, refused, answered, counted}
+use Rattle.recording.specs.Answers.{Answer, refused, answered, counted, filled}
 use Rattle.recording.specs.Words.{minutes_of}
-use Rattle.recording.specs.Operations.{measured, written}
-use Rattle.recording.specs.declared.Filling.TheVariants as filling
+use Rattle.recording.specs.Operations.{measured}
 use Rattle.recording.specs.declared.Measure.{Measure}
 use Rattle.recording.proofs.Listing.{measured_is}
-use Rattle.recording_list.specs.Records.{first_of, new_of}
-use Rattle.recording_list.proofs.Stored.{first_length}
 use Rattle.rules.specs.Spans.{breach_spans, spans_given}
 use Rattle.rules.specs.declared.Weeks.{Weeks}
-use Rattle.text.specs.Passes.{Put, roomy}
-use Rattle.text.proofs.Puts.{put_then, put_none, put_length}
+use Rattle.text.specs.declared.page.Page.{Page}
+use Rattle.text.specs.Page.{Puts}
+use Rattle.text.specs.Passes.{roomy}
+use Rattle.text.proofs.Puts.{puts_then, puts_none}
 use Rattle.verdict_spans.specs.Mondays.{weeks_at_most}
-use Rattle.verdict_spans.specs.Found.{weeks_in, Finds}
-use Rattle.verdict_spans.specs.declared.Found.{Found}
 use Rattle.verdict_spans.proofs.Putting.{spans_few}
 use Rattle.desk_lines.specs.Lines.{weeks_name, weeks_text}
 use Rattle.desk_report.specs.Printed.{weeks_lines, spans_page, spans_text}
@@ -45,41 +43,39 @@ lines_append [] s = append-nil (weeks_text s.first s.last)
 lines_append (x ∷ ss) s =
     ap (λ (l : List ℕ). weeks_text x.first x.last ++ l) (lines_append ss s) ∙ sym (append_assoc (weeks_text x.first x.last) (weeks_lines ss) (weeks_text s.first s.last))
 
-first_more : (k : ℕ) (f : ℕ → Weeks) → first_of (suc k) f ≡ first_of k f ++ f k ∷ []
-first_more zero f = refl
-first_more (suc k) f = ap (λ (l : List Weeks). f 0 ∷ l) (first_more k (λ i. f (suc i)))
+pub take_more : (ss : List Weeks) (i : ℕ) (d : Weeks) → i < length ss → take (i + 1) ss ≡ take i ss ++ get_or ss i d ∷ []
+take_more [] i d h = absurd (omega arith)
+take_more (s ∷ ss) zero d h = refl
+take_more (s ∷ ss) (suc i) d h =
+    let k : take (suc i) ss ≡ take i ss ++ get_or ss i d ∷ [] = rw (add-one i) at (take_more ss i d (omega arith)) in
+    rw (add-one (suc i)) (ap (λ (l : List Weeks). s ∷ l) k)
 
--- the lines of the first i spans are put
-pub record Lining (old : List ℕ) (at : ℕ) (f : Found) (out : List ℕ) (next i : ℕ) : Type 0 where
-  pub within : i ≤ f.count
-  pub lines : Put old at (weeks_lines (first_of i (weeks_in f))) next out
+-- the lines of the first spans are put
+pub record Lining (old : Page) (ss : List Weeks) (page : Page) (i : ℕ) : Type 0 where
+  pub lines : Puts old (weeks_lines (take i ss)) page
 
-pub start_lining : (old : List ℕ) (at : ℕ) (f : Found) → Lining old at f old at 0
+pub start_lining : (old : Page) (ss : List Weeks) → Lining old ss old 0
 unfolding weeks_lines
-start_lining old at f = record { within = omega arith; lines = put_none old at }
+start_lining old ss = record { lines = puts_none old }
 
-module _ {old : List ℕ} {at : ℕ} {f : Found} {out : List ℕ} {next i : ℕ} (k : Lining old at f out next i) where
-  pub line_room : i < weeks_at_most → at + line_at_most * weeks_at_most ≤ roomy → next ≤ roomy
-  line_room h r = omega (arith, k.lines.next_is, lines_short (first_of i (weeks_in f)), first_length i (weeks_in f))
+module _ {old : Page} {ss : List Weeks} {page : Page} {i : ℕ} (k : Lining old ss page i) where
+  pub line_room : i < length ss → length ss ≤ weeks_at_most → old.len + line_at_most * weeks_at_most ≤ roomy → page.len ≤ roomy
+  line_room h l r = omega (arith, k.lines.put.next_is, lines_short (take i ss), length-take i ss)
 
-  pub line_on : {s : Weeks} {out' : List ℕ} {next' : ℕ} → i < f.count → s ≡ weeks_in f i → Put out next (weeks_text s.first s.last) next' out'
-      → Lining old at f out' next' (i + 1)
-  line_on {s} {out'} {next'} h e p =
-      let q : weeks_lines (first_of i (weeks_in f)) ++ weeks_text s.first s.last ≡ weeks_lines (first_of (i + 1) (weeks_in f)) =
-      ap (λ (x : Weeks). weeks_lines (first_of i (weeks_in f)) ++ weeks_text x.first x.last) e
-      ∙ sym (lines_append (first_of i (weeks_in f)) (weeks_in f i))
-      ∙ ap weeks_lines (sym (first_more i (weeks_in f)) ∙ ap (λ (n : ℕ). first_of n (weeks_in f)) (sym (add-one i))) in
-      record { within = omega arith; lines = rw q at (put_then k.lines p) }
+  pub line_on : (s : Weeks) {page' : Page} → take (i + 1) ss ≡ take i ss ++ s ∷ [] → Puts page (weeks_text s.first s.last) page' → Lining old ss page' (i + 1)
+  line_on s e p =
+      let q : weeks_lines (take i ss) ++ weeks_text s.first s.last ≡ weeks_lines (take (i + 1) ss) = sym (ap weeks_lines e ∙ lines_append (take i ss) s) in
+      record { lines = rw q at (puts_then k.lines p) }
 
-  pub lines_done : f.count ≤ i → Put old at (weeks_lines (first_of f.count (weeks_in f))) next out
-  lines_done h = let e : i ≡ f.count = omega (arith, k.within) in rw e at k.lines
-
-  pub lines_length : length out ≡ length old
-  lines_length = put_length k.lines
+  pub lines_done : length ss ≤ i → Puts old (weeks_lines ss) page
+  lines_done h = rw (take_all i ss h) at k.lines
 
 -- ---- the page of what was found
 same_number : {m n : ℕ} → ◌≡◌ {A = Answer ℕ} (refused n) (refused m) → m ≡ n
 same_number e = cc
+
+same_count : {m n : ℕ} → ◌≡◌ {A = Answer ℕ} (answered n) (answered m) → n ≡ m
+same_count e = cc
 
 no_answer : {m n : ℕ} → ◌≡◌ {A = Answer ℕ} (refused n) (answered m) → ⊥
 no_answer e = let z : ◌≡◌ {A = ℕ} 0 1 = cc in omega arith
@@ -102,26 +98,38 @@ module _ (ws : List ℕ) where
   unfolding spans_given
   given_none q = rw q refl
 
-  module _ {f : Found} (k : Finds ws weeks_at_most f) where
-    pub page_refused : {n : ℕ} → f.answer ≡ filling.Refused n → spans_text ws ≡ refusal_page n
-    page_refused {n} e = at (measured ws) refl
+  module _ (n : ℕ) where
+    pub page_refused : refused n ≡ counted (spans_given ws weeks_at_most) → spans_text ws ≡ refusal_page n
+    page_refused told = at (measured ws) refl
       where
-        told : refused n ≡ counted (spans_given ws weeks_at_most)
-        told = sym (ap written e) ∙ k.answer
-
         at : (a : Answer Measure) → measured ws ≡ a → spans_text ws ≡ refusal_page n
         at (refused m) q = spans_refused q ∙ ap refusal_page (same_number (told ∙ ap counted (given_none q)))
         at (answered m) q = absurd (no_answer (told ∙ ap counted (given_all q)))
 
-    pub page_listed : {n : ℕ} → f.answer ≡ filling.Written n → spans_text ws ≡ spans_page (first_of f.count (weeks_in f))
-    page_listed {n} e = at (measured ws) refl
-      where
-        told : answered n ≡ counted (spans_given ws weeks_at_most)
-        told = sym (ap written e) ∙ k.answer
+    -- the spans stand in front of the list that was lent
+    pub record Listed (new : List Weeks) : Type 0 where
+      pub few : n ≤ length new
+      pub size : n ≡ length (take n new)
+      pub most : length (take n new) ≤ weeks_at_most
+      pub text : spans_text ws ≡ spans_page (take n new)
 
-        at : (a : Answer Measure) → measured ws ≡ a → spans_text ws ≡ spans_page (first_of f.count (weeks_in f))
+    pub page_listed : (old : List Weeks) {new : List Weeks} → length old ≡ weeks_at_most → answered n ≡ counted (spans_given ws weeks_at_most)
+        → new ≡ filled (spans_given ws weeks_at_most) old → Listed new
+    page_listed old {new} l told left = at (measured ws) refl
+      where
+        at : (a : Answer Measure) → measured ws ≡ a → Listed new
         at (refused m) q = absurd (no_answer (sym (told ∙ ap counted (given_none q))))
-        at (answered m) q = spans_is q ∙ ap spans_page (sym (k.records ∙ ap new_of (given_all q)))
+        at (answered m) q =
+            let ss : List Weeks = breach_spans (minutes_of ws) in
+            let z : n ≡ length ss = same_count (told ∙ ap counted (given_all q)) in
+            let b : new ≡ ss ++ drop (length ss) old = left ∙ ap (λ (g : Answer (List Weeks)). filled g old) (given_all q) in
+            let t : take n new ≡ ss = ap (take n) b ∙ take_at ss (drop (length ss) old) n (sym z) in
+            record {
+              few = omega (arith, ap length b, length-append ss (drop (length ss) old));
+              size = z ∙ ap length (sym t);
+              most = rw t (spans_few (minutes_of ws) (measured_is ws q).within);
+              text = spans_is q ∙ ap spans_page (sym t);
+            }
 
 pub spans_size : (ws : List ℕ) → length (spans_text ws) ≤ line_at_most * weeks_at_most + around_at_most
 spans_size ws = at (measured ws) refl

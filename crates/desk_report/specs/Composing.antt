@@ -1,15 +1,15 @@
 -- Inner: what the functions of this layer answer. Nobody has to believe it: no public contract cites it.
 -- Assumes nothing.
-use Rattle.std.specs.Prelude.{◌≡◌, Bool, true, false, List, [], ◌∷◌, ◌++◌, ℕ, ◌+◌, ◌*◌, ◌≤◌, length, take, drop, get_or}
+use Rattle.std.specs.Prelude.{◌≡◌, Result, Ok, Err, Bool, true, false, List, [], ◌∷◌, ◌++◌, ℕ, ◌+◌, ◌*◌, ◌≤◌, length, take, drop, get_or}
 use Rattle.recording.specs.Words.{minutes_of}
 use Rattle.recording.specs.Rests.{long_rests, long_rests_at_most}
 use Rattle.recording.specs.Operations.{total_at_most}
 use Rattle.rules.specs.Reading.{entry_bytes, reading_size, carrier_of}
 use Rattle.rules.specs.Verdict.{Verdict}
+use Rattle.text.specs.declared.page.Page.{Page}
 use Rattle.text.specs.Passes.{roomy}
 use Rattle.recording.specs.Answers.{Answer, refused, answered}
-use Rattle.recording.specs.declared.Filling.{Filling}
-use Rattle.recording.specs.declared.Filling.TheVariants as filling
+use Rattle.recording.specs.declared.Refusal.{Refusal}
 use Rattle.desk_lines.specs.Lines.{as_line, verdict_name, minutes_name, judged_name, reading_name, refused_name}
 use Rattle.desk_report.specs.Printed.{verdict_text, spans_text}
 use Rattle.desk_lines.specs.Lines.{numbered, rest_text}
@@ -57,8 +57,8 @@ rests_of [] ends reading = []
 rests_of (s ∷ starts) ends reading =
     rest_text s (get_or ends 0 0) (get_or reading 0 0) (get_or reading 1 0) (carrier_of (get_or reading 2 0) (get_or reading 3 0)) ++ rests_of starts (drop 1 ends) (drop entry_bytes reading)
 
-pub record Readable (at : ℕ) (starts ends reading : List ℕ) : Type 0 where
-  pub room : at + line_at_most * length starts ≤ roomy
+pub record Readable (page : Page) (starts ends reading : List ℕ) : Type 0 where
+  pub room : page.len + line_at_most * length starts ≤ roomy
   pub ended : length starts ≤ length ends
   pub read : entry_bytes * length starts ≤ length reading
 
@@ -77,19 +77,20 @@ pub record Read (words reading : List ℕ) : Type 0 where
   pub within : length (minutes_of words) ≤ total_at_most
   pub size : length reading ≡ reading_size (minutes_of words)
 
--- bytes enough for the reading of words that weighing accepts
-pub record Fits (words reading : List ℕ) : Type 0 where
-  pub fits : length (minutes_of words) ≤ total_at_most → reading_size (minutes_of words) ≤ length reading
+-- bytes enough for the reading of words that weighing accepts, and no more than for any
+pub record Fits (words : List ℕ) (bytes : ℕ) : Type 0 where
+  pub fits : length (minutes_of words) ≤ total_at_most → reading_size (minutes_of words) ≤ bytes
+  pub most : bytes ≤ reading_room
 
--- places enough for their long rests
-pub record Places (words starts ends : List ℕ) : Type 0 where
-  pub begun : length (long_rests (minutes_of words)) ≤ length starts
-  pub ended : length (long_rests (minutes_of words)) ≤ length ends
+-- places enough for their long rests, and no more than for any
+pub record Roomy (words : List ℕ) (rests : ℕ) : Type 0 where
+  pub enough : length (long_rests (minutes_of words)) ≤ rests
+  pub most : rests ≤ long_rests_at_most
 
 -- ---- what reading an input answered, over words that hold what it wrote
-pub data Within : Filling → List ℕ → Type 0 where
-  refusal : {n : ℕ} {words : List ℕ} → Within (filling.Refused n) words
-  front : {n : ℕ} {words : List ℕ} → n ≤ length words → Within (filling.Written n) words
+pub data Within : Result ℕ Refusal → List ℕ → Type 0 where
+  refusal : {r : Refusal} {words : List ℕ} → Within (Err r) words
+  front : {n : ℕ} {words : List ℕ} → n ≤ length words → Within (Ok n) words
 
 -- what is printed for words, their spans or their verdict; and for what reading an input answered
 abbrev pub words_text : Bool → List ℕ → List ℕ

@@ -1,5 +1,4 @@
--- Public: document 01, "Bracket text", what the desk program prints; and document 02, what it prints for a card's day record, request 1, and of the
--- spans of weeks, request 6.
+-- Public: what the desk program prints, of a text or of a card's day record: the verdict, or the spans of weeks.
 -- Assumes nothing.
 use Rattle.std.specs.Prelude.{Bool, true, false, List, [], ◌∷◌, ◌++◌, ℕ, ltb, length, drop, get_or}
 use Rattle.recording.specs.Answers.{Answer, refused, answered, and_then, refuse_if}
@@ -13,6 +12,10 @@ use Rattle.rules.specs.Spans.{breach_spans}
 use Rattle.rules.specs.declared.Weeks.{Weeks}
 use Rattle.text_lines.specs.Reading.{text_read}
 use Rattle.card_reader.specs.Reading.{card_read}
+use Rattle.desk_report.specs.declared.Format.{Format}
+use Rattle.desk_report.specs.declared.Format.TheVariants as format
+use Rattle.desk_report.specs.declared.Shown.{Shown}
+use Rattle.desk_report.specs.declared.Shown.TheVariants as shown
 use Rattle.desk_lines.specs.Lines.{verdict_name, minutes_name, judged_name, reading_name, refused_name, as_line, closed, numbered, rest_text, breach_text, weeks_text}
 
 -- ---- the verdict
@@ -22,7 +25,7 @@ rests_text [] reading = []
 rests_text (r ∷ rs) reading =
     rest_text r.start r.end (get_or reading 0 0) (get_or reading 1 0) (carrier_of (get_or reading 2 0) (get_or reading 3 0)) ++ rests_text rs (drop entry_bytes reading)
 
--- "A breach has, after minutes, `(breach m a)` in place of judged and reading"
+-- A breach has, after minutes, `(breach m a)` in place of judged and reading.
 abbrev pub finding_text : List ℕ → Verdict → List ℕ
 finding_text ms (pass reading) = numbered judged_name (judged_end ms) ++ as_line reading_name ++ rests_text (long_rests ms) reading ++ closed
 finding_text ms (breach m a) = breach_text m a
@@ -35,7 +38,7 @@ answer_text ms = numbered minutes_name (length ms) ++ finding_text ms (verdict m
 abbrev pub bracketed : List ℕ → List ℕ
 bracketed lines = as_line verdict_name ++ lines ++ closed
 
--- "A refusal prints `(verdict`, `(refused n)`, `)`."
+-- A refusal prints `(verdict`, `(refused n)`, `)`.
 abbrev pub printed : Answer (List ℕ) → List ℕ
 printed (refused n) = bracketed (numbered refused_name n)
 printed (answered lines) = bracketed lines
@@ -73,14 +76,14 @@ unfoldable pub spans_text : List ℕ → List ℕ
 spans_text words = printed_spans (spans_answered words)
 
 -- ---- the desk program
--- "The desk program reads such text from standard input, at most 65,536 bytes; more prints as refusal 9."
+-- The desk program reads a text from standard input, at most 65,536 bytes; more prints as refusal 9.
 abbrev pub input_at_most : ℕ
 input_at_most = 65536
 
 abbrev pub unless_over : List ℕ → Answer (List ℕ) → Answer (List ℕ)
 unless_over input read = refuse_if (ltb input_at_most (length input)) 9 read
 
--- "It lends words enough for any text of that size": here a word for each byte.
+-- It lends words enough for any text of that size: here a word for each byte.
 unfoldable pub input_read : List ℕ → Answer (List ℕ)
 input_read text = unless_over text (text_read text (length text))
 
@@ -88,19 +91,28 @@ input_read text = unless_over text (text_read text (length text))
 unfoldable pub desk_text : List ℕ → List ℕ
 desk_text text = printed (and_then (input_read text) words_answered)
 
--- With `--card` the input is a card's day record (document 02, request 1), and all else is the same.
+-- With `--card` the input is a card's day record, and all else is the same.
 unfoldable pub card_input_read : List ℕ → Answer (List ℕ)
 card_input_read bytes = unless_over bytes (card_read bytes (length bytes))
 
 unfoldable pub card_text : List ℕ → List ℕ
 card_text bytes = printed (and_then (card_input_read bytes) words_answered)
 
--- With `--spans` the spans of weeks are printed (request 6), and the input is read in the same way.
+-- With `--spans` the spans of weeks are printed, and the input is read in the same way.
 unfoldable pub desk_spans_text : List ℕ → List ℕ
 desk_spans_text text = printed_spans (and_then (input_read text) spans_answered)
 
 unfoldable pub card_spans_text : List ℕ → List ℕ
 card_spans_text bytes = printed_spans (and_then (card_input_read bytes) spans_answered)
+
+-- what an input is, and what is printed
+abbrev pub is_card : Format → Bool
+is_card format.Text = false
+is_card format.Card = true
+
+abbrev pub shows_spans : Shown → Bool
+shows_spans shown.Verdict = false
+shows_spans shown.Spans = true
 
 -- what is printed for an input that is a card's day record, or a text: its spans, or its verdict
 abbrev pub input_text : Bool → Bool → List ℕ → List ℕ

@@ -1,37 +1,52 @@
-// What the desk program prints, composed in a buffer. What is said of it stands in specs/.
+// What the desk program prints, composed on a page. What is said of it stands in specs/.
 #![tactic(auto)]
 
 ghost use Rattle.std.specs.Prelude.{◌≡◌, true, false, List, ℕ, ◌+◌, ◌*◌, ◌≤◌, length};
-ghost use Rattle.recording.specs.Answers.{refused, counted, filled};
+ghost use Rattle.recording.specs.Answers.{answer_of, refused, counted, filled, number_of};
 ghost use Rattle.recording.specs.Words.{minutes_of};
-ghost use Rattle.recording.specs.Operations.{total_at_most, written};
+ghost use Rattle.recording.specs.Operations.{total_at_most};
+ghost use Rattle.rules.specs.Numbers.{number_of_article};
 ghost use Rattle.rules.specs.Verdict.{pass, breach};
 ghost use Rattle.rules.specs.Operations.{first_reading_given};
-ghost use Rattle.text.specs.Passes.{Put, roomy};
-ghost use Rattle.recording_list.specs.Records.{first_of};
+ghost use Rattle.text.specs.Page.{Put, Puts};
+ghost use Rattle.text.specs.Passes.{roomy};
 ghost use Rattle.verdict_spans.specs.Mondays.{weeks_at_most};
-ghost use Rattle.verdict_spans.specs.Found.{weeks_in};
-ghost use Rattle.desk_report.specs.Printed.{verdict_text, input_at_most, desk_text, card_text, into_room};
+ghost use Rattle.desk_report.specs.Printed.{is_card, shows_spans, verdict_text, input_at_most, desk_text, card_text, into_room};
 ghost use Rattle.desk_report.specs.Printed.{weeks_lines, spans_page, spans_text, desk_spans_text, card_spans_text, input_text};
-ghost use Rattle.desk_report.specs.Composing.{page_at_most, line_at_most, rest_bytes, reading_room, Fits, Places, Within, Readable};
+ghost use Rattle.desk_report.specs.Composing.{line_at_most, rest_bytes, reading_room, Fits, Roomy, Within, Readable};
 ghost use Rattle.desk_report.specs.Composing.{Read, rests_of, refusal_page, page_of, pass_head, words_text, read_text};
 
-use recording::Filling;
-use verdict_judging::Judgement;
-use verdict_spans::Found;
+use recording::{Recording, Refusal, Span};
+use rules::{Article, Weeks};
+use text::Page;
+use verdict_judging::Verdict;
+
+/// What an input is: bracket text, or a card's day record.
+#[derive(Clone, Copy, Debug, PartialEq, Eq)]
+pub enum Format {
+    Text,
+    Card,
+}
+
+/// What is printed of a recording: its verdict, or its spans of weeks.
+#[derive(Clone, Copy, Debug, PartialEq, Eq)]
+pub enum Shown {
+    Verdict,
+    Spans,
+}
 
 // The most bytes of a line, and of what stands around the lines of the rests.
 const LINE_BYTES: usize = 37;
 
 const AROUND_BYTES: usize = 55;
 
-// Bytes enough for whatever is printed.
+/// Bytes enough for whatever is printed.
 pub const PAGE_BYTES: usize = LINE_BYTES * recording::LONG_RESTS + AROUND_BYTES;
 
-// Bytes enough for whatever is printed of a short recording.
+/// Bytes enough for whatever is printed of a short recording.
 pub const SHORT_PAGE_BYTES: usize = LINE_BYTES * recording::SHORT_RESTS + AROUND_BYTES;
 
-// The same with twice as many long rests.
+/// The same with twice as many long rests.
 pub const MIDDLE_PAGE_BYTES: usize = LINE_BYTES * (2 * recording::SHORT_RESTS) + AROUND_BYTES;
 
 // Bytes enough for what is printed of the spans of weeks.
@@ -44,7 +59,7 @@ const CHANGE_BYTES: usize = 2;
 
 const REST_WORDS: usize = 2;
 
-// The most bytes of an input that are read.
+/// The most bytes of an input that are read.
 pub const INPUT_BYTES: usize = 65536;
 
 // Words enough for any text of that size: a run line has at least nine bytes.
@@ -61,316 +76,294 @@ const SHORT_READING_BYTES: usize = rules_entries::ENTRY_BYTES * recording::SHORT
 
 // ---- lines of a list
 
-// The lines of all rests.
-fn put_rests(out: &mut [u8], at: usize, starts: &[u32], ends: &[u32], reading: &[u8]) -> usize
-    requires { Readable at starts.now ends.now reading.now }
-    ensures { Put out.old at (rests_of starts.now ends.now reading.now) result out.new }
+// The lines of all rests. A loop of one index for two arrays and the entries of four bytes beside them: no chain says it more plainly.
+fn put_rests(page: &mut Page, starts: &[u32], ends: &[u32], reading: &[u8])
+    requires { Readable page.old starts.now ends.now reading.now }
+    ensures { Puts page.old (rests_of starts.now ends.now reading.now) page.new }
 {
-    let mut next = at;
-    let mut i = 0;
-    while i < starts.len() {
+    for i in 0..starts.len() {
         let entry = rules_entries::ENTRY_BYTES * i;
-        let kind = recording::wide(reading[entry]);
-        let week = recording::wide(reading[entry + 1]);
+        let kind = u32::from(reading[entry]);
+        let week = u32::from(reading[entry + 1]);
         let carrier = rules_entries::carrier_of(reading[entry + 2], reading[entry + 3]);
-        next = desk_lines::put_rest(out, next, starts[i], ends[i], kind, week, carrier);
-        i += 1;
+        let rest = Span {
+            start: starts[i],
+            end: ends[i],
+        };
+        desk_lines::put_rest(page, rest, kind, week, carrier);
     }
-    next
 }
 
-// The lines of all spans that were found.
-fn put_spans(out: &mut [u8], at: usize, found: Found) -> usize
-    requires { (found.count ≤ weeks_at_most) × (at + line_at_most * weeks_at_most ≤ roomy) }
-    ensures { Put out.old at (weeks_lines (first_of found.count (weeks_in found))) result out.new }
+// The lines of spans of weeks.
+fn put_spans(page: &mut Page, spans: &[Weeks])
+    requires { (page.old.len + line_at_most * weeks_at_most ≤ roomy) × (length spans.now ≤ weeks_at_most) }
+    ensures { Puts page.old (weeks_lines spans.now) page.new }
 {
-    let count = found.count;
-    let mut next = at;
-    let mut i = 0;
-    while i < count {
-        let weeks = verdict_spans::weeks_at(found, i);
-        next = desk_lines::put_weeks(out, next, weeks.first, weeks.last);
-        i += 1;
+    for &weeks in spans {
+        desk_lines::put_weeks(page, weeks);
     }
-    next
 }
 
 // ---- pages
 
 // What is printed for a refusal.
-fn refusal_page(out: &mut [u8], n: u32) -> usize
-    ensures { Put out.old 0 (refusal_page n) result out.new }
+fn refusal_page(page: &mut Page, refusal: Refusal)
+    requires { page.old.len ≡ 0 }
+    ensures { Puts page.old (refusal_page (number_of refusal)) page.new }
 {
-    let begun = text::put_all(out, 0, b"(verdict\n");
-    let told = desk_lines::put_numbered(out, begun, b"(refused", n);
-    text::put_all(out, told, b")\n")
+    page.put(b"(verdict\n");
+    desk_lines::put_numbered(page, b"(refused", u32::from(refusal));
+    page.put(b")\n");
 }
 
 // What is printed for a breach.
-fn breach_page(out: &mut [u8], words: &[u32], minute: u32, article: u32) -> usize
-    requires { length (minutes_of words.now) ≤ total_at_most }
-    ensures { Put out.old 0 (page_of (minutes_of words.now) (breach minute article)) result out.new }
+fn breach_page(page: &mut Page, words: &[u32], minute: u32, article: Article)
+    requires { (page.old.len ≡ 0) × (length (minutes_of words.now) ≤ total_at_most) }
+    ensures { Puts page.old (page_of (minutes_of words.now) (breach minute (number_of_article article))) page.new }
 {
     let place = recording::place_of(words);
-    let begun = text::put_all(out, 0, b"(verdict\n");
-    let counted = desk_lines::put_numbered(out, begun, b"(minutes", place.now);
-    let told = desk_lines::put_breach(out, counted, minute, article);
-    text::put_all(out, told, b")\n")
+    page.put(b"(verdict\n");
+    desk_lines::put_numbered(page, b"(minutes", place.now);
+    desk_lines::put_breach(page, minute, article);
+    page.put(b")\n");
 }
 
 // What stands before the rests of a pass.
-fn begin_pass(out: &mut [u8], total: u32, judged: u32) -> usize
-    ensures { Put out.old 0 (pass_head total judged) result out.new }
+fn begin_pass(page: &mut Page, total: u32, judged: u32)
+    requires { page.old.len ≡ 0 }
+    ensures { Puts page.old (pass_head total judged) page.new }
 {
-    let begun = text::put_all(out, 0, b"(verdict\n");
-    let counted = desk_lines::put_numbered(out, begun, b"(minutes", total);
-    let ended = desk_lines::put_numbered(out, counted, b"(judged", judged);
-    text::put_all(out, ended, b"(reading\n")
+    page.put(b"(verdict\n");
+    desk_lines::put_numbered(page, b"(minutes", total);
+    desk_lines::put_numbered(page, b"(judged", judged);
+    page.put(b"(reading\n");
 }
 
-// What is printed for a pass, with room for the long rests.
-fn pass_among(
-    out: &mut [u8],
-    words: &[u32],
-    reading: &[u8],
-    starts: &mut [u32],
-    ends: &mut [u32],
-) -> usize
-    requires { Read words.now reading.now × Places words.now starts.old ends.old }
-    ensures { Put out.old 0 (page_of (minutes_of words.now) (pass reading.now)) result out.new }
+// What is printed for a pass, with room for so many long rests.
+fn pass_with<const RESTS: usize>(page: &mut Page, words: &[u32], reading: &[u8])
+    requires { (page.old.len ≡ 0) × Read words.now reading.now × Roomy words.now RESTS }
+    ensures { Puts page.old (page_of (minutes_of words.now) (pass reading.now)) page.new }
 {
-    let place = recording::scan(words, starts, ends);
-    let k = place.count as usize;
-    let begun = begin_pass(out, place.now, place.from);
-    let told = put_rests(out, begun, &starts[..k], &ends[..k], reading);
-    text::put_all(out, told, b")\n)\n")
+    let mut starts = [0u32; RESTS];
+    let mut ends = [0u32; RESTS];
+    let recording = Recording::new(words);
+    let place = recording::scan(recording, &mut starts, &mut ends);
+    let count = place.count as usize;
+    begin_pass(page, place.now, place.from);
+    put_rests(page, &starts[..count], &ends[..count], reading);
+    page.put(b")\n)\n");
 }
 
-// The same with room of its own, by the reading's bytes.
-fn pass_page(out: &mut [u8], words: &[u32], reading: &[u8]) -> usize
-    requires { Read words.now reading.now }
-    ensures { Put out.old 0 (page_of (minutes_of words.now) (pass reading.now)) result out.new }
+// The same with room by the reading's bytes.
+fn pass_page(page: &mut Page, words: &[u32], reading: &[u8])
+    requires { (page.old.len ≡ 0) × Read words.now reading.now }
+    ensures { Puts page.old (page_of (minutes_of words.now) (pass reading.now)) page.new }
 {
     if reading.len() <= SHORT_READING_BYTES {
-        let mut starts = [0u32; recording::SHORT_RESTS];
-        let mut ends = [0u32; recording::SHORT_RESTS];
-        return pass_among(out, words, reading, &mut starts, &mut ends);
+        return pass_with::<{ recording::SHORT_RESTS }>(page, words, reading);
     }
-    let mut starts = [0u32; recording::LONG_RESTS];
-    let mut ends = [0u32; recording::LONG_RESTS];
-    pass_among(out, words, reading, &mut starts, &mut ends)
+    pass_with::<{ recording::LONG_RESTS }>(page, words, reading)
 }
 
-// What is printed for a recording whose first reading is refused with n: its breach, or that refusal. It is never a pass.
-fn unread_page(out: &mut [u8], words: &[u32], n: u32) -> usize
-    requires { first_reading_given words.now reading_room ≡ refused n }
-    ensures { Put out.old 0 (verdict_text words.now) result out.new }
+// What is printed for a recording whose first reading is refused: its breach, or that refusal. It is never a pass.
+fn unread_page(page: &mut Page, words: &[u32], refusal: Refusal)
+    requires { (page.old.len ≡ 0) × (first_reading_given words.now reading_room ≡ refused (number_of refusal)) }
+    ensures { Puts page.old (verdict_text words.now) page.new }
 {
-    let judgement = verdict::verdict(words);
-    match judgement {
-        Judgement::Refused(_) => refusal_page(out, n),
-        Judgement::Passed => refusal_page(out, n),
-        Judgement::Breached(found) => breach_page(out, words, found.minute, found.article),
+    match verdict::verdict(words) {
+        Ok(Verdict::Breach(found)) => breach_page(page, words, found.minute, found.article),
+        Ok(Verdict::Pass) => refusal_page(page, refusal),
+        Err(_) => refusal_page(page, refusal),
     }
 }
 
-// What is printed for a recording, with room for its reading: its first reading, a breach, or a refusal. The reading is asked for first, so that a pass is
-// found once.
-fn verdict_among(out: &mut [u8], words: &[u32], reading: &mut [u8]) -> usize
-    requires { Fits words.now reading.old }
-    ensures { Put out.old 0 (verdict_text words.now) result out.new }
+// What is printed for a recording, with so many bytes for its reading: its first reading, a breach, or a refusal. The reading is asked for first, so that a
+// pass is found once.
+fn verdict_with<const BYTES: usize>(page: &mut Page, words: &[u32])
+    requires { (page.old.len ≡ 0) × Fits words.now BYTES }
+    ensures { Puts page.old (verdict_text words.now) page.new }
 {
-    let answer = verdict::first_reading(words, reading);
-    match answer {
-        Filling::Refused(n) => unread_page(out, words, n),
-        Filling::Written(n) => {
-            let size = n as usize;
-            pass_page(out, words, &reading[..size])
-        }
+    let mut reading = [0u8; BYTES];
+    match verdict::first_reading(words, &mut reading) {
+        Err(refusal) => unread_page(page, words, refusal),
+        Ok(n) => pass_page(page, words, &reading[..n as usize]),
     }
 }
 
-// The same with room of its own, by the number of words.
-fn verdict_page(out: &mut [u8], words: &[u32]) -> usize
-    ensures { Put out.old 0 (verdict_text words.now) result out.new }
+// The same with room by the number of words.
+fn verdict_page(page: &mut Page, words: &[u32])
+    requires { page.old.len ≡ 0 }
+    ensures { Puts page.old (verdict_text words.now) page.new }
 {
     if words.len() <= REST_WORDS * recording::SHORT_RESTS {
-        let mut reading = [0u8; SHORT_READING_BYTES];
-        return verdict_among(out, words, &mut reading);
+        return verdict_with::<SHORT_READING_BYTES>(page, words);
     }
-    let mut reading = [0u8; READING_BYTES];
-    verdict_among(out, words, &mut reading)
+    verdict_with::<READING_BYTES>(page, words)
 }
 
 // What is printed for spans that were found.
-fn list_page(out: &mut [u8], found: Found) -> usize
-    requires { found.count ≤ weeks_at_most }
-    ensures { Put out.old 0 (spans_page (first_of found.count (weeks_in found))) result out.new }
+fn list_page(page: &mut Page, spans: &[Weeks])
+    requires { (page.old.len ≡ 0) × (length spans.now ≤ weeks_at_most) }
+    ensures { Puts page.old (spans_page spans.now) page.new }
 {
-    let begun = text::put_all(out, 0, b"(spans\n");
-    let told = put_spans(out, begun, found);
-    text::put_all(out, told, b")\n")
+    page.put(b"(spans\n");
+    put_spans(page, spans);
+    page.put(b")\n");
 }
 
 // What is printed of a recording's spans of weeks: a line for each, or a refusal.
-fn spans_page(out: &mut [u8], words: &[u32]) -> usize
-    ensures { Put out.old 0 (spans_text words.now) result out.new }
+fn spans_page(page: &mut Page, words: &[u32])
+    requires { page.old.len ≡ 0 }
+    ensures { Puts page.old (spans_text words.now) page.new }
 {
-    let found = verdict_spans::spans_of(words, verdict_spans::WEEKS);
-    let answer = found.answer;
-    match answer {
-        Filling::Refused(n) => refusal_page(out, n),
-        Filling::Written(_) => list_page(out, found),
+    let mut spans = [Weeks { first: 0, last: 0 }; verdict_spans::WEEKS];
+    match verdict_spans::breach_spans(words, &mut spans) {
+        Err(refusal) => refusal_page(page, refusal),
+        Ok(n) => list_page(page, &spans[..n as usize]),
     }
 }
 
-// What is printed for a recording: its spans, or its verdict.
-fn words_page(out: &mut [u8], spans: bool, words: &[u32]) -> usize
-    ensures { Put out.old 0 (words_text spans words.now) result out.new }
+// What is printed for a recording.
+fn words_page(page: &mut Page, shown: Shown, words: &[u32])
+    requires { page.old.len ≡ 0 }
+    ensures { Puts page.old (words_text (shows_spans shown) words.now) page.new }
 {
-    if spans {
-        return spans_page(out, words);
+    match shown {
+        Shown::Verdict => verdict_page(page, words),
+        Shown::Spans => spans_page(page, words),
     }
-    verdict_page(out, words)
 }
 
 // What is printed for what reading an input answered: that of the words that it wrote, or its refusal.
-fn read_page(out: &mut [u8], spans: bool, answer: Filling, words: &[u32]) -> usize
-    requires { Within answer words.now }
-    ensures { Put out.old 0 (read_text spans (written answer) words.now) result out.new }
+fn read_page(page: &mut Page, shown: Shown, answer: Result<u32, Refusal>, words: &[u32])
+    requires { (page.old.len ≡ 0) × Within answer words.now }
+    ensures { Puts page.old (read_text (shows_spans shown) (answer_of answer) words.now) page.new }
 {
     match answer {
-        Filling::Refused(n) => refusal_page(out, n),
-        Filling::Written(n) => {
-            let count = n as usize;
-            words_page(out, spans, &words[..count])
-        }
+        Err(refusal) => refusal_page(page, refusal),
+        Ok(n) => words_page(page, shown, &words[..n as usize]),
     }
 }
 
 // What is printed for a text that is not too long.
-fn desk_page(out: &mut [u8], spans: bool, text: &[u8]) -> usize
-    requires { length text.now ≤ input_at_most }
-    ensures { Put out.old 0 (input_text false spans text.now) result out.new }
+fn desk_page(page: &mut Page, shown: Shown, text: &[u8])
+    requires { (page.old.len ≡ 0) × (length text.now ≤ input_at_most) }
+    ensures { Puts page.old (input_text false (shows_spans shown) text.now) page.new }
 {
     let mut words = [0u32; TEXT_WORDS];
     let answer = text::read_text(text, &mut words);
-    read_page(out, spans, answer, &words)
+    read_page(page, shown, answer, &words)
 }
 
 // What is printed for a card's day record that is not too long.
-fn card_page(out: &mut [u8], spans: bool, bytes: &[u8]) -> usize
-    requires { length bytes.now ≤ input_at_most }
-    ensures { Put out.old 0 (input_text true spans bytes.now) result out.new }
+fn card_page(page: &mut Page, shown: Shown, bytes: &[u8])
+    requires { (page.old.len ≡ 0) × (length bytes.now ≤ input_at_most) }
+    ensures { Puts page.old (input_text true (shows_spans shown) bytes.now) page.new }
 {
     let mut words = [0u32; CARD_WORDS];
     let answer = card_reader::read_card(bytes, &mut words);
-    read_page(out, spans, answer, &words)
+    read_page(page, shown, answer, &words)
 }
 
-// What is printed for an input, a card's day record or a text: its spans, or its verdict.
-fn input_page(out: &mut [u8], card: bool, spans: bool, input: &[u8]) -> usize
-    ensures { Put out.old 0 (input_text card spans input.now) result out.new }
+// What is printed for an input.
+fn input_page(page: &mut Page, format: Format, shown: Shown, input: &[u8])
+    requires { page.old.len ≡ 0 }
+    ensures { Puts page.old (input_text (is_card format) (shows_spans shown) input.now) page.new }
 {
     if INPUT_BYTES < input.len() {
-        return refusal_page(out, 9);
+        return refusal_page(page, Refusal::TooFewWords);
     }
-    if card {
-        return card_page(out, spans, input);
+    match format {
+        Format::Text => desk_page(page, shown, input),
+        Format::Card => card_page(page, shown, input),
     }
-    desk_page(out, spans, input)
 }
 
-// A page into a lent buffer: 10, too few bytes; or its length.
-fn hand_over(page: &[u8], out: &mut [u8]) -> Filling
-    requires { length page.now ≤ page_at_most }
-    ensures answer { written result ≡ counted (into_room page.now (length out.old)) }
-    ensures out_after { out.new ≡ filled (into_room page.now (length out.old)) out.old }
+// The page of an input in lent bytes, as far as they reach; and its length.
+fn compose(bytes: &mut [u8], format: Format, shown: Shown, input: &[u8]) -> usize
+    ensures { Put bytes.old 0 (input_text (is_card format) (shows_spans shown) input.now) result bytes.new }
 {
-    let n = page.len();
-    if out.len() < n {
-        return Filling::Refused(10);
-    }
-    text::put_all(out, 0, page);
-    Filling::Written(n as u32)
+    let mut page = Page::new(bytes);
+    input_page(&mut page, format, shown, input);
+    page.len
 }
 
-// The most long rests of an input, a card's day record or a text, of so many bytes.
-fn rests_in(card: bool, bytes: usize) -> usize
-    ensures { (n : ℕ) → rest_bytes card * n ≤ bytes → n ≤ result }
+// The most long rests of an input of so many bytes.
+fn rests_in(format: Format, bytes: usize) -> usize
+    ensures { (n : ℕ) → rest_bytes (is_card format) * n ≤ bytes → n ≤ result }
 {
-    if card {
-        return bytes / (CHANGE_BYTES * REST_WORDS);
+    match format {
+        Format::Text => bytes / (RUN_LINE_BYTES * REST_WORDS),
+        Format::Card => bytes / (CHANGE_BYTES * REST_WORDS),
     }
-    bytes / (RUN_LINE_BYTES * REST_WORDS)
 }
 
-// Bytes enough for what is printed for any input of so many bytes.
-pub fn page_room(card: bool, spans: bool, bytes: usize) -> usize
-    ensures { (input : List ℕ) → length input ≡ bytes → length (input_text card spans input) ≤ result }
+/// Bytes enough for what is printed for any input of so many bytes.
+pub fn page_room(format: Format, shown: Shown, bytes: usize) -> usize
+    ensures { (input : List ℕ) → length input ≡ bytes → length (input_text (is_card format) (shows_spans shown) input) ≤ result }
 {
-    if spans {
-        return SPANS_BYTES;
+    match shown {
+        Shown::Spans => SPANS_BYTES,
+        Shown::Verdict => LINE_BYTES * rests_in(format, bytes).min(recording::LONG_RESTS)
+            + AROUND_BYTES,
     }
-    let rests = rests_in(card, bytes);
-    if recording::LONG_RESTS < rests {
-        return PAGE_BYTES;
-    }
-    LINE_BYTES * rests + AROUND_BYTES
 }
 
 // Printing what is printed for an input by way of a page of its own: 10, too few bytes; or the count of bytes written.
-fn print_beside(card: bool, spans: bool, input: &[u8], out: &mut [u8]) -> Filling
-    ensures answer { written result ≡ counted (into_room (input_text card spans input.now) (length out.old)) }
-    ensures out_after { out.new ≡ filled (into_room (input_text card spans input.now) (length out.old)) out.old }
+fn print_beside(format: Format, shown: Shown, input: &[u8], out: &mut [u8]) -> Result<u32, Refusal>
+    ensures answer { answer_of result ≡ counted (into_room (input_text (is_card format) (shows_spans shown) input.now) (length out.old)) }
+    ensures out_after { out.new ≡ filled (into_room (input_text (is_card format) (shows_spans shown) input.now) (length out.old)) out.old }
 {
-    let mut page = [0u8; PAGE_BYTES];
-    let n = input_page(&mut page, card, spans, input);
-    hand_over(&page[..n], out)
-}
-
-// The same, in place where the bytes that are lent are surely enough.
-fn print_input(card: bool, spans: bool, input: &[u8], out: &mut [u8]) -> Filling
-    ensures answer { written result ≡ counted (into_room (input_text card spans input.now) (length out.old)) }
-    ensures out_after { out.new ≡ filled (into_room (input_text card spans input.now) (length out.old)) out.old }
-{
-    let enough = page_room(card, spans, input.len());
-    if out.len() < enough {
-        return print_beside(card, spans, input, out);
+    let mut bytes = [0u8; PAGE_BYTES];
+    let length = compose(&mut bytes, format, shown, input);
+    if out.len() < length {
+        return Err(Refusal::TooFewBytes);
     }
-    let n = input_page(out, card, spans, input);
-    Filling::Written(n as u32)
+    out[..length].copy_from_slice(&bytes[..length]);
+    Ok(length as u32)
 }
 
-// Printing what the desk program prints for a text: 10, too few bytes; or the count of bytes written. `PAGE_BYTES` are always
-// enough.
-pub fn print_desk(text: &[u8], out: &mut [u8]) -> Filling
-    ensures answer { written result ≡ counted (into_room (desk_text text.now) (length out.old)) }
+/// Printing what the desk program prints for an input: 10, too few bytes; or the count of bytes written. It is composed in place where the bytes that are
+/// lent are surely enough. `PAGE_BYTES` are always enough.
+pub fn print(format: Format, shown: Shown, input: &[u8], out: &mut [u8]) -> Result<u32, Refusal>
+    ensures answer { answer_of result ≡ counted (into_room (input_text (is_card format) (shows_spans shown) input.now) (length out.old)) }
+    ensures out_after { out.new ≡ filled (into_room (input_text (is_card format) (shows_spans shown) input.now) (length out.old)) out.old }
+{
+    let enough = page_room(format, shown, input.len());
+    if out.len() < enough {
+        return print_beside(format, shown, input, out);
+    }
+    Ok(compose(out, format, shown, input) as u32)
+}
+
+/// Printing what it prints of the verdict on a text.
+pub fn print_desk(text: &[u8], out: &mut [u8]) -> Result<u32, Refusal>
+    ensures answer { answer_of result ≡ counted (into_room (desk_text text.now) (length out.old)) }
     ensures out_after { out.new ≡ filled (into_room (desk_text text.now) (length out.old)) out.old }
 {
-    print_input(false, false, text, out)
+    print(Format::Text, Shown::Verdict, text, out)
 }
 
-// Printing what it prints for a card's day record, likewise.
-pub fn print_card(bytes: &[u8], out: &mut [u8]) -> Filling
-    ensures answer { written result ≡ counted (into_room (card_text bytes.now) (length out.old)) }
+/// .. on a card's day record.
+pub fn print_card(bytes: &[u8], out: &mut [u8]) -> Result<u32, Refusal>
+    ensures answer { answer_of result ≡ counted (into_room (card_text bytes.now) (length out.old)) }
     ensures out_after { out.new ≡ filled (into_room (card_text bytes.now) (length out.old)) out.old }
 {
-    print_input(true, false, bytes, out)
+    print(Format::Card, Shown::Verdict, bytes, out)
 }
 
-// Printing what it prints of the spans of weeks of a text, likewise.
-pub fn print_spans(text: &[u8], out: &mut [u8]) -> Filling
-    ensures answer { written result ≡ counted (into_room (desk_spans_text text.now) (length out.old)) }
+/// .. of the spans of weeks of a text.
+pub fn print_spans(text: &[u8], out: &mut [u8]) -> Result<u32, Refusal>
+    ensures answer { answer_of result ≡ counted (into_room (desk_spans_text text.now) (length out.old)) }
     ensures out_after { out.new ≡ filled (into_room (desk_spans_text text.now) (length out.old)) out.old }
 {
-    print_input(false, true, text, out)
+    print(Format::Text, Shown::Spans, text, out)
 }
 
-// Printing what it prints of those of a card's day record, likewise.
-pub fn print_card_spans(bytes: &[u8], out: &mut [u8]) -> Filling
-    ensures answer { written result ≡ counted (into_room (card_spans_text bytes.now) (length out.old)) }
+/// .. of those of a card's day record.
+pub fn print_card_spans(bytes: &[u8], out: &mut [u8]) -> Result<u32, Refusal>
+    ensures answer { answer_of result ≡ counted (into_room (card_spans_text bytes.now) (length out.old)) }
     ensures out_after { out.new ≡ filled (into_room (card_spans_text bytes.now) (length out.old)) out.old }
 {
-    print_input(true, true, bytes, out)
+    print(Format::Card, Shown::Spans, bytes, out)
 }

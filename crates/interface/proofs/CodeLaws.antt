@@ -2,7 +2,7 @@
 use mathlib.Core.Path.{◌≡◌, refl, ap}
 use mathlib.Core.Bool.{Bool, true, false, not}
 use mathlib.Core.List.{List}
-use Prim.Native.Nat.{ℕ, ◌+◌, ◌-◌, ◌*◌, ◌/◌, ◌%◌, ◌≤◌}
+use Prim.Native.Nat.{ℕ, ◌+◌, ◌-◌, ◌*◌, ◌/◌, ◌%◌, ◌≤◌, ◌<◌}
 use native.Mathlib.Omega.{arith}
 use lib.Dec.{eqb, ltb}
 use lib.ListN.{length, take, drop}
@@ -14,27 +14,30 @@ use Rattle.recording.specs.Rests.{long_rests_at_most}
 use Rattle.recording.specs.Operations.{measured}
 use Rattle.recording.specs.declared.Measure.{Measure}
 use Rattle.recording.proofs.TestLaws.{clash, is_false, or_left, or_right}
+use Rattle.recording.proofs.Walks.{judged_within}
 use Rattle.recording.proofs.LongRests.{few_rests}
 use Rattle.recording.proofs.Listing.{measured_is}
 use Rattle.rules.specs.Reading.{entry_bytes}
 use Rattle.rules.specs.Operations.{entry_at, entry_part, entry_refusal}
 use Rattle.rules.proofs.EntryLaws.{entry_whole}
-use Rattle.interface.specs.Codes.{answer_unit, code_of, entry_place, entry_code}
+use Rattle.interface.specs.Codes.{answer_unit, slice_bytes, code_of, measure_value, entry_place, entry_code}
 
 -- a measure counts few long rests, so its code is far from wrapping
-pub count_few : (ws : List ℕ) {m : Measure} → measured ws ≡ answered m → m.count ≤ long_rests_at_most
+count_few : (ws : List ℕ) {m : Measure} → measured ws ≡ answered m → m.count ≤ long_rests_at_most
 count_few ws {m} q =
     let is = measured_is ws q in
     omega (arith, ap (λ (x : Measure). x.count) is.is, few_rests (minutes_of ws) is.within)
 
--- ---- the entry of a reading: its part is empty on a refusal, and only then
+pub measure_small : (ws : List ℕ) {m : Measure} → measured ws ≡ answered m → measure_value m < slice_bytes
+measure_small ws {m} q =
+    let is = measured_is ws q in
+    omega (arith, ap (λ (x : Measure). x.total) is.is, ap (λ (x : Measure). x.judged) is.is, count_few ws q, is.within, judged_within (minutes_of ws))
+
+-- ---- the entry of a reading
 module _ (reading : List ℕ) (number : ℕ) where
-  pub entry_refused : length (entry_part (entry_at reading number)) ≡ 0 → entry_refusal (entry_at reading number) ≡ entry_code reading number
-  entry_refused e = at (entry_at reading number) refl
-    where
-      at : (a : Answer (List ℕ)) → entry_at reading number ≡ a → entry_refusal a ≡ code_of (λ _. entry_place number) a
-      at (refused n) q = refl
-      at (answered part) q = let whole = entry_whole reading number (ap entry_refusal q) in absurd (omega arith)
+  -- where it is not refused there is one
+  pub entry_there : entry_refusal (entry_at reading number) ≡ 0 → length (entry_part (entry_at reading number)) ≡ 0 → ⊥
+  entry_there z e = let whole = entry_whole reading number z in omega (arith, whole, e)
 
   pub entry_placed : (length (entry_part (entry_at reading number)) ≡ 0 → ⊥) → answer_unit + entry_place number ≡ entry_code reading number
   entry_placed some = at (entry_at reading number) refl

@@ -9,5 +9,6 @@ pub mod DayLaws
 pub mod RestWeeks
 pub mod ByWord
 pub mod Worked
+pub mod Activities
 pub mod Scanning
 pub mod Listing

@@ -5,16 +5,14 @@ use Prim.Native.Nat.{ℕ, ◌≤◌}
 use native.Mathlib.Omega.{arith}
 use lib.ListN.{length, drop, length-map}
 use lib.Seq.{sets}
-use Rattle.recording.specs.Answers.{Answer, refused, answered, and_then}
+use Rattle.std.proofs.Common.{Result, Ok, Err}
+use Rattle.recording.specs.Answers.{Answer, refused, answered, and_then, number_of, answer_of}
 use Rattle.recording.specs.Words.{minutes_of}
 use Rattle.recording.specs.Rests.{judged_end, long_rests}
-use Rattle.recording.specs.Operations.{total_at_most, total_from, measure_of, measured, weighed}
-use Rattle.recording.specs.Scan.{totalled, fault_in, refusal_in, origin, place_of}
-use Rattle.recording.specs.declared.Total.{Total}
-use Rattle.recording.specs.declared.Total.TheVariants as total
-use Rattle.recording.specs.declared.Weighing.{Weighing}
-use Rattle.recording.specs.declared.Weighing.TheVariants as weighing
+use Rattle.recording.specs.Operations.{total_at_most, total_from, measure_of, measured}
+use Rattle.recording.specs.Scan.{origin, place_of}
 use Rattle.recording.specs.declared.Place.{Place}
+use Rattle.recording.specs.declared.Refusal.{Refusal}
 use Rattle.recording.specs.declared.Measure.{Measure}
 use Rattle.recording.specs.declared.Span.{Span}
 use Rattle.recording.proofs.Slices.{put_in_front}
@@ -26,14 +24,9 @@ module _ (ws : List ℕ) where
   pub total_room : {n : ℕ} → total_from 0 ws ≡ answered n → length (minutes_of ws) ≤ total_at_most
   total_room {n} e = let t = total_is 0 ws n (omega arith) e in omega (arith, t.minutes, t.within)
 
-  pub weigh_refused : {t : Total} {n f : ℕ} → totalled t ≡ total_from 0 ws → t ≡ total.Refused n → f ≡ fault_in t → refused f ≡ measured ws
+  pub weigh_refused : {n : ℕ} → total_from 0 ws ≡ refused n → refused n ≡ measured ws
   unfolding measured
-  weigh_refused {t} {n} {f} e q h =
-      let g : total_from 0 ws ≡ refused n = sym e ∙ ap totalled q in
-      rw g (ap refused (h ∙ ap fault_in q))
-
-  pub total_there : {t : Total} {n : ℕ} → totalled t ≡ total_from 0 ws → t ≡ total.Minutes n → total_from 0 ws ≡ answered n
-  total_there e q = sym e ∙ ap totalled q
+  weigh_refused e = rw e
 
   pub weigh_done : {n : ℕ} {p : Place} → total_from 0 ws ≡ answered n → p ≡ place_of origin ws
       → answered (record { total = n; judged = p.from; count = p.count }) ≡ measured ws
@@ -58,13 +51,13 @@ module _ (ws : List ℕ) where
       at (refused n) q h = let z : ◌≡◌ {A = ℕ} 0 1 = cc in absurd (omega arith)
       at (answered n) q h = record { is = cc; within = total_room q }
 
--- ---- what weighing's enum says to the operations that take it apart
+-- ---- what weighing's answer says to the operations that take it apart
 module _ (ws : List ℕ) where
-  pub refused_there : {w : Weighing} {n f : ℕ} → weighed w ≡ measured ws → w ≡ weighing.Refused n → f ≡ refusal_in w → measured ws ≡ refused f
-  refused_there e q h = sym e ∙ ap weighed q ∙ ap refused (sym (h ∙ ap refusal_in q))
+  pub refused_there : {r : Result Measure Refusal} {f : Refusal} → answer_of r ≡ measured ws → r ≡ Err f → measured ws ≡ refused (number_of f)
+  refused_there e q = sym e ∙ ap answer_of q
 
-  pub measured_there : {w : Weighing} {m : Measure} → weighed w ≡ measured ws → w ≡ weighing.Weighed m → measured ws ≡ answered m
-  measured_there e q = sym e ∙ ap weighed q
+  pub measured_there : {r : Result Measure Refusal} {m : Measure} → answer_of r ≡ measured ws → r ≡ Ok m → measured ws ≡ answered m
+  measured_there e q = sym e ∙ ap answer_of q
 
 -- ---- a number of each long rest in front of a slice
 pub in_front : (f : Span → ℕ) (rs : List Span) (out : List ℕ) → length rs ≤ length out → sets out 0 (map f rs) ≡ map f rs ++ drop (length (map f rs)) out

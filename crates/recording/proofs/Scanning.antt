@@ -10,11 +10,12 @@ use lib.Dec.{leb, eqb-suc-zero}
 use lib.ListN.{length, drop, get_or, set, length-append, length-replicate}
 use lib.Seq.{drop-cons, drop-length, sets, length-sets}
 use Rattle.recording.specs.Tests.{pick, one, keep}
-use Rattle.recording.specs.Words.{minutes_in, activity_in, minutes_of}
+use Rattle.recording.specs.Words.{minutes_in, activity_in, minutes_of, code_of, IsRunOf}
 use Rattle.recording.specs.Rests.{long_rest_minutes, is_long, judged_end, long_rests}
 use Rattle.recording.specs.Operations.{total_at_most}
 use Rattle.recording.specs.Scan.{ends_rest, after_run, origin, place_of, Walking, rest_at, written_from, Scanned}
 use Rattle.recording.specs.declared.Place.{Place}
+use Rattle.recording.specs.declared.Run.{Run}
 use Rattle.recording.specs.declared.Span.{Span}
 use Rattle.recording.proofs.LongRests.{long_with_rest}
 use Rattle.recording.proofs.ByWord.{by_run, rests_by_run, end_by, closed_by, judged_by, rests_by}
@@ -77,10 +78,10 @@ place_end p (w ∷ ws) =
     place_end (after_run p (activity_in w) (minutes_in w)) ws ∙ sym (run_on p (activity_in w) (minutes_in w) (λ f t. end_by f t ws))
 
 -- the long rests from a place on
-abbrev rests_on : Place → List ℕ → List Span
+abbrev pub rests_on : Place → List ℕ → List Span
 rests_on p ws = keep is_long (closed_by p.from p.now ws)
 
-rests_next : (p : Place) (w : ℕ) (ws : List ℕ) → rests_on p (w ∷ ws)
+pub rests_next : (p : Place) (w : ℕ) (ws : List ℕ) → rests_on p (w ∷ ws)
     ≡ pick (ends_rest p (activity_in w) (minutes_in w)) (rest_at p ∷ rests_on (after_run p (activity_in w) (minutes_in w)) ws) (rests_on (after_run p (activity_in w) (minutes_in w)) ws)
 unfolding closed_by
 rests_next p w ws = run_rests p (activity_in w) (minutes_in w) (λ f t. closed_by f t ws)
@@ -167,6 +168,14 @@ module _ {ws : List ℕ} {p : Place} {i : ℕ} (k : Walking ws p i) (h : i < len
   unfolding written_from
   write_on f out e t g = rw (drop-cons ws i 0, add-one, e, g, t) refl
 
+-- the same of the run that a word is
+module _ {ws : List ℕ} {p : Place} {i : ℕ} (k : Walking ws p i) (h : i < length ws) {run : Run} (r : IsRunOf (get_or ws i 0) run) where
+  pub run_fits : (p.from ≤ p.now) × (p.count ≤ p.now) × (p.now + run.minutes ≤ total_at_most)
+  run_fits = (k.from, k.count, omega (arith, run_room k h, r.minutes))
+
+  pub walk_run : {q : Place} → q ≡ after_run p (code_of run.activity) run.minutes → Walking ws q (i + 1)
+  walk_run e = rw (e, r.activity, r.minutes) (walk_on k h)
+
 -- a first word ends no long rest
 none_ended : (a n : ℕ) → ends_rest origin a n ≡ false
 unfolding ends_rest
@@ -184,6 +193,18 @@ module _ (w : ℕ) (ws : List ℕ) (h : length (minutes_of (w ∷ ws)) ≤ total
 pub first_written : (f : Span → ℕ) (w : ℕ) (ws out : List ℕ) → written_from f origin (w ∷ ws) out ≡ written_from f (after_run origin (activity_in w) (minutes_in w)) ws out
 unfolding written_from
 first_written f w ws out = rw (none_ended (activity_in w) (minutes_in w)) refl
+
+-- the same of the run that the first word is, from the place before the first minute
+module _ (w : ℕ) (ws : List ℕ) {p : Place} {run : Run} where
+  pub origin_fits : length (minutes_of (w ∷ ws)) ≤ total_at_most → IsRunOf w run → p ≡ origin → (p.from ≤ p.now) × (p.count ≤ p.now) × (p.now + run.minutes ≤ total_at_most)
+  origin_fits h r o = rw o (omega arith, omega arith, omega (arith, first_room w ws h, r.minutes))
+
+  pub first_run : length (minutes_of (w ∷ ws)) ≤ total_at_most → IsRunOf w run → p ≡ origin → {q : Place} → q ≡ after_run p (code_of run.activity) run.minutes → Walking (w ∷ ws) q 1
+  first_run h r o e = rw (e, o, r.activity, r.minutes) (first_walking w ws h)
+
+  pub first_run_written : (f : Span → ℕ) → IsRunOf w run → p ≡ origin → {q : Place} (out : List ℕ) → q ≡ after_run p (code_of run.activity) run.minutes
+      → written_from f origin (w ∷ ws) out ≡ written_from f q ws out
+  first_run_written f r o out e = first_written f w ws out ∙ rw (e, o, r.activity, r.minutes)
 
 -- a word of no minutes stands for none
 pub scanned_alone : {ws starts ends starts' ends' : List ℕ} {p : Place} → Scanned (0 ∷ ws) starts ends p starts' ends' → Scanned ws starts ends p starts' ends'
@@ -205,6 +226,19 @@ module _ {w : ℕ} {ws : List ℕ} {p : Place} {i : ℕ} (k : Walking (w ∷ ws)
       → b ≡ ends_rest p (activity_in (get_or ws i 0)) (minutes_in (get_or ws i 0)) → out' ≡ pick b (set out p.count (f (rest_at p))) out
       → written_from f p (drop i ws) out ≡ written_from f q (drop (i + 1) ws) out'
   next_written f out {q} {b} {out'} e t g = write_on k (omega arith) f out e t g ∙ ap (λ (n : ℕ). written_from f q (drop n (w ∷ ws)) out') (next_word i)
+
+-- the same of the run that the next word is
+module _ {w : ℕ} {ws : List ℕ} {p : Place} {i : ℕ} (k : Walking (w ∷ ws) p (suc i)) (h : i < length ws) {run : Run} (r : IsRunOf (get_or ws i 0) run) where
+  pub next_fits : (p.from ≤ p.now) × (p.count ≤ p.now) × (p.now + run.minutes ≤ total_at_most)
+  next_fits = (k.from, k.count, omega (arith, next_room k h, r.minutes))
+
+  pub next_run : {q : Place} → q ≡ after_run p (code_of run.activity) run.minutes → Walking (w ∷ ws) q (suc (i + 1))
+  next_run e = rw (e, r.activity, r.minutes) (next_walking k h)
+
+  pub next_run_written : (f : Span → ℕ) (out : List ℕ) {q : Place} {b : Bool} {out' : List ℕ} → q ≡ after_run p (code_of run.activity) run.minutes
+      → b ≡ ends_rest p (code_of run.activity) run.minutes → out' ≡ pick b (set out p.count (f (rest_at p))) out
+      → written_from f p (drop i ws) out ≡ written_from f q (drop (i + 1) ws) out'
+  next_run_written f out e t g = next_written k h f out (e ∙ rw (r.activity, r.minutes)) (t ∙ rw (r.activity, r.minutes)) g
 
 module _ {ws : List ℕ} {p : Place} {i : ℕ} (k : Walking ws p i) (h : i ≡ length ws) where
   pub walk_done : p ≡ place_of origin ws

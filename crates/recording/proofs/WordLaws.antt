@@ -112,6 +112,46 @@ module _ (ws : List ℕ) (t i : ℕ) (h : i < length ws) where
   unfolding total_from
   total_fault n = rw (drop-cons ws i 0) (unless_some _ _ n)
 
+-- what the total with another word says of the total of all
+unless_refused : {A B : Type 0} (n r : ℕ) {later : Answer A} (other : Answer B) → unless_fault n later ≡ refused r → (n ≡ 0 → later ≡ refused r → ⊥) → unless_fault n other ≡ refused r
+unless_refused zero r other e h = absurd (h refl e)
+unless_refused (suc n) r other e h = ap refused (refused_is e)
+  where
+    number : {A : Type 0} → Answer A → ℕ
+    number (refused n) = n
+    number (answered a) = 0
+
+    refused_is : {A : Type 0} {n m : ℕ} → ◌≡◌ {A = Answer A} (refused n) (refused m) → n ≡ m
+    refused_is e = ap number e
+
+answered_is_no_refusal : {A : Type 0} {a : A} {n : ℕ} → answered a ≡ refused n → ⊥
+answered_is_no_refusal e = let z : ◌≡◌ {A = ℕ} 0 1 = ap tag e in absurd (omega arith)
+  where
+    tag : {A : Type 0} → Answer A → ℕ
+    tag (answered a) = 0
+    tag (refused n) = 1
+
+module _ (ws : List ℕ) (t i : ℕ) (h : i < length ws) where
+  pub total_after_on : {n : ℕ} → unless_fault (fault_of t (get_or ws i 0)) (answered (t + minutes_in (get_or ws i 0))) ≡ answered n
+      → (n ≤ total_at_most) × (total_from t (drop i ws) ≡ total_from n (drop (i + 1) ws))
+  total_after_on {n} e =
+      let k = unless_answered (fault_of t (get_or ws i 0)) e in
+      let f = no_fault_is t (get_or ws i 0) k.0 in
+      let s : t + minutes_in (get_or ws i 0) ≡ n = answered_is k.1 in
+      (omega (arith, f.within, s), total_on ws t i h k.0 ∙ ap (λ (m : ℕ). total_from m (drop (i + 1) ws)) s)
+    where
+      value : Answer ℕ → ℕ
+      value (answered a) = a
+      value (refused n) = 0
+
+      answered_is : {a b : ℕ} → answered a ≡ answered b → a ≡ b
+      answered_is e = ap value e
+
+  pub total_after_fault : {r : ℕ} → unless_fault (fault_of t (get_or ws i 0)) (answered (t + minutes_in (get_or ws i 0))) ≡ refused r
+      → total_from t (drop i ws) ≡ refused r
+  unfolding total_from
+  total_after_fault {r} e = rw (drop-cons ws i 0) (unless_refused (fault_of t (get_or ws i 0)) r _ e (λ _ k. answered_is_no_refusal k))
+
 pub total_done : (ws : List ℕ) (t i : ℕ) → i ≡ length ws → total_from t (drop i ws) ≡ answered t
 unfolding total_from
 total_done ws t i e = rw (e, drop-length)

@@ -2,16 +2,12 @@
 -- Assumes nothing.
 use Rattle.std.specs.Prelude.{◌≡◌, Bool, false, List, [], ◌∷◌, ℕ, ◌+◌, ◌-◌, ◌≤◌, min, leb, eqb, length, drop, set}
 use Rattle.recording.specs.Tests.{pick, one}
-use Rattle.recording.specs.Answers.{Answer, refused, answered}
 use Rattle.recording.specs.Words.{word_of, minutes_in, activity_in, minutes_of}
 use Rattle.recording.specs.Rests.{long_rest_minutes}
 use Rattle.recording.specs.Weeks.{is_rest}
 use Rattle.recording.specs.Operations.{total_at_most}
-use Rattle.recording.specs.declared.Total.{Total}
-use Rattle.recording.specs.declared.Total.TheVariants as total
-use Rattle.recording.specs.declared.Weighing.{Weighing}
-use Rattle.recording.specs.declared.Weighing.TheVariants as weighing
 use Rattle.recording.specs.declared.Place.{Place}
+use Rattle.recording.specs.declared.recorded.Recording.{Recording}
 use Rattle.recording.specs.declared.Span.{Span}
 
 -- a short recording, of twelve weeks or less, and the most long rests that it can have
@@ -21,17 +17,9 @@ short_total = 120960
 abbrev pub short_rests : ℕ
 short_rests = 223
 
-abbrev pub totalled : Total → Answer ℕ
-totalled (total.Refused n) = refused n
-totalled (total.Minutes n) = answered n
-
-abbrev pub fault_in : Total → ℕ
-fault_in (total.Refused n) = n
-fault_in (total.Minutes n) = 0
-
-abbrev pub refusal_in : Weighing → ℕ
-refusal_in (weighing.Refused n) = n
-refusal_in (weighing.Weighed m) = 0
+-- the words of a recording: its first word, and those after it
+abbrev pub words_in : Recording → List ℕ
+words_in r = r.head ∷ r.words.now
 
 -- ---- the words of the first m minutes; those past it have none
 unfoldable pub cut_at : ℕ → List ℕ → List ℕ

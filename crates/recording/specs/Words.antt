@@ -1,9 +1,12 @@
--- Public: document 01, "The recording", words and minutes.
+-- Public: words and minutes.
 -- Assumes nothing.
-use Rattle.std.specs.Prelude.{Bool, List, [], ◌∷◌, ◌++◌, ℕ, ◌+◌, ◌*◌, ◌/◌, ◌%◌, eqb, replicate}
+use Rattle.std.specs.Prelude.{◌≡◌, Bool, List, [], ◌∷◌, ◌++◌, ℕ, ◌+◌, ◌*◌, ◌/◌, ◌%◌, eqb, replicate}
 use Rattle.recording.specs.Tests.{one}
+use Rattle.recording.specs.declared.Activity.{Activity}
+use Rattle.recording.specs.declared.Activity.TheVariants.{Rest, Availability, OtherWork, Driving}
+use Rattle.recording.specs.declared.Run.{Run}
 
--- "A recording is a slice of 32-bit words. A word is 4 × minutes + activity."
+-- A recording is a slice of words of 32 bits. A word is 4 × minutes + activity.
 abbrev pub activities : ℕ
 activities = 4
 
@@ -16,7 +19,7 @@ minutes_in word = word / activities
 abbrev pub activity_in : ℕ → ℕ
 activity_in word = word % activities
 
--- "Activity codes: 0 rest, 1 availability, 2 other work, 3 driving." A walk over the minutes takes rest as `zero` and the others as `suc a`.
+-- The codes of the activities. A walk over the minutes takes rest as `zero` and the others as `suc a`.
 abbrev pub rest : ℕ
 rest = 0
 
@@ -29,7 +32,7 @@ other_work = 2
 abbrev pub driving : ℕ
 driving = 3
 
--- "Minutes are 1 or more. Equal neighbours are allowed: only the list of minutes counts." Each minute is its activity's code.
+-- Only the list of minutes counts; each minute is its activity's code.
 unfoldable pub minutes_of : List ℕ → List ℕ
 minutes_of [] = []
 minutes_of (w ∷ ws) = replicate (minutes_in w) (activity_in w) ++ minutes_of ws
@@ -41,3 +44,15 @@ is_driving a = eqb a driving
 unfoldable pub driving_time : List ℕ → ℕ
 driving_time [] = 0
 driving_time (a ∷ ms) = one (is_driving a) + driving_time ms
+
+-- the code of an activity
+abbrev pub code_of : Activity → ℕ
+code_of Rest = rest
+code_of Availability = availability
+code_of OtherWork = other_work
+code_of Driving = driving
+
+-- a run says what a word says
+pub record IsRunOf (word : ℕ) (run : Run) : Type 0 where
+  pub activity : code_of run.activity ≡ activity_in word
+  pub minutes : run.minutes ≡ minutes_in word

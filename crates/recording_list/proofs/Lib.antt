@@ -1,4 +1,3 @@
-pub mod Stored
-pub mod RestToRest
-pub mod Scans
-pub mod ListWalk
+pub mod Filling
+pub mod Listed
+pub mod Walking

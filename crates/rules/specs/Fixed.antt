@@ -102,6 +102,16 @@ rule5 ds = all_of ends_in_time ds
 abbrev pub unbroken : Breaches
 unbroken = record { daily = false; weekly = false; fortnightly = false; breaks = false; rests = false }
 
+-- What is broken by one account or by the other.
+unfoldable pub either_broken : Breaches → Breaches → Breaches
+either_broken a b = record {
+  daily = a.daily or b.daily;
+  weekly = a.weekly or b.weekly;
+  fortnightly = a.fortnightly or b.fortnightly;
+  breaks = a.breaks or b.breaks;
+  rests = a.rests or b.rests;
+}
+
 -- Which of the five are broken: by the driving of a span, the number of weeks, the days, and whether the breaks of article 7 are kept; and in a recording.
 unfoldable pub breaches_by : (Span → ℕ) → ℕ → List Span → Bool → Breaches
 breaches_by driving weeks ds breaks = record {

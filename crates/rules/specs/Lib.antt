@@ -1,3 +1,4 @@
+pub mod Numbers
 pub mod Broken
 pub mod Fixed
 pub mod Reading

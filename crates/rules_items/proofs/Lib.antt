@@ -1,3 +1,4 @@
 pub mod ItemLaws
 pub mod TallyLaws
 pub mod PairLaws
+pub mod SpanLaws

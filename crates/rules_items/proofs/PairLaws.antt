@@ -1,8 +1,10 @@
 -- Rule 11: the walks over the rests and over the pairs of weeks. Assumes nothing.
 use mathlib.Core.Path.{◌≡◌, refl, sym, ap, ap₂, ◌∙◌}
+use mathlib.Core.Logic.{◌⊎◌, inl, inr}
 use mathlib.Core.Bool.{Bool, true, false, not}
 use mathlib.Core.List.{List, ◌∷◌}
 use Prim.Native.Nat.{ℕ, zero, suc, ◌+◌, ◌-◌, ◌≤◌, ◌<◌}
+use native.Mathlib.Nat.{eq-or-lt_of_le}
 use native.Mathlib.Numerals.{add-one}
 use native.Mathlib.Omega.{arith}
 use lib.Dec.{leb}
@@ -63,25 +65,25 @@ module _ (p : ℕ → Bool) (weekly regular : List ℕ) (w : ℕ) {h t : Bool} {
       (ap (leb regular_at_least)
       (ap₂ ◌+◌ (qc ∙ ap (λ (x : Bool). pick x 1 (get_or regular w 0)) ph) (qd ∙ ap (λ (x : Bool). pick x 1 (get_or regular (w + 1) 0)) pt)))
 
--- ---- the pairs of weeks, from the last back
-module _ (n : ℕ) (f : ℕ → Bool) where
-  pub record Pairing (w : ℕ) : Type 0 where
-    pub same : all_below n f ≡ all_below w f
+-- ---- the pairs of weeks
+pub all_kept : (n : ℕ) (f : ℕ → Bool) → ((v : ℕ) → v < n → f v ≡ true) → true ≡ all_below n f
+unfolding all_below ◌and◌
+all_kept zero f h = refl
+all_kept (suc n) f h = rw (h n (omega arith)) (all_kept n f (λ v l. h v (omega arith)))
 
-  pub pair_on : {w : ℕ} → Pairing w → 0 < w → f (w - 1) ≡ true → Pairing (w - 1)
-  unfolding all_below ◌and◌
-  pair_on {w = zero} p h t = absurd (omega arith)
-  pair_on {w = suc w} p h t = let e : suc w - 1 ≡ w = omega arith in record { same = p.same ∙ rw (ap f (sym e) ∙ t, e) refl }
+none_of : (a : Bool) {b : Bool} → false ≡ b → false ≡ a and b
+unfolding ◌and◌
+none_of true e = e
+none_of false e = refl
 
-  pub pair_broken : {w : ℕ} → Pairing w → 0 < w → f (w - 1) ≡ false → false ≡ all_below n f
-  unfolding all_below ◌and◌
-  pair_broken {w = zero} p h t = absurd (omega arith)
-  pair_broken {w = suc w} p h t = let e : suc w - 1 ≡ w = omega arith in sym (p.same ∙ rw (ap f (sym e) ∙ t) refl)
-
-  pub pair_done : {w : ℕ} → Pairing w → w ≤ 0 → true ≡ all_below n f
-  unfolding all_below
-  pair_done {w = zero} p h = sym p.same
-  pair_done {w = suc w} p h = absurd (omega arith)
+pub one_broken : (n : ℕ) (f : ℕ → Bool) (w : ℕ) → w < n → f w ≡ false → false ≡ all_below n f
+unfolding all_below ◌and◌
+one_broken zero f w l e = absurd (omega arith)
+one_broken (suc n) f w l e = go (eq-or-lt_of_le (let k : w ≤ n = omega arith in k)) (λ m. one_broken n f w m e)
+  where
+    go : (w ≡ n) ⊎ (w < n) → (w < n → false ≡ all_below n f) → false ≡ f n and all_below n f
+    go (inl q) before = rw (ap f (sym q) ∙ e) refl
+    go (inr m) before = none_of (f n) (before m)
 
 -- ---- counts that are those of the entries make it the rule
 module _ (p : ℕ → Bool) (s : ℕ) (es : List Entry) (weekly regular : List ℕ) (limit : s ≤ total_at_most)

@@ -20,8 +20,7 @@ use Rattle.rules.specs.ReadingRules.{least_net, weeks_to_compensate, deadline, e
 use Rattle.rules.specs.declared.Kind.{Kind}
 use Rattle.rules.specs.declared.Kind.TheVariants.{Daily, Weekly}
 use Rattle.rules.specs.declared.Standing.TheVariants.{Regular, Reduced}
-use Rattle.rules_items.specs.declared.Tally.{Tally}
-use Rattle.rules_items.specs.Items.{end_at, time_by, smaller, short_after, broken_by, tally_by, added_to, incremented, spans_from, spans_in, test_from}
+use Rattle.rules_items.specs.Items.{end_at, time_by, smaller, short_after, broken_by, Tallied, tally_by, added_to, incremented, spans_from, spans_in, test_from}
 
 -- ---- the smaller of two rules, by tests
 pub smaller_tests : (a b : ℕ) → smaller a b ≡ pick (eqb a 0) b (pick (eqb b 0) a (pick (leb a b) a b))
@@ -92,7 +91,7 @@ time_settles Daily s rs week c = refl
 time_settles (Weekly Regular) s rs week c = refl
 time_settles (Weekly (Reduced d)) s rs week c = by_test (eqb c 0) s rs c (week_start (week + weeks_to_compensate))
 
-pub test_next : (counts : Entry → Bool) (s : ℕ) (rs : List Span) (t : Tally) (e : Entry) (es : List Entry)
+pub test_next : (counts : Entry → Bool) (s : ℕ) (rs : List Span) (t : Tallied) (e : Entry) (es : List Entry)
     → test_from counts s rs t (e ∷ es) ≡ test_from counts s rs (tally_by (counts e) s (end_of rs e.compensated_by) t e) es
 unfolding test_from tally_by broken_by all_of rule9_from rule10_from short_after compensated
 test_next counts s rs t e es =

@@ -1,12 +1,13 @@
 -- Inner: what the functions of this layer answer. Nobody has to believe it: no public contract cites it.
 -- Assumes nothing.
-use Rattle.std.specs.Prelude.{◌≡◌, Bool, true, false, not, List, [], ◌∷◌, ℕ, zero, suc, ◌+◌, ◌-◌, ◌*◌, ◌≤◌, ◌<◌, leb, ltb, eqb, length, get_or, set}
+use Rattle.std.specs.Prelude.{◌≡◌, Bool, true, false, not, List, [], ◌∷◌, ℕ, zero, suc, ◌+◌, ◌-◌, ◌*◌, ◌≤◌, ◌<◌, leb, ltb, eqb, length, get_or, set, Option, None, Some}
 use Rattle.recording.specs.Tests.{◌and◌, ◌or◌, pick, one, all_of, any_of, all_below, count_of}
 use Rattle.recording.specs.Rests.{long_rests_at_most}
 use Rattle.recording.specs.Operations.{total_at_most}
 use Rattle.recording.specs.Weeks.{week_start, week, week_of, inside}
 use Rattle.recording.specs.declared.Span.{Span}
 use Rattle.rules.specs.Broken.{unless}
+use Rattle.rules.specs.Numbers.{rule_or_none}
 use Rattle.rules.specs.Reading.{Entry, regular_minutes, standing_of, as_read, is_weekly, is_regular, entry_bytes, carrier_of, fields_in, entries}
 use Rattle.rules.specs.ReadingRules.{least_net, rule7, weeks_to_compensate, compensated, shortened_at_most, rule9_from, in_gap, rule10_from, of_kind, weekly_at_least, regular_at_least, later_test}
 use Rattle.rules.specs.declared.Kind.{Kind}
@@ -17,8 +18,8 @@ use Rattle.rules_nets.specs.Nets.{net_at_most, counts_by}
 use Rattle.rules_items.specs.declared.Item.{Item}
 use Rattle.rules_items.specs.declared.LongRest.{LongRest}
 use Rattle.rules_items.specs.declared.Tally.{Tally}
-use Rattle.rules_items.specs.declared.Walk.{Walk}
-use Rattle.rules_items.specs.declared.Walk.TheVariants.{TooShort, AllThrough}
+use Rattle.rules_items.specs.declared.rests.Rests.{Rests}
+use Rattle.rules_items.specs.declared.WeekCounts.{WeekCounts}
 
 -- an item as an entry
 abbrev pub entry_by : Item → Entry
@@ -96,6 +97,15 @@ smaller zero b = b
 smaller (suc a) zero = suc a
 smaller (suc a) (suc b) = pick (leb a b) (suc a) (suc b)
 
+-- ---- a tally told by numbers: the smallest broken rule or 0, the shortened rests, the end of the last weekly rest
+pub record Tallied : Type 0 where
+  pub rule : ℕ
+  pub short : ℕ
+  pub last : ℕ
+
+abbrev pub tallied : Tally → Tallied
+tallied t = record { rule = rule_or_none t.rule; short = t.short; last = t.last }
+
 -- ---- rules 8 to 10, an entry more: as a daily rest it counts under rule 9 or not, the carrier ends at `end`, S is s
 abbrev pub short_by : Item → Bool
 short_by x = ltb (x.end - x.start) (x.net + x.compensation)
@@ -103,13 +113,13 @@ short_by x = ltb (x.end - x.start) (x.net + x.compensation)
 unfoldable pub short_after : Bool → ℕ → Entry → ℕ
 short_after short n e = pick (is_weekly (as_read e)) 0 (n + one short)
 
-unfoldable pub broken_by : Bool → ℕ → ℕ → Tally → Entry → ℕ
+unfoldable pub broken_by : Bool → ℕ → ℕ → Tallied → Entry → ℕ
 broken_by short s end t e =
     unless (time_by (as_read e) e.week e.compensated_by end s) 8
     (unless (leb (short_after short t.short e) shortened_at_most) 9
     (unless (not (is_weekly (as_read e)) or in_gap t.last e.span.start) 10 0))
 
-unfoldable pub tally_by : Bool → ℕ → ℕ → Tally → Entry → Tally
+unfoldable pub tally_by : Bool → ℕ → ℕ → Tallied → Entry → Tallied
 tally_by short s end t e = record {
   rule = smaller t.rule (broken_by short s end t e);
   short = short_after short t.short e;
@@ -136,6 +146,10 @@ spans_from starts ends i (suc n) = span_at starts ends i ∷ spans_from starts e
 abbrev pub spans_in : List ℕ → List ℕ → ℕ → List Span
 spans_in starts ends k = spans_from starts ends 0 k
 
+-- those of a struct
+abbrev pub spans_among : Rests → List Span
+spans_among r = spans_in r.starts.now r.ends.now (length r.starts.now)
+
 -- they stand in the slices, in order, within the limit
 pub record Laid (starts ends nets reading compensations : List ℕ) (k : ℕ) : Type 0 where
   pub few : k ≤ long_rests_at_most
@@ -152,31 +166,39 @@ pub record Laid (starts ends nets reading compensations : List ℕ) (k : ℕ) : 
 abbrev pub Zeros : List ℕ → Type 0
 Zeros xs = (i : ℕ) → get_or xs i 0 ≡ 0
 
+-- a place for each value of a week's byte, and nothing is counted
+pub record Fresh (counts : WeekCounts) : Type 0 where
+  pub weekly : Zeros counts.weekly
+  pub regular : Zeros counts.regular
+  pub weekly_size : length counts.weekly ≡ 256
+  pub regular_size : length counts.regular ≡ 256
+
 -- rules 8 to 10 from a tally on, by which daily rests count under rule 9
-unfoldable pub test_from : (Entry → Bool) → ℕ → List Span → Tally → List Entry → ℕ
+unfoldable pub test_from : (Entry → Bool) → ℕ → List Span → Tallied → List Entry → ℕ
 test_from counts s rs t es =
     smaller t.rule
     (unless (all_of (compensated s rs) es) 8 (unless (rule9_from counts t.short es) 9 (unless (rule10_from t.last s es) 10 0)))
 
-abbrev pub fresh_tally : Tally
+abbrev pub fresh_tally : Tallied
 fresh_tally = record { rule = 0; short = 0; last = 0 }
+
+-- no week has more than n of either kind
+abbrev pub Few : ℕ → WeekCounts → Type 0
+Few n counts = Below n counts.weekly × Below n counts.regular
 
 -- what the walk over the rests answers: a rest is too short net of its compensation, or all are through, with what is left of rules 8 to 10 and
 -- the rests counted in each week
-pub record Through (counts : Entry → Bool) (s : ℕ) (rs : List Span) (es : List Entry) (t : Tally) (weekly regular : List ℕ) : Type 0 where
+pub record Through (counts : Entry → Bool) (s : ℕ) (rs : List Span) (es : List Entry) (t : Tallied) (counts' : WeekCounts) : Type 0 where
   pub seven : rule7 es ≡ true
   pub tally : test_from counts s rs fresh_tally es ≡ test_from counts s rs t []
   pub last : t.last ≤ total_at_most
-  pub weeklies : (w : ℕ) → w < 256 → get_or weekly w 0 ≡ count_of (of_kind is_weekly w) es
-  pub regulars : (w : ℕ) → w < 256 → get_or regular w 0 ≡ count_of (of_kind is_regular w) es
-  pub few_weeklies : Below compensation_at_most weekly
-  pub few_regulars : Below compensation_at_most regular
-  pub weekly_size : length weekly ≡ 256
-  pub regular_size : length regular ≡ 256
+  pub weeklies : (w : ℕ) → w < 256 → get_or counts'.weekly w 0 ≡ count_of (of_kind is_weekly w) es
+  pub regulars : (w : ℕ) → w < 256 → get_or counts'.regular w 0 ≡ count_of (of_kind is_regular w) es
+  pub few : Few compensation_at_most counts'
 
-abbrev pub Walked : (Entry → Bool) → ℕ → List Span → List Entry → Walk → List ℕ → List ℕ → Type 0
-Walked counts s rs es TooShort weekly regular = rule7 es ≡ false
-Walked counts s rs es (AllThrough t) weekly regular = Through counts s rs es t weekly regular
+abbrev pub Walked : (Entry → Bool) → ℕ → List Span → List Entry → Option Tally → WeekCounts → Type 0
+Walked counts s rs es None counts' = rule7 es ≡ false
+Walked counts s rs es (Some t) counts' = Through counts s rs es (tallied t) counts'
 
 -- ---- rule 11 by the counts of each week
 abbrev pub counted_by : (ℕ → Bool) → List ℕ → ℕ → ℕ
@@ -195,13 +217,6 @@ abbrev pub rest_weeks : List Span → ℕ → Bool
 rest_weeks rs w = any_of (inside (week w)) rs
 
 -- ---- rules 6 to 11 by the rests that stand in three slices
--- the slices have room for k rests
-pub record Roomy (k : ℕ) (starts ends nets compensations : List ℕ) : Type 0 where
-  pub begun : k ≤ length starts
-  pub ended : k ≤ length ends
-  pub numbered : k ≤ length nets
-  pub compensated : k ≤ length compensations
-
 abbrev pub later_by : List ℕ → List ℕ → List ℕ → List ℕ → ℕ → ℕ → ℕ
 later_by starts ends nets reading k s =
     later_test (rest_weeks (spans_in starts ends k)) (counts_by nets) s (spans_in starts ends k) (entries (spans_in starts ends k) (fields_in reading))

@@ -1,6 +1,6 @@
--- The account is right: after any minutes it holds what document 01 says of them, and which of the fixed rules they break.
+-- The account is right: after any minutes it holds what the rules go by in them, and which of the fixed rules they break.
 -- Assumes nothing.
-use mathlib.Core.Path.{◌≡◌, refl, sym, ap, ap₂, ◌∙◌}
+use mathlib.Core.Path.{◌≡◌, refl, sym, ap, ap₂, subst, ◌∙◌}
 use mathlib.Core.Bool.{Bool, true, false, not}
 use mathlib.Core.List.{List, [], ◌∷◌, ◌++◌, append-nil}
 use Prim.Native.Nat.{ℕ, zero, suc, ◌+◌, ◌-◌, ◌≤◌, ◌<◌}
@@ -9,7 +9,8 @@ use native.Mathlib.Omega.{arith}
 use lib.Dec.{leb, ltb, eqb, eqb-suc-zero}
 use lib.ListN.{length, take, drop, take-append-drop}
 use lib.Seq.{append_snoc, take-append-le, take-append_seam, take_all, take-take}
-use borrow.Author.Tests.{leb-true, leb-false, ltb-true, ltb-false, lt-ltb, le-ltb, eqb-true, eqb-false, eq-eqb, ne_eqb}
+use borrow.Author.Tests.{leb-true, leb-false, ltb-true, ltb-false, lt-ltb, le-ltb, eqb-true, eqb-false, eq-eqb}
+use Rattle.std.specs.Prelude.{Option, None, Some}
 use Rattle.recording.specs.Tests.{◌and◌, ◌or◌, pick, one, count_of}
 use Rattle.recording.specs.Words.{is_driving, driving_time}
 use Rattle.recording.specs.Rests.{judged_end, long_rest_minutes}
@@ -18,17 +19,20 @@ use Rattle.recording.specs.Weeks.{week_minutes, week_start, week, week_of}
 use Rattle.recording.specs.declared.Span.{Span}
 use Rattle.recording.proofs.TestLaws.{not-and, one_most}
 use Rattle.recording.proofs.Walks.{judged_within}
-use Rattle.rules.specs.Fixed.{ordinary_day, extended, rested, drove, unbroken as nothing, breaches_by, breaches, smallest_rule, fixed_test}
+use Rattle.rules.specs.Fixed.{ordinary_day, extended, rested, drove, unbroken as nothing, breaches_by, breaches, smallest_rule, fixed_test, either_broken}
+use Rattle.rules.specs.Numbers.{number_of_rule, rule_or_none}
+use Rattle.rules.specs.declared.Rule.{Rule}
 use Rattle.rules.specs.Opened.{opened as rules_opened}
 use Rattle.rules.specs.declared.Accumulated.{Accumulated}
 use Rattle.rules.specs.declared.Breaches.{Breaches}
-use Rattle.rules.proofs.ArticleOrder.{rule_none}
+use Rattle.rules.proofs.ArticleOrder.{rule_none, rule_most}
 use Rattle.rules.proofs.FixedPrefix.{fixed_prefix}
 use Rattle.rules_limits.specs.declared.Day.{Day}
 use Rattle.rules_limits.specs.declared.Week.{Week}
 use Rattle.rules_limits.specs.declared.Break.{Break}
 use Rattle.rules_limits.specs.declared.Account.{Account}
-use Rattle.rules_limits.specs.Account.{day_after, day_with, week_with, week_next, broken_at, either_broken, first_break, rest_minute, busy_minute, minute_after, account_from, opening}
+use Rattle.rules_limits.specs.Account.{day_after, day_with, week_with, week_next, broken_at, rule_numbered, break_of, first_break}
+use Rattle.rules_limits.specs.Account.{rest_minute, busy_minute, minute_after, account_from, opening}
 use Rattle.rules_limits.proofs.Driving.{up_to, up_to_within, up_to_past, up_to_judged, driving_between, driving_snoc, length_more, driving_same}
 use Rattle.rules_limits.proofs.Accumulated.{accumulated_from, accumulated_by, rule1_rest, accumulated_after_rest, rule1_busy, accumulated_after_busy}
 use Rattle.rules_limits.proofs.DayEnds.{span, last_end, day_start, days_done, days_are, day_within, judged_rest, rests_rest, judged_busy, long_before, short_before}
@@ -49,9 +53,27 @@ unfolding either_broken ◌or◌
 none_or b = refl
 
 -- ---- the first breach: none, or after m minutes without
-pub data First (xs : List ℕ) (f : Break) : Type 0 where
-  unbroken : f.rule ≡ 0 → fixed_test xs ≡ 0 → First xs f
-  broken : (m : ℕ) → f.at ≡ suc m → suc m ≤ length xs → fixed_test (take m xs) ≡ 0 → fixed_test (take (suc m) xs) ≡ f.rule → (f.rule ≡ 0 → ⊥) → First xs f
+pub data First (xs : List ℕ) : Option Break → Type 0 where
+  unbroken : fixed_test xs ≡ 0 → First xs None
+  broken : {f : Break} (m : ℕ) → f.at ≡ suc m → suc m ≤ length xs → fixed_test (take m xs) ≡ 0 → fixed_test (take (suc m) xs) ≡ number_of_rule f.rule → First xs (Some f)
+
+-- the fixed rule of a number has that number
+no_rule : (n : ℕ) → rule_numbered n ≡ None → n ≡ 0
+no_rule zero e = refl
+no_rule (suc zero) e = cc
+no_rule (suc (suc zero)) e = cc
+no_rule (suc (suc (suc zero))) e = cc
+no_rule (suc (suc (suc (suc zero)))) e = cc
+no_rule (suc (suc (suc (suc (suc n))))) e = cc
+
+its_number : (n : ℕ) {r : Rule} → n ≤ 5 → rule_numbered n ≡ Some r → n ≡ number_of_rule r
+its_number zero h e = cc
+its_number (suc zero) h e = ap rule_or_none e
+its_number (suc (suc zero)) h e = ap rule_or_none e
+its_number (suc (suc (suc zero))) h e = ap rule_or_none e
+its_number (suc (suc (suc (suc zero)))) h e = ap rule_or_none e
+its_number (suc (suc (suc (suc (suc zero))))) h e = ap rule_or_none e
+its_number (suc (suc (suc (suc (suc (suc n)))))) h e = absurd (omega arith)
 
 pub record Right (xs : List ℕ) (s : Account) : Type 0 where
   pub now : s.now ≡ length xs
@@ -100,15 +122,15 @@ module _ (xs : List ℕ) (a : ℕ) where
   shorter : (m : ℕ) → m ≤ length xs → take m (xs ++ a ∷ []) ≡ take m xs
   shorter m h = take-append-le m xs (a ∷ []) h
 
-  first_kept : (f : Break) (m : ℕ) → f.at ≡ suc m → suc m ≤ length xs → fixed_test (take m xs) ≡ 0 → fixed_test (take (suc m) xs) ≡ f.rule → (f.rule ≡ 0 → ⊥)
-      → First (xs ++ a ∷ []) f
-  first_kept f m e h p q r =
-      broken m e (omega (arith, length_more xs a)) (ap fixed_test (shorter m (omega arith)) ∙ p) (ap fixed_test (shorter (suc m) h) ∙ q) r
+  first_kept : (f : Break) (m : ℕ) → f.at ≡ suc m → suc m ≤ length xs → fixed_test (take m xs) ≡ 0 → fixed_test (take (suc m) xs) ≡ number_of_rule f.rule
+      → First (xs ++ a ∷ []) (Some f)
+  first_kept f m e h p q =
+      broken m e (omega (arith, length_more xs a)) (ap fixed_test (shorter m (omega arith)) ∙ p) (ap fixed_test (shorter (suc m) h) ∙ q)
 
-  first_more : (f : Break) (now : ℕ) (b : Breaches) → now ≡ suc (length xs) → First xs f → breaches (xs ++ a ∷ []) ≡ either_broken (breaches xs) b
+  first_more : (f : Option Break) (now : ℕ) (b : Breaches) → now ≡ suc (length xs) → First xs f → breaches (xs ++ a ∷ []) ≡ either_broken (breaches xs) b
       → First (xs ++ a ∷ []) (first_break f now (smallest_rule b))
   unfolding fixed_test
-  first_more f now c n (unbroken z k) t = at (eqb b 0) refl
+  first_more None now c n (unbroken k) t = at (rule_numbered b) refl
     where
       b : ℕ
       b = smallest_rule c
@@ -116,17 +138,16 @@ module _ (xs : List ℕ) (a : ℕ) where
       so : fixed_test (xs ++ a ∷ []) ≡ b
       so = ap smallest_rule (t ∙ ap (λ (x : Breaches). either_broken x c) (rule_none (breaches xs) k) ∙ none_or c)
 
-      at : (y : Bool) → eqb b 0 ≡ y → First (xs ++ a ∷ []) (first_break f now b)
-      at true e = rw (eq-eqb f.rule 0 z, e) (unbroken z (so ∙ eqb-true b 0 e))
-      at false e =
-          rw (eq-eqb f.rule 0 z, e)
-          (broken (length xs) n (omega (arith, length_more xs a)) (ap fixed_test (take-append_seam xs (a ∷ [])) ∙ k)
-          (ap fixed_test (take_all (suc (length xs)) (xs ++ a ∷ []) (omega (arith, length_more xs a))) ∙ so) (eqb-false b 0 e))
-  first_more f now c n (broken m e h p q r) t = rw (ne_eqb f.rule 0 r) (first_kept f m e h p q r)
+      at : (r : Option Rule) → rule_numbered b ≡ r → First (xs ++ a ∷ []) (break_of now r)
+      at None e = unbroken (so ∙ no_rule b e)
+      at (Some r) e =
+          broken (length xs) n (omega (arith, length_more xs a)) (ap fixed_test (take-append_seam xs (a ∷ [])) ∙ k)
+          (ap fixed_test (take_all (suc (length xs)) (xs ++ a ∷ []) (omega (arith, length_more xs a))) ∙ so ∙ its_number b (rule_most c) e)
+  first_more (Some f) now c n (broken m e h p q) t = first_kept f m e h p q
 
-  first_rest : (f : Break) → fixed_test (xs ++ a ∷ []) ≡ fixed_test xs → First xs f → First (xs ++ a ∷ []) f
-  first_rest f t (unbroken z k) = unbroken z (t ∙ k)
-  first_rest f t (broken m e h p q r) = first_kept f m e h p q r
+  first_rest : (f : Option Break) → fixed_test (xs ++ a ∷ []) ≡ fixed_test xs → First xs f → First (xs ++ a ∷ []) f
+  first_rest None t (unbroken k) = unbroken (t ∙ k)
+  first_rest (Some f) t (broken m e h p q) = first_kept f m e h p q
 
 -- ---- a minute of rest
 module _ (xs : List ℕ) (s : Account) (k : Right xs s) where
@@ -393,7 +414,7 @@ right_none = record {
   last = refl;
   accumulated = refl;
   broken = refl;
-  first = unbroken refl refl;
+  first = unbroken refl;
 }
 
 -- THE LAW
@@ -406,28 +427,32 @@ unfolding fixed_test
 rule_right ms e p = p ∙ ap (λ (s : Account). smallest_rule s.broken) e ∙ ap smallest_rule (account_right ms).broken
 
 -- ---- the first minute at which the fixed test of a stretch is not 0
-pub record Least (ms : List ℕ) (f : Break) : Type 0 where
-  pub none_broken : f.rule ≡ 0 → (m : ℕ) → fixed_test (take m ms) ≡ 0
-  pub there : (f.rule ≡ 0 → ⊥) → fixed_test (take f.at ms) ≡ f.rule
-  pub before : (f.rule ≡ 0 → ⊥) → (m : ℕ) → m < f.at → fixed_test (take m ms) ≡ 0
+pub record Least (ms : List ℕ) (f : Option Break) : Type 0 where
+  pub none_broken : f ≡ None → (m : ℕ) → fixed_test (take m ms) ≡ 0
+  pub there : {b : Break} → f ≡ Some b → fixed_test (take b.at ms) ≡ number_of_rule b.rule
+  pub before : {b : Break} → f ≡ Some b → (m : ℕ) → m < b.at → fixed_test (take m ms) ≡ 0
 
 prefix_zero : (ms : List ℕ) (m n : ℕ) → m ≤ n → fixed_test (take n ms) ≡ 0 → fixed_test (take m ms) ≡ 0
 prefix_zero ms m n h e =
     let whole : fixed_test (take m (take n ms) ++ drop m (take n ms)) ≡ 0 = rw (take-append-drop m (take n ms)) e in
     rw (take-take m n ms h) at (fixed_prefix (take m (take n ms)) (drop m (take n ms)) whole)
 
-least : (ms : List ℕ) (f : Break) → First ms f → Least ms f
-least ms f (unbroken z e) = record {
+least : (ms : List ℕ) (f : Option Break) → First ms f → Least ms f
+least ms None (unbroken e) = record {
   none_broken = λ q m.
       let whole : fixed_test (take m ms ++ drop m ms) ≡ 0 = rw (take-append-drop m ms) e in
       fixed_prefix (take m ms) (drop m ms) whole;
-  there = λ q. absurd (q z);
-  before = λ q m h. absurd (q z);
+  there = λ q. cc;
+  before = λ q m h. cc;
 }
-least ms f (broken n e h p q r) = record {
-  none_broken = λ z. absurd (r z);
-  there = λ z. ap (λ (m : ℕ). fixed_test (take m ms)) e ∙ q;
-  before = λ z m l. prefix_zero ms m n (omega arith) p;
+least ms (Some f) (broken n e h p q) = record {
+  none_broken = λ z. cc;
+  there = λ {b} z.
+      let same : f ≡ b = cc in
+      subst (λ (b : Break). fixed_test (take b.at ms) ≡ number_of_rule b.rule) same (ap (λ (m : ℕ). fixed_test (take m ms)) e ∙ q);
+  before = λ {b} z m l.
+      let same : f ≡ b = cc in
+      prefix_zero ms m n (omega (arith, ap (λ (b : Break). b.at) same)) p;
 }
 
 pub first_least : (ms : List ℕ) → Least ms (account_from opening ms).first

@@ -1,5 +1,5 @@
--- Document 02, request 2, in its own words: "driving has been done since the sum was last cleared, or since minute 0 if it never was" is a sum over 0, and no
--- first part is without it. Assumes nothing.
+-- Driving has been done since the sum was last cleared, or since minute 0 if it never was, just where the sum is over 0, and no first part is without it.
+-- Assumes nothing.
 use mathlib.Core.Path.{◌≡◌, refl, sym, ap, ◌∙◌}
 use mathlib.Core.Logic.{◌⊎◌, inl, inr}
 use mathlib.Core.Bool.{Bool, true, false, false≢true}

@@ -1,25 +1,31 @@
 -- A part of a run in one step is the account of its minutes. Assumes nothing.
 use mathlib.Core.Path.{◌≡◌, refl, sym, ap, ◌∙◌}
 use mathlib.Core.Logic.{◌⊎◌, inl, inr}
-use mathlib.Core.Bool.{Bool, true, false, beq}
+use mathlib.Core.Bool.{Bool, true, false}
 use Prim.Native.Nat.{ℕ, zero, suc, ◌+◌, ◌-◌, ◌≤◌, ◌<◌}
 use native.Mathlib.Nat.{le_refl}
 use native.Mathlib.Omega.{arith}
 use lib.Dec.{ltb, eqb}
 use lib.ListN.{replicate}
-use borrow.Author.Tests.{ltb-true, eqb-true, eqb-false, lt-ltb, ne_eqb}
+use borrow.Author.Tests.{ltb-true, lt-ltb, ne_eqb}
+use Rattle.std.specs.Prelude.{Option, None, Some}
+use Rattle.std.specs.Option.{option_or}
 use Rattle.recording.specs.Tests.{◌and◌, ◌or◌, pick, one}
 use Rattle.recording.specs.Words.{is_driving}
 use Rattle.recording.specs.Weeks.{is_rest}
-use Rattle.recording.proofs.TestLaws.{and_left, and_right, or_cases, or_left, or_right, or-false, clash, is_false}
-use Rattle.rules.specs.Fixed.{day_at_most, ordinary_day, extended_days, week_at_most, fortnight_at_most, rested, drove, accumulated_at_most, day_length, unbroken, smallest_rule}
+use Rattle.recording.proofs.TestLaws.{or_cases, or_left, or_right, or-false, clash, is_false}
+use Rattle.rules.specs.Fixed.{day_at_most, ordinary_day, extended_days, week_at_most, fortnight_at_most, rested, drove, accumulated_at_most, day_length, unbroken, smallest_rule, either_broken}
+use Rattle.rules.specs.Numbers.{number_of_rule}
+use Rattle.rules.specs.declared.Rule.{Rule}
+use Rattle.rules.specs.declared.Rule.TheVariants.{AccumulatedDriving, DailyDriving, WeeklyDriving, FortnightlyDriving, DailyRest}
+use Rattle.rules.specs.declared.Rule.TheVariants.{EntryForm, NetLength, CompensationInTime, ShortenedRests, WeeklyRestGap, WeeklyRests}
 use Rattle.rules.proofs.ArticleOrder.{rule_none, none_rule}
 use Rattle.rules.proofs.ByWord.{not_rested}
 use Rattle.rules.specs.declared.Accumulated.{Accumulated}
 use Rattle.rules.specs.declared.Breaches.{Breaches}
-use Rattle.rules_limits.specs.Account.{day_after, day_with, week_with, week_next, broken_at, either_broken, first_break, rest_minute, busy_minute, minute_after, account_from}
+use Rattle.rules_limits.specs.Account.{day_after, day_with, week_with, week_next, broken_at, rule_numbered, break_of, first_break, rest_minute, busy_minute, minute_after, account_from}
 use Rattle.rules_limits.specs.Runs.{Bounded, Ran}
-use Rattle.rules_limits.specs.Parts.{driving_of, day_more, week_more, accumulated_more, rest_part, judged_at, busy_part, part_after, same_broken, same_breaches}
+use Rattle.rules_limits.specs.Parts.{driving_of, day_more, week_more, accumulated_more, rest_part, judged_at, busy_part, part_after}
 use Rattle.rules_limits.specs.declared.Day.{Day}
 use Rattle.rules_limits.specs.declared.Week.{Week}
 use Rattle.rules_limits.specs.declared.Break.{Break}
@@ -158,17 +164,17 @@ none_within {c = c} l e = λ i. record {
   rests = is_false c.rests (λ t. clash _ (l.rests t) (ap (λ (x : Breaches). x.rests) e)) i;
 }
 
-first_kept : (f : Break) (now now' : ℕ) (b c : Breaches) → Within c b → (first_break f now' (smallest_rule b)).rule ≡ f.rule → first_break f now (smallest_rule c) ≡ f
-first_kept f now now' b c l e = at (eqb f.rule 0) refl e
+first_kept : (f : Option Break) (now now' : ℕ) (b c : Breaches) → Within c b → first_break f now' (smallest_rule b) ≡ f → first_break f now (smallest_rule c) ≡ f
+first_kept (Some f) now now' b c l e = refl
+first_kept None now now' b c l e = rw (none (smallest_rule b) refl e) refl
   where
-    none : (y : Bool) → eqb (smallest_rule b) 0 ≡ y → f.rule ≡ 0 → (pick y f (record { at = now'; rule = smallest_rule b })).rule ≡ f.rule → smallest_rule c ≡ 0
-    none true t z e = none_rule c (none_within l (rule_none b (eqb-true (smallest_rule b) 0 t)))
-    none false t z e = absurd (eqb-false (smallest_rule b) 0 t (e ∙ z))
-
-    at : (t : Bool) → eqb f.rule 0 ≡ t → (pick t (pick (eqb (smallest_rule b) 0) f (record { at = now'; rule = smallest_rule b })) f).rule ≡ f.rule
-        → pick t (pick (eqb (smallest_rule c) 0) f (record { at = now; rule = smallest_rule c })) f ≡ f
-    at true t e = rw (none (eqb (smallest_rule b) 0) refl (eqb-true f.rule 0 t) e) refl
-    at false t e = refl
+    none : (n : ℕ) → smallest_rule b ≡ n → break_of now' (rule_numbered n) ≡ None → smallest_rule c ≡ 0
+    none zero t z = none_rule c (none_within l (rule_none b t))
+    none (suc zero) t z = cc
+    none (suc (suc zero)) t z = cc
+    none (suc (suc (suc zero))) t z = cc
+    none (suc (suc (suc (suc zero)))) t z = cc
+    none (suc (suc (suc (suc (suc n))))) t z = cc
 
 -- a minute that breaks nothing leaves what is broken as it was
 pub none_more : (r b : Breaches) → smallest_rule b ≡ 0 → either_broken r b ≡ r
@@ -183,12 +189,27 @@ none_more r b e =
       rests = or-false r.rests i;
     })
 
-pub first_as_it_was : (f : Break) (now b : ℕ) → b ≡ 0 → first_break f now b ≡ f
-first_as_it_was f now b e = rw e (at (eqb f.rule 0))
-  where
-    at : (t : Bool) → pick t f f ≡ f
-    at true = refl
-    at false = refl
+pub first_as_it_was : (f : Option Break) (now b : ℕ) → b ≡ 0 → first_break f now b ≡ f
+first_as_it_was None now b e = rw e refl
+first_as_it_was (Some f) now b e = refl
+
+-- a minute that breaks a rule is the first breach, unless there was one
+numbered : (r : Rule) (n : ℕ) → n ≡ number_of_rule r → n ≤ 5 → rule_numbered n ≡ Some r
+numbered AccumulatedDriving n e h = ap rule_numbered e
+numbered DailyDriving n e h = ap rule_numbered e
+numbered WeeklyDriving n e h = ap rule_numbered e
+numbered FortnightlyDriving n e h = ap rule_numbered e
+numbered DailyRest n e h = ap rule_numbered e
+numbered EntryForm n e h = absurd (omega arith)
+numbered NetLength n e h = absurd (omega arith)
+numbered CompensationInTime n e h = absurd (omega arith)
+numbered ShortenedRests n e h = absurd (omega arith)
+numbered WeeklyRestGap n e h = absurd (omega arith)
+numbered WeeklyRests n e h = absurd (omega arith)
+
+pub first_found : (f : Option Break) (now n : ℕ) (r : Rule) → n ≡ number_of_rule r → n ≤ 5 → option_or f (Some (record { at = now; rule = r })) ≡ first_break f now n
+first_found (Some f) now n r e h = refl
+first_found None now n r e h = rw (numbered r n e h) refl
 
 -- ---- a part of n minutes and one more, in a week
 not_ended : (now : ℕ) (w : Week) → now < w.end → week_next now w ≡ w
@@ -202,7 +223,7 @@ same_day now end d = refl
 -- an account in which nothing that is broken has changed
 record Unchanged (s t : Account) : Type 0 where
   broken : t.broken ≡ s.broken
-  first : t.first.rule ≡ s.first.rule
+  first : t.first ≡ s.first
 
 module _ (s : Account) (a n : ℕ) (some : 0 < n) (room : s.now + suc n ≤ s.week.end) where
   rest_on : rest_part (rest_part s 1) n ≡ rest_part s (suc n)
@@ -294,7 +315,7 @@ onward s a n h room same = record { part = part (is_rest a) same; same = stays (
 
     stays : (b : Bool) → Unchanged s (by b s (suc n)) → Unchanged s (by b s 1)
     stays true k = record { broken = refl; first = refl }
-    stays false k = record { broken = broken_stays s a n h room k; first = ap (λ (x : Break). x.rule) (first_stays s a n h room k) }
+    stays false k = record { broken = broken_stays s a n h room k; first = first_stays s a n h room k }
 
     ends : (b : Bool) → (by b s 1).week.end ≡ s.week.end
     ends true = rest_end s a n h room
@@ -310,7 +331,7 @@ fold_part (suc n) s a room same =
     sym k.part
     ∙ fold_part n (minute_after s a) a (omega (arith, k.end)) (record {
       broken = ap (λ (t : Account). t.broken) k.part ∙ same.broken ∙ sym k.same.broken;
-      first = ap (λ (t : Account). t.first.rule) k.part ∙ same.first ∙ sym k.same.first;
+      first = ap (λ (t : Account). t.first) k.part ∙ same.first ∙ sym k.same.first;
     })
 
 -- ---- what a run of minutes keeps
@@ -324,34 +345,10 @@ run_kept (suc n) s a k =
 ran : (n : ℕ) {s : Account} {a : ℕ} {t : Account} → Bounded s → t ≡ account_from s (replicate n a) → Ran s a n t
 ran n {s} {a} k e = rw e (run_kept n s a k)
 
-equal_tests : (a b : Bool) → beq a b ≡ true → a ≡ b
-equal_tests true true e = refl
-equal_tests true false e = sym e
-equal_tests false true e = e
-equal_tests false false e = refl
-
-same_broken_law : (a b : Breaches) → same_broken a b ≡ true → a ≡ b
-unfolding same_broken
-same_broken_law a b e =
-    let to-breaks = and_left _ _ e in
-    let to-fortnightly = and_left _ _ to-breaks in
-    let to-weekly = and_left _ _ to-fortnightly in
-    λ i. record {
-      daily = equal_tests a.daily b.daily (and_left _ _ to-weekly) i;
-      weekly = equal_tests a.weekly b.weekly (and_right _ _ to-weekly) i;
-      fortnightly = equal_tests a.fortnightly b.fortnightly (and_right _ _ to-fortnightly) i;
-      breaks = equal_tests a.breaks b.breaks (and_right _ _ to-breaks) i;
-      rests = equal_tests a.rests b.rests (and_right _ _ e) i;
-    }
-
-pub part_ran : {s : Account} {a n : ℕ} {t : Account} → Bounded s → 0 < n → s.now + n ≤ s.week.end → t ≡ part_after s a n → same_breaches s t ≡ true → Ran s a n t
-unfolding same_breaches
-part_ran {n = zero} k h room e same = absurd (omega arith)
-part_ran {s} {a} {n = suc n} {t} k h room e same =
-    ran (suc n) k (e ∙ fold_part n s a room (record {
-      broken = ap (λ (x : Account). x.broken) (sym e) ∙ sym (same_broken_law s.broken t.broken (and_left _ _ same));
-      first = ap (λ (x : Account). x.first.rule) (sym e) ∙ sym (eqb-true s.first.rule t.first.rule (and_right _ _ same));
-    }))
+pub part_ran : {s : Account} {a n : ℕ} {t : Account} → Bounded s → 0 < n → s.now + n ≤ s.week.end → t ≡ part_after s a n → t.broken ≡ s.broken → t.first ≡ s.first → Ran s a n t
+part_ran {n = zero} k h room e b f = absurd (omega arith)
+part_ran {s} {a} {n = suc n} {t} k h room e b f =
+    ran (suc n) k (e ∙ fold_part n s a room (record { broken = ap (λ (x : Account). x.broken) (sym e) ∙ b; first = ap (λ (x : Account). x.first) (sym e) ∙ f }))
 
 pub minute_ran : {s : Account} {a : ℕ} {t : Account} → Bounded s → t ≡ part_after s a 1 → Ran s a 1 t
 unfolding account_from

@@ -1,12 +1,15 @@
 -- Inner: the account of the fixed rules, defined minute by minute. Nobody has to believe it: proofs/AccountRight.antt shows that it answers the fixed rules
--- as document 01 says them.
+-- as they are said of the days and weeks of a recording.
 -- Assumes nothing.
-use Rattle.std.specs.Prelude.{List, [], ◌∷◌, ℕ, ◌+◌, ◌-◌, leb, ltb, eqb}
+use Rattle.std.specs.Prelude.{List, [], ◌∷◌, ℕ, zero, suc, ◌+◌, ◌-◌, leb, ltb, eqb, Option, None, Some}
 use Rattle.recording.specs.Tests.{◌and◌, ◌or◌, pick, one}
 use Rattle.recording.specs.Words.{is_driving}
 use Rattle.recording.specs.Rests.{long_rest_minutes}
 use Rattle.recording.specs.Weeks.{week_minutes, is_rest}
-use Rattle.rules.specs.Fixed.{day_at_most, ordinary_day, extended_days, week_at_most, fortnight_at_most, cleared, rested, drove, accumulated_at_most, day_length, smallest_rule, unbroken}
+use Rattle.rules.specs.Fixed.{day_at_most, ordinary_day, extended_days, week_at_most, fortnight_at_most, cleared, rested, drove}
+use Rattle.rules.specs.Fixed.{accumulated_at_most, day_length, either_broken, smallest_rule, unbroken}
+use Rattle.rules.specs.declared.Rule.{Rule}
+use Rattle.rules.specs.declared.Rule.TheVariants.{AccumulatedDriving, DailyDriving, WeeklyDriving, FortnightlyDriving, DailyRest}
 use Rattle.rules.specs.declared.Accumulated.{Accumulated}
 use Rattle.rules.specs.declared.Breaches.{Breaches}
 use Rattle.rules_limits.specs.declared.Day.{Day}
@@ -34,7 +37,7 @@ week_with a w = record { end = w.end; driving = one (is_driving a) + w.driving; 
 unfoldable pub week_next : ℕ → Week → Week
 week_next now w = pick (eqb now w.end) (record { end = w.end + week_minutes; driving = 0; last = w.driving }) w
 
--- ---- which of the five are broken at the minute that ends at `now`; what is broken by one account or the other; and the first breach
+-- ---- which of the five are broken at the minute that ends at `now`, and the first breach
 unfoldable pub broken_at : ℕ → Day → Week → Accumulated → Breaches
 broken_at now y w d = record {
   daily = ltb day_at_most y.driving or ltb extended_days y.extended;
@@ -44,17 +47,22 @@ broken_at now y w d = record {
   rests = ltb (y.start + day_length) now;
 }
 
-unfoldable pub either_broken : Breaches → Breaches → Breaches
-either_broken a b = record {
-  daily = a.daily or b.daily;
-  weekly = a.weekly or b.weekly;
-  fortnightly = a.fortnightly or b.fortnightly;
-  breaks = a.breaks or b.breaks;
-  rests = a.rests or b.rests;
-}
+-- the fixed rule of a number; from 5 on it is rule 5
+abbrev pub rule_numbered : ℕ → Option Rule
+rule_numbered zero = None
+rule_numbered (suc zero) = Some AccumulatedDriving
+rule_numbered (suc (suc zero)) = Some DailyDriving
+rule_numbered (suc (suc (suc zero))) = Some WeeklyDriving
+rule_numbered (suc (suc (suc (suc zero)))) = Some FortnightlyDriving
+rule_numbered (suc (suc (suc (suc (suc n))))) = Some DailyRest
 
-abbrev pub first_break : Break → ℕ → ℕ → Break
-first_break f now b = pick (eqb f.rule 0) (pick (eqb b 0) f (record { at = now; rule = b })) f
+abbrev pub break_of : ℕ → Option Rule → Option Break
+break_of now None = None
+break_of now (Some r) = Some (record { at = now; rule = r })
+
+abbrev pub first_break : Option Break → ℕ → ℕ → Option Break
+first_break None now b = break_of now (rule_numbered b)
+first_break (Some f) now b = Some f
 
 -- ---- a minute
 unfoldable pub rest_minute : Account → Account
@@ -99,5 +107,5 @@ opening = record {
   week = record { end = week_minutes; driving = 0; last = 0 };
   accumulated = cleared;
   broken = unbroken;
-  first = record { at = 0; rule = 0 };
+  first = None;
 }

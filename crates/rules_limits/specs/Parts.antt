@@ -1,21 +1,19 @@
 -- Inner: a part of a run in one step, n minutes of one activity, where no week ends before the last, and which are one minute or change nothing that is
 -- broken. Nobody has to believe it: proofs/PartRight.antt shows that the account after it is the one kept minute by minute.
 -- Assumes nothing.
-use Rattle.std.specs.Prelude.{Bool, ℕ, ◌+◌, ◌-◌, ◌≤◌, ◌<◌, min, ltb, eqb}
-use Rattle.std.specs.Bool.{beq}
-use Rattle.recording.specs.Tests.{◌and◌, pick, one}
+use Rattle.std.specs.Prelude.{ℕ, ◌+◌, ◌-◌, ◌≤◌, ◌<◌, min, ltb, Option}
+use Rattle.recording.specs.Tests.{pick, one}
 use Rattle.recording.specs.Words.{is_driving}
 use Rattle.recording.specs.Weeks.{is_rest}
-use Rattle.rules.specs.Fixed.{ordinary_day, rested, smallest_rule}
+use Rattle.rules.specs.Fixed.{ordinary_day, rested, either_broken, smallest_rule}
 use Rattle.rules.specs.declared.Accumulated.{Accumulated}
 use Rattle.rules.specs.declared.Breaches.{Breaches}
-use Rattle.rules_limits.specs.Account.{day_after, week_next, broken_at, either_broken, first_break}
+use Rattle.rules_limits.specs.Account.{day_after, week_next, broken_at, first_break}
 use Rattle.rules_limits.specs.Runs.{Ran}
 use Rattle.rules_limits.specs.declared.Day.{Day}
 use Rattle.rules_limits.specs.declared.Week.{Week}
 use Rattle.rules_limits.specs.declared.Break.{Break}
 use Rattle.rules_limits.specs.declared.Account.{Account}
-use Rattle.rules_limits.specs.declared.Part.{Part}
 
 -- how many of n minutes of an activity are driving
 abbrev pub driving_of : ℕ → ℕ → ℕ
@@ -52,7 +50,7 @@ rest_part s n = record {
   first = s.first;
 }
 
-abbrev pub judged_at : ℕ → Day → Week → Accumulated → Breaches → Break → Account
+abbrev pub judged_at : ℕ → Day → Week → Accumulated → Breaches → Option Break → Account
 judged_at now y w d broken first =
     let b = broken_at now y w d in
     record {
@@ -79,16 +77,8 @@ busy_part s a n =
 unfoldable pub part_after : Account → ℕ → ℕ → Account
 part_after s a n = pick (is_rest a) (rest_part s n) (busy_part s a n)
 
--- whether the same of the five are broken; and, in two accounts, also the same first one
-unfoldable pub same_broken : Breaches → Breaches → Bool
-same_broken a b =
-    beq a.daily b.daily and beq a.weekly b.weekly and beq a.fortnightly b.fortnightly and beq a.breaks b.breaks and beq a.rests b.rests
-
-unfoldable pub same_breaches : Account → Account → Bool
-same_breaches s t = same_broken s.broken t.broken and eqb s.first.rule t.first.rule
-
--- a part of a run of n minutes: at least one and at most n of them, and their account
-pub record Taken (s : Account) (a n : ℕ) (r : Part) : Type 0 where
-  pub some : 0 < r.minutes
-  pub within : r.minutes ≤ n
-  pub ran : Ran s a r.minutes r.account
+-- a part of a run of n minutes: some of them, and their account
+pub record Taken (s : Account) (a n minutes : ℕ) (t : Account) : Type 0 where
+  pub some : 0 < minutes
+  pub within : minutes ≤ n
+  pub ran : Ran s a minutes t

@@ -2,41 +2,44 @@
 // it breaks.
 #![tactic(auto)]
 
-ghost use Rattle.std.specs.Prelude.{◌≡◌, [], ◌∷◌, ◌+◌, ◌≤◌};
+ghost use Rattle.std.specs.Prelude.{◌≡◌, ◌+◌, ◌≤◌};
+ghost use Rattle.recording.specs.Words.{code_of};
 ghost use Rattle.recording.specs.Operations.{total_at_most};
-ghost use Rattle.rules.specs.Broken.{first_place};
-ghost use Rattle.rules.specs.Fixed.{cleared, rested, smallest_rule, first_article};
-ghost use Rattle.rules_limits.specs.Account.{day_after, week_next, broken_at, either_broken, first_break};
+ghost use Rattle.rules.specs.Numbers.{rule_or_none, place_or_none};
+ghost use Rattle.rules.specs.Fixed.{cleared, rested, either_broken, smallest_rule, first_article};
+ghost use Rattle.rules_limits.specs.Account.{day_after, week_next, broken_at, first_break, opening};
 ghost use Rattle.rules_limits.specs.Parts.{driving_of, day_more, week_more, accumulated_more};
 
-use rules::{Accumulated, Breaches};
+use recording::{Activity, Run};
+use rules::{Accumulated, Article, Breaches, Rule};
 
-// The day that runs: its start P, its driving, and how many days that began in its week were extended.
-#[derive(Clone, Copy)]
+/// The day that runs: its start P, its driving, and how many days that began in its week were extended.
+#[derive(Clone, Copy, Debug, PartialEq, Eq)]
 pub struct Day {
     pub start: u32,
     pub driving: u32,
     pub extended: u32,
 }
 
-// The week that runs: its end, its driving, and the driving of the week before.
-#[derive(Clone, Copy)]
+/// The week that runs: its end, its driving, and the driving of the week before.
+#[derive(Clone, Copy, Debug, PartialEq, Eq)]
 pub struct Week {
     pub end: u32,
     pub driving: u32,
     pub last: u32,
 }
 
-// The first breach: the length of the shortest stretch that breaks a fixed rule, and that rule; rule 0 where there is none.
-#[derive(Clone, Copy)]
+/// A breach of a fixed rule: the length of the shortest stretch that breaks it, and that rule.
+#[derive(Clone, Copy, Debug, PartialEq, Eq)]
 pub struct Break {
     pub at: u32,
-    pub rule: u32,
+    pub rule: Rule,
 }
 
-// The account of a stretch: the minute reached, where the rest under way started or one could start, the account of each rule,
-// which rules are broken, and the first breach.
-#[derive(Clone, Copy)]
+// That its numbers stay within a recording's is said by `Bounded` where it is asked for: a ghost field would stand in each definition that says a minute.
+/// The account of a stretch: the minute reached, where the rest under way started or one could start, the account of each rule,
+/// which rules are broken, and the first breach, if there is one.
+#[derive(Clone, Copy, Debug, PartialEq, Eq)]
 pub struct Account {
     pub now: u32,
     pub from: u32,
@@ -44,21 +47,7 @@ pub struct Account {
     pub week: Week,
     pub accumulated: Accumulated,
     pub broken: Breaches,
-    pub first: Break,
-}
-
-// Which rules are broken, and the first breach.
-#[derive(Clone, Copy)]
-pub struct Breached {
-    pub broken: Breaches,
-    pub first: Break,
-}
-
-// A part of a run: its minutes, and the account after it.
-#[derive(Clone, Copy)]
-pub struct Part {
-    pub minutes: u32,
-    pub account: Account,
+    pub first: Option<Break>,
 }
 
 // Article 6(1), rule 2: a day's driving, that of an ordinary day, and how many days that begin in one week may exceed it.
@@ -86,92 +75,79 @@ const ACCUMULATED_AT_MOST: u32 = 270;
 // Article 8(2), rule 5: from the end of a long rest to the next.
 const DAY_LENGTH: u32 = 900;
 
-// How many of n minutes of an activity are driving.
-pub fn driving_of(activity: u32, n: u32) -> u32
-    ensures { result ≡ driving_of activity n }
+/// How many minutes of a run are driving.
+pub fn driving_of(run: Run) -> u32
+    ensures { result ≡ driving_of (code_of run.activity) run.minutes }
 {
-    match activity {
-        3 => n,
-        0 | 1 | 2 | _ => 0,
+    match run.activity {
+        Activity::Driving => run.minutes,
+        Activity::Rest | Activity::Availability | Activity::OtherWork => 0,
     }
 }
 
-// Articles 6(1) and 8(2): the day that runs after a rest of n minutes that ended at a minute, in the week that ends at `end`.
-pub fn day_after(n: u32, minute: u32, end: u32, d: Day) -> Day
-    requires { d.start ≤ total_at_most }
-    ensures { result ≡ day_after n minute end d }
-{
-    if n < recording::LONG_REST {
-        return d;
-    }
-    if end <= d.start + recording::WEEK_MINUTES {
-        return Day {
+impl Day {
+    /// Articles 6(1) and 8(2): the day that runs after a rest of so many minutes that ended at a minute, in the week that ends at `end`.
+    pub fn after_rest(self, minutes: u32, minute: u32, end: u32) -> Day
+        requires { self.start ≤ total_at_most }
+        ensures { result ≡ day_after minutes minute end self }
+    {
+        if minutes < recording::LONG_REST {
+            return self;
+        }
+        let same_week = end <= self.start + recording::WEEK_MINUTES;
+        Day {
             start: minute,
             driving: 0,
-            extended: d.extended,
-        };
+            extended: if same_week { self.extended } else { 0 },
+        }
     }
-    Day {
-        start: minute,
-        driving: 0,
-        extended: 0,
+
+    /// Article 6(1): the day with so many minutes of driving more. It is extended once, where it passes the driving of an ordinary day.
+    pub fn after_driving(self, driven: u32) -> Day
+        requires { (self.driving + driven ≤ total_at_most) × (self.extended ≤ total_at_most) }
+        ensures { result ≡ day_more driven self }
+    {
+        let driving = self.driving + driven;
+        let passes = self.driving <= ORDINARY_DAY && ORDINARY_DAY < driving;
+        Day {
+            driving,
+            extended: self.extended + u32::from(passes),
+            ..self
+        }
     }
 }
 
-// Article 6(1): the day with k minutes of driving more.
-pub fn day_more(k: u32, d: Day) -> Day
-    requires { (d.driving + k ≤ total_at_most) × (d.extended ≤ total_at_most) }
-    ensures { result ≡ day_more k d }
-{
-    let driving = d.driving + k;
-    if ORDINARY_DAY < d.driving {
-        return Day {
-            start: d.start,
-            driving: driving,
-            extended: d.extended,
-        };
+impl Week {
+    /// Articles 6(2) and 6(3): the week with so many minutes of driving more.
+    pub fn after_driving(self, driven: u32) -> Week
+        requires { self.driving + driven ≤ total_at_most }
+        ensures { result ≡ week_more driven self }
+    {
+        Week {
+            driving: self.driving + driven,
+            ..self
+        }
     }
-    if ORDINARY_DAY < driving {
-        return Day {
-            start: d.start,
-            driving: driving,
-            extended: d.extended + 1,
-        };
-    }
-    Day {
-        start: d.start,
-        driving: driving,
-        extended: d.extended,
-    }
-}
 
-// Articles 6(2) and 6(3): the week with k minutes of driving more, and the next week where one ends now.
-pub fn week_more(k: u32, w: Week) -> Week
-    requires { w.driving + k ≤ total_at_most }
-    ensures { result ≡ week_more k w }
-{
-    Week {
-        end: w.end,
-        driving: w.driving + k,
-        last: w.last,
-    }
-}
-
-pub fn week_next(minute: u32, w: Week) -> Week
-    requires { w.end ≤ total_at_most + total_at_most }
-    ensures { result ≡ week_next minute w }
-{
-    if minute == w.end {
-        return Week {
-            end: w.end + recording::WEEK_MINUTES,
+    /// The week that runs at a minute: the next where this one ends there.
+    pub fn at_minute(self, minute: u32) -> Week
+        requires { self.end ≤ total_at_most + total_at_most }
+        ensures { result ≡ week_next minute self }
+    {
+        if minute != self.end {
+            return self;
+        }
+        Week {
+            end: self.end + recording::WEEK_MINUTES,
             driving: 0,
-            last: w.driving,
-        };
+            last: self.driving,
+        }
     }
-    w
 }
 
-// Article 7: the driving sum where it starts, and where it is cleared.
+// The driving sum and the breaches are types of crate rules, whose definitions go by them, so what follows are functions and no methods.
+
+/// Article 7: the driving sum where it starts, and where it is cleared.
 pub fn cleared_sum() -> Accumulated
     ensures { result ≡ cleared }
 {
@@ -181,131 +157,137 @@ pub fn cleared_sum() -> Accumulated
     }
 }
 
-// Article 7: the driving sum after a rest of n minutes.
-pub fn rested_for(n: u32, d: Accumulated) -> Accumulated
-    ensures { result ≡ rested n d }
+/// Article 7: the driving sum after a rest of so many minutes.
+pub fn rested_for(minutes: u32, accumulated: Accumulated) -> Accumulated
+    ensures { result ≡ rested minutes accumulated }
 {
-    if FULL_BREAK <= n {
+    if FULL_BREAK <= minutes {
         return cleared_sum();
     }
-    if n < FIRST_PART {
-        return d;
+    if minutes < FIRST_PART {
+        return accumulated;
     }
-    if d.split {
-        if n < SECOND_PART {
-            return d;
+    if accumulated.split {
+        if minutes < SECOND_PART {
+            return accumulated;
         }
         return cleared_sum();
     }
-    if d.sum == 0 {
-        return d;
+    if accumulated.sum == 0 {
+        return accumulated;
     }
     Accumulated {
-        sum: d.sum,
         split: true,
+        ..accumulated
     }
 }
 
-// Article 7: the driving sum with k minutes more.
-pub fn accumulated_more(k: u32, d: Accumulated) -> Accumulated
-    requires { d.sum + k ≤ total_at_most }
-    ensures { result ≡ accumulated_more k d }
+/// Article 7: the driving sum with so many minutes more.
+pub fn accumulated_more(driven: u32, accumulated: Accumulated) -> Accumulated
+    requires { accumulated.sum + driven ≤ total_at_most }
+    ensures { result ≡ accumulated_more driven accumulated }
 {
     Accumulated {
-        sum: d.sum + k,
-        split: d.split,
+        sum: accumulated.sum + driven,
+        ..accumulated
     }
 }
 
-// Which rules are broken at the minute that ends now.
-pub fn broken_at(minute: u32, y: Day, w: Week, d: Accumulated) -> Breaches
-    requires { (y.start ≤ total_at_most) × (w.last ≤ total_at_most) × (w.driving ≤ total_at_most) }
-    ensures { result ≡ broken_at minute y w d }
+/// Which rules are broken at the minute that ends now.
+pub fn broken_at(minute: u32, day: Day, week: Week, accumulated: Accumulated) -> Breaches
+    requires { (day.start ≤ total_at_most) × (week.last ≤ total_at_most) × (week.driving ≤ total_at_most) }
+    ensures { result ≡ broken_at minute day week accumulated }
 {
     Breaches {
-        daily: (DAY < y.driving) | (EXTENDED_DAYS < y.extended),
-        weekly: WEEK < w.driving,
-        fortnightly: FORTNIGHT < w.last + w.driving,
-        breaks: ACCUMULATED_AT_MOST < d.sum,
-        rests: y.start + DAY_LENGTH < minute,
+        daily: (DAY < day.driving) | (EXTENDED_DAYS < day.extended),
+        weekly: WEEK < week.driving,
+        fortnightly: FORTNIGHT < week.last + week.driving,
+        breaks: ACCUMULATED_AT_MOST < accumulated.sum,
+        rests: day.start + DAY_LENGTH < minute,
     }
 }
 
-// The rules that are broken in a or in b.
-fn either_broken(a: Breaches, b: Breaches) -> Breaches
-    ensures { result ≡ either_broken a b }
+/// The broken rule of the smallest number.
+#[tactic(auto, unfolding(rules::specs::Fixed::smallest_rule))]
+pub fn smallest_rule(broken: Breaches) -> Option<Rule>
+    ensures { rule_or_none result ≡ smallest_rule broken }
 {
-    Breaches {
-        daily: a.daily | b.daily,
-        weekly: a.weekly | b.weekly,
-        fortnightly: a.fortnightly | b.fortnightly,
-        breaks: a.breaks | b.breaks,
-        rests: a.rests | b.rests,
+    let Breaches {
+        daily,
+        weekly,
+        fortnightly,
+        breaks,
+        rests,
+    } = broken;
+    match (breaks, daily, weekly, fortnightly, rests) {
+        (true, _, _, _, _) => Some(Rule::AccumulatedDriving),
+        (_, true, _, _, _) => Some(Rule::DailyDriving),
+        (_, _, true, _, _) => Some(Rule::WeeklyDriving),
+        (_, _, _, true, _) => Some(Rule::FortnightlyDriving),
+        (_, _, _, _, true) => Some(Rule::DailyRest),
+        _ => None,
     }
 }
 
-// The place, from 1, of the first that is broken of five, or 0.
-fn first_place(a: bool, b: bool, c: bool, d: bool, e: bool) -> u32
-    ensures { result ≡ first_place (a ∷ b ∷ c ∷ d ∷ e ∷ []) }
+/// The first broken article in the regulation's order.
+#[tactic(auto, unfolding(rules::specs::Fixed::first_article))]
+pub fn first_article(broken: Breaches) -> Option<Article>
+    ensures { place_or_none result ≡ first_article broken }
 {
-    if a {
-        return 1;
+    let Breaches {
+        daily,
+        weekly,
+        fortnightly,
+        breaks,
+        rests,
+    } = broken;
+    match (daily, weekly, fortnightly, breaks, rests) {
+        (true, _, _, _, _) => Some(Article::DailyDriving),
+        (_, true, _, _, _) => Some(Article::WeeklyDriving),
+        (_, _, true, _, _) => Some(Article::FortnightlyDriving),
+        (_, _, _, true, _) => Some(Article::Breaks),
+        (_, _, _, _, true) => Some(Article::DailyRests),
+        _ => None,
     }
-    if b {
-        return 2;
-    }
-    if c {
-        return 3;
-    }
-    if d {
-        return 4;
-    }
-    if e {
-        return 5;
-    }
-    0
 }
 
-// The smallest broken rule by document 01's numbers, or 0.
-pub fn smallest_rule(b: Breaches) -> u32
-    ensures { result ≡ smallest_rule b }
+/// What is broken, and the first breach, with what is broken at the minute that ends now; mostly nothing is.
+pub fn breached_at(
+    broken: Breaches,
+    first: Option<Break>,
+    minute: u32,
+    here: Breaches,
+) -> (Breaches, Option<Break>)
+    ensures broken { result.0 ≡ either_broken broken here }
+    ensures first { result.1 ≡ first_break first minute (smallest_rule here) }
 {
-    first_place(b.breaks, b.daily, b.weekly, b.fortnightly, b.rests)
+    let Some(rule) = smallest_rule(here) else {
+        return (broken, first);
+    };
+    (broken | here, first.or(Some(Break { at: minute, rule })))
 }
 
-// The place of the first broken article in the regulation's order, or 0.
-pub fn first_article(b: Breaches) -> u32
-    ensures { result ≡ first_article b }
-{
-    first_place(b.daily, b.weekly, b.fortnightly, b.breaks, b.rests)
-}
-
-// The first breach, where the minute that ends now breaks the rule b or, with 0, none.
-fn first_break(f: Break, minute: u32, b: u32) -> Break
-    ensures { result ≡ first_break f minute b }
-{
-    if f.rule == 0 {
-        if b == 0 {
-            return f;
+impl Account {
+    /// The account of no minutes.
+    pub fn opening() -> Account
+        ensures { result ≡ opening }
+    {
+        Account {
+            now: 0,
+            from: 0,
+            day: Day {
+                start: 0,
+                driving: 0,
+                extended: 0,
+            },
+            week: Week {
+                end: recording::WEEK_MINUTES,
+                driving: 0,
+                last: 0,
+            },
+            accumulated: cleared_sum(),
+            broken: Breaches::default(),
+            first: None,
         }
-        return Break {
-            at: minute,
-            rule: b,
-        };
-    }
-    f
-}
-
-// What is broken, and the first breach, with what is broken at the minute that ends now; mostly nothing is.
-pub fn breached_at(broken: Breaches, first: Break, minute: u32, b: Breaches) -> Breached
-    ensures { (result.broken ≡ either_broken broken b) × (result.first ≡ first_break first minute (smallest_rule b)) }
-{
-    let rule = smallest_rule(b);
-    if rule == 0 {
-        return Breached { broken, first };
-    }
-    Breached {
-        broken: either_broken(broken, b),
-        first: first_break(first, minute, rule),
     }
 }

@@ -1,5 +1,5 @@
--- Document 02, request 7, the moves of stored readings. "Stored three-byte readings are carried over to the new form and back; where no week byte is
--- over 11, over and back gives the old bytes." Assumes nothing.
+-- The moves of stored readings: each entry says the same before and after; and where no week is over 11, over and back gives the old bytes.
+-- Assumes nothing.
 use mathlib.Core.Path.{◌≡◌, refl, ap, ◌∙◌}
 use mathlib.Core.Bool.{Bool, true, false, not}
 use mathlib.Core.List.{List, [], ◌∷◌}
@@ -96,7 +96,7 @@ module _ {n : ℕ} where
   narrowed_within wide room = within (reading_narrowed wide room) (λ new e. (narrowed_is room e).enough)
 
 -- ---- over and back
--- "where no week byte is over 11": of the entry of any index; past the last there is none
+-- No week is over 11: of the entry of any index; past the last there is none.
 abbrev pub WeeksStored : List ℕ → Type 0
 WeeksStored old = (i : ℕ) → get_or old (stored_bytes * i + 1) 0 ≤ stored_week_at_most
 

@@ -1,3 +1,2 @@
 pub mod Moves
-pub mod Moved
 pub mod Passes

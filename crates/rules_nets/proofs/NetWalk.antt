@@ -1,4 +1,4 @@
--- The walk over the words finds the number of each long rest: the day that runs is split where the document says so. Assumes nothing.
+-- The walk over the words finds the number of each long rest: the day that runs is split where rule 9 says so. Assumes nothing.
 use mathlib.Core.Path.{◌≡◌, refl, sym, ap, ap₂, subst, ◌∙◌}
 use mathlib.Core.Bool.{Bool, true, false}
 use mathlib.Core.List.{List, [], ◌∷◌, ◌++◌, append_assoc}
@@ -11,12 +11,13 @@ use lib.ListN.{length, drop, get_or, set}
 use lib.Seq.{sets, length-sets, drop-cons, drop-length}
 use borrow.Author.Tests.{le-leb, lt-leb, ltb-false}
 use Rattle.recording.specs.Tests.{◌and◌, ◌or◌, pick, any_of, keep}
-use Rattle.recording.specs.Words.{minutes_in, activity_in, minutes_of}
+use Rattle.recording.specs.Words.{minutes_in, activity_in, minutes_of, code_of, IsRunOf}
 use Rattle.recording.specs.Rests.{with_rest, closed_rests, long_rest_minutes, is_long, long_rests}
 use Rattle.recording.specs.Weeks.{inside}
 use Rattle.recording.specs.Operations.{total_at_most}
 use Rattle.recording.specs.Scan.{after_run, origin, rest_at, Walking}
 use Rattle.recording.specs.declared.Place.{Place}
+use Rattle.recording.specs.declared.Run.{Run}
 use Rattle.recording.specs.declared.Span.{Span}
 use Rattle.recording.proofs.TestLaws.{or-false}
 use Rattle.recording.proofs.ClosedRests.{Apart, none, next, rests_apart}
@@ -87,7 +88,7 @@ on_right done d (next {r = r} {rs = rs} l m o) g =
     (on_right (done ++ r ∷ []) (day_on d r) o (open_next g r l m)
     ∙ ap (λ (whole : List Span). nets_from whole (day_on d r).start (keep is_long rs)) (append_assoc done (r ∷ []) rs))
 
--- THE LAW of the walk: over all rests it comes to the document's numbers
+-- THE LAW of the walk: over all rests it comes to the numbers of rule 9
 pub walk_right : (ms : List ℕ) → nets_on (fresh_day 0) (closed_rests ms) ≡ nets_of ms
 unfolding nets_of long_rests closed_rests
 walk_right ms = on_right [] (fresh_day 0) (rests_apart ms) open_first
@@ -203,3 +204,14 @@ pub next_noting : {w : ℕ} {ws nets₀ nets : List ℕ} {p : Place} {d : OpenDa
     → nets' ≡ net_run d p (activity_in (get_or ws i 0)) (minutes_in (get_or ws i 0)) nets → Noting (w ∷ ws) nets₀ nets' q e (suc (i + 1))
 next_noting {w} {ws} {nets₀} {i = i} {q = q} {e = e} {nets' = nets'} g h a b c =
     subst (λ (j : ℕ). Noting (w ∷ ws) nets₀ nets' q e j) (next_word i) (note_on g (omega arith) a b c)
+
+-- the same of the runs that the words are
+module _ {w : ℕ} {ws : List ℕ} {p : Place} {run : Run} where
+  pub first_run_noting : (nets : List ℕ) → length (minutes_of (w ∷ ws)) ≤ total_at_most → IsRunOf w run → p ≡ origin → {q : Place} → q ≡ after_run p (code_of run.activity) run.minutes
+      → Noting (w ∷ ws) nets nets q (fresh_day 0) 1
+  first_run_noting nets h r o e = first_noting w ws nets h (e ∙ rw (o, r.activity, r.minutes))
+
+  pub next_run_noting : {nets₀ nets : List ℕ} {d : OpenDay} {i : ℕ} → Noting (w ∷ ws) nets₀ nets p d (suc i) → i < length ws → IsRunOf (get_or ws i 0) run
+      → {q : Place} → q ≡ after_run p (code_of run.activity) run.minutes → {e : OpenDay} → e ≡ day_run d p (code_of run.activity) run.minutes
+      → {nets' : List ℕ} → nets' ≡ net_run d p (code_of run.activity) run.minutes nets → Noting (w ∷ ws) nets₀ nets' q e (suc (i + 1))
+  next_run_noting g h r a b c = next_noting g h (a ∙ rw (r.activity, r.minutes)) (b ∙ rw (r.activity, r.minutes)) (c ∙ rw (r.activity, r.minutes))

@@ -1,5 +1,5 @@
--- Inner: rule 9 by one number for each long rest. Nobody has to believe it: proofs/NetLaws.antt shows that the number says `shortened`, rule 9 in the
--- documents' words.
+-- Inner: rule 9 by one number for each long rest. Nobody has to believe it: proofs/NetLaws.antt of rules_fixed shows that the number says `shortened`,
+-- which is rule 9 as it is said to readers.
 -- Assumes nothing.
 use Rattle.std.specs.Prelude.{Bool, true, false, not, List, [], ◌∷◌, ℕ, ◌+◌, ◌-◌, leb, ltb, eqb, get_or, set}
 use Rattle.recording.specs.Tests.{◌or◌, pick}

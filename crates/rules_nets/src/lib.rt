@@ -1,18 +1,18 @@
 // What rule 9 asks of each long rest: the least net length at which it is no shortened daily rest, by the day that it ends.
 #![tactic(auto)]
 
-ghost use Rattle.std.specs.Prelude.{◌≡◌, ◌∷◌, ◌≤◌, length};
+ghost use Rattle.std.specs.Prelude.{◌≡◌, ◌≤◌};
 ghost use Rattle.std.proofs.lemmas.List.Edits.{sets};
 ghost use Rattle.recording.specs.Tests.{pick};
-ghost use Rattle.recording.specs.Words.{minutes_of};
+ghost use Rattle.recording.specs.Words.{code_of, minutes_of};
 ghost use Rattle.recording.specs.Operations.{total_at_most};
-ghost use Rattle.recording.specs.Scan.{rest_at};
-ghost use Rattle.rules_nets.specs.Nets.{regular_net, span_of, nets_of, fresh_day, closes, day_on, with_net};
+ghost use Rattle.recording.specs.Scan.{rest_at, words_in};
+ghost use Rattle.rules_nets.specs.Nets.{regular_net, nets_of, fresh_day, closes, day_on, with_net};
 
-use recording::Place;
+use recording::{Activity, Place, Recording, Run, Span};
 
-// The day that runs, as rule 9 asks of it: its start P, and whether it has held a rest of 180 to 539 minutes.
-#[derive(Clone, Copy)]
+/// The day that runs, as rule 9 asks of it: its start P, and whether it has held a rest of 180 to 539 minutes.
+#[derive(Clone, Copy, Debug, PartialEq, Eq)]
 pub struct OpenDay {
     pub start: u32,
     pub held: bool,
@@ -27,87 +27,82 @@ const FIRST_PERIOD: u32 = 180;
 
 const SECOND_PERIOD: u32 = 540;
 
-// Rule 9: the least net length at which the rest from `start` to `end` is no shortened daily rest, where P is p, by whether its day is
-// split.
-pub fn regular_net(split: bool, p: u32, start: u32, end: u32) -> u32
-    requires { (p ≤ total_at_most) × (start ≤ end) × (end ≤ total_at_most) }
-    ensures { result ≡ regular_net split p start end }
+/// Rule 9: the least net length at which the rest from `start` to `end` is no shortened daily rest, in a day that starts at P, by
+/// whether that day is split.
+pub fn regular_net(split: bool, day: u32, start: u32, end: u32) -> u32
+    requires { (day ≤ total_at_most) × (start ≤ end) × (end ≤ total_at_most) }
+    ensures { result ≡ regular_net split day start end }
 {
     if split {
-        if start + SECOND_PERIOD <= p + DAILY_WINDOW {
+        if start + SECOND_PERIOD <= day + DAILY_WINDOW {
             return SECOND_PERIOD;
         }
         return end - start + 1;
     }
-    if start + FULL_PORTION <= p + DAILY_WINDOW {
+    if start + FULL_PORTION <= day + DAILY_WINDOW {
         return FULL_PORTION;
     }
     end - start + 1
 }
 
-// Rule 9: the day that begins at a minute.
-fn fresh_day(start: u32) -> OpenDay
-    ensures { result ≡ fresh_day start }
-{
-    OpenDay {
-        start: start,
-        held: false,
+impl OpenDay {
+    // The day that begins at a minute.
+    fn beginning(start: u32) -> OpenDay
+        ensures { result ≡ fresh_day start }
+    {
+        OpenDay { start, held: false }
     }
-}
 
-// A rest has ended that was not open: its number by rule 9 at k, if it is long, and the day that runs after it.
-fn close_rest(d: OpenDay, start: u32, end: u32, k: usize, nets: &mut [u32]) -> OpenDay
-    requires { (d.start ≤ total_at_most) × (start ≤ end) × (end ≤ total_at_most) }
-    ensures { (result ≡ day_on d (span_of start end)) × (nets.new ≡ with_net d (span_of start end) k nets.old) }
-{
-    let n = end - start;
-    if n < FIRST_PERIOD {
-        return d;
+    // A rest has ended that was not open: its number by rule 9 at its index, if it is long, and the day that runs after it.
+    fn after_rest(self, rest: Span, index: usize, nets: &mut [u32]) -> OpenDay
+        requires { (self.start ≤ total_at_most) × (rest.start ≤ rest.end) × (rest.end ≤ total_at_most) }
+        ensures day { result ≡ day_on self rest }
+        ensures nets { nets.new ≡ with_net self rest index nets.old }
+    {
+        let minutes = rest.end - rest.start;
+        if minutes < FIRST_PERIOD {
+            return self;
+        }
+        if minutes < recording::LONG_REST {
+            return OpenDay { held: true, ..self };
+        }
+        let net = regular_net(self.held, self.start, rest.start, rest.end);
+        recording::put(nets, index, net);
+        OpenDay::beginning(rest.end)
     }
-    if n < recording::LONG_REST {
-        return OpenDay {
-            start: d.start,
-            held: true,
+
+    // The day that runs once a run follows: unless it is rest, it ends the rest before it.
+    fn after(self, place: Place, run: Run, nets: &mut [u32]) -> OpenDay
+        requires { (self.start ≤ place.from) × (place.from ≤ place.now) × (place.now ≤ total_at_most) }
+        ensures day { result ≡ pick (closes (code_of run.activity) run.minutes) (day_on self (rest_at place)) self }
+        ensures nets { nets.new ≡ pick (closes (code_of run.activity) run.minutes) (with_net self (rest_at place) place.count nets.old) nets.old }
+    {
+        if run.minutes == 0 {
+            return self;
+        }
+        let rest = Span {
+            start: place.from,
+            end: place.now,
         };
-    }
-    recording::put_word(nets, k, regular_net(d.held, d.start, start, end));
-    fresh_day(end)
-}
-
-// The day that runs once n minutes of this activity follow: unless they are rest, they end the rest before them.
-fn day_on(d: OpenDay, p: Place, activity: u32, n: u32, nets: &mut [u32]) -> OpenDay
-    requires { (d.start ≤ p.from) × (p.from ≤ p.now) × (p.now ≤ total_at_most) }
-    ensures { (result ≡ pick (closes activity n) (day_on d (rest_at p)) d)
-        × (nets.new ≡ pick (closes activity n) (with_net d (rest_at p) p.count nets.old) nets.old) }
-{
-    if n == 0 {
-        return d;
-    }
-    match activity {
-        0 => d,
-        1 | 2 | 3 | _ => close_rest(d, p.from, p.now, p.count as usize, nets),
+        match run.activity {
+            Activity::Rest => self,
+            Activity::Availability | Activity::OtherWork | Activity::Driving => {
+                self.after_rest(rest, place.count as usize, nets)
+            }
+        }
     }
 }
 
-// The number by rule 9 of each long rest, in one walk over a recording: a first word, also one of no minutes, which ends no rest, and then words.
-pub fn put_nets(head: u32, words: &[u32], nets: &mut [u32])
-    requires { length (minutes_of (head ∷ words.now)) ≤ total_at_most }
-    ensures { nets.new ≡ sets nets.old 0 (nets_of (minutes_of (head ∷ words.now))) }
+/// The number by rule 9 of each long rest, in one walk over a recording.
+pub fn put_nets(recording: Recording, nets: &mut [u32])
+    ensures { nets.new ≡ sets nets.old 0 (nets_of (minutes_of (words_in recording.entry))) }
 {
-    let origin = Place {
-        now: 0,
-        from: 0,
-        count: 0,
-    };
-    let mut p = recording::after_run(origin, head % 4, head / 4);
-    let mut d = fresh_day(0);
-    let mut i = 0;
-    while i < words.len() {
-        let word = words[i];
-        let activity = word % 4;
-        let minutes = word / 4;
-        d = day_on(d, p, activity, minutes, nets);
-        p = recording::after_run(p, activity, minutes);
-        i += 1;
+    // The first word ends no rest.
+    let mut place = Place::origin().after(Run::from(recording.head));
+    let mut day = OpenDay::beginning(0);
+    for &word in recording.words {
+        let run = Run::from(word);
+        day = day.after(place, run, nets);
+        place = place.after(run);
     }
 }

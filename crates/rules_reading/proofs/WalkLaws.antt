@@ -36,10 +36,12 @@ use Rattle.rules.specs.declared.Kind.{Kind}
 use Rattle.rules.proofs.FieldLaws.{entry_fields_law}
 use Rattle.rules_nets.specs.Nets.{counts_by}
 use Rattle.rules_items.specs.declared.LongRest.{LongRest}
-use Rattle.rules_items.specs.declared.Tally.{Tally}
+use Rattle.rules_items.specs.declared.WeekCounts.{WeekCounts}
+use Rattle.rules_items.specs.declared.rests.Rests.{Rests}
 use Rattle.rules_items.proofs.TallyLaws.{test_next, end_of_spans, added_to-at, added_to-length, added_to-below, incremented_at, incremented-length, incremented_below, is_outstanding-little}
-use Rattle.rules_items.specs.Items.{entry_by, end_before, item_at, compensation_at_most, Sane, rest_by, enough_by, end_at, Below, short_by, short_after, tally_by, added_to, incremented, span_at}
-use Rattle.rules_items.specs.Items.{spans_from, spans_in, Laid, Zeros, test_from, fresh_tally, Through}
+use Rattle.rules_items.specs.Items.{entry_by, end_before, item_at, compensation_at_most, Sane, rest_by, enough_by, end_at, Below, short_by, short_after}
+use Rattle.rules_items.specs.Items.{Tallied, tally_by, added_to, incremented, span_at}
+use Rattle.rules_items.specs.Items.{spans_from, spans_in, Laid, Zeros, test_from, fresh_tally, Few, Fresh, Through}
 
 -- ---- the entries that are left at index i, after those before them
 module _ (starts ends reading : List ℕ) (k : ℕ) where
@@ -149,6 +151,21 @@ module _ (starts ends reading : List ℕ) (k : ℕ) where
   unfolding all_of
   form_done {i} f h = sym (f.same ∙ ap (all_of (formed k)) (left_none f.earlier i h))
 
+-- ---- the long rests of a struct lie in its slices
+pub laid_in : (r : Rests) (reading compensations : List ℕ) → length reading ≡ entry_bytes * length r.starts.now → length r.starts.now ≤ length compensations
+    → Laid r.starts.now r.ends.now r.nets.now reading compensations (length r.starts.now)
+laid_in r reading compensations e h = record {
+  few = r.few;
+  starts_in = le_refl _;
+  ends_in = omega (arith, r.ends_too);
+  nets_in = omega (arith, r.nets_too);
+  compensations_in = h;
+  reading_in = e;
+  ordered = r.ordered;
+  limited = r.limited;
+  numbered = r.numbered;
+}
+
 -- ---- an item's numbers are in bounds
 end_before_most : (ends : List ℕ) (k : ℕ) → ((i : ℕ) → i < k → get_or ends i 0 ≤ total_at_most) → (i : ℕ) → i < k → end_before ends i ≤ total_at_most
 end_before_most ends k f zero h = omega arith
@@ -175,7 +192,7 @@ item_counts starts ends nets reading compensations i =
     ap (λ (j : ℕ). ltb (get_or ends i 0 - get_or starts i 0) (get_or nets j 0 + get_or compensations i 0)) z
 
 -- ---- bounds of a tally
-short_on : (short : Bool) (s end : ℕ) (t : Tally) (e : Entry) → (tally_by short s end t e).short ≤ t.short + 1
+short_on : (short : Bool) (s end : ℕ) (t : Tallied) (e : Entry) → (tally_by short s end t e).short ≤ t.short + 1
 unfolding tally_by short_after
 short_on short s end t e = at (is_weekly (as_read e))
   where
@@ -183,7 +200,7 @@ short_on short s end t e = at (is_weekly (as_read e))
     at true = omega arith
     at false = omega (arith, one_most short)
 
-last_on : (short : Bool) (s end : ℕ) (t : Tally) (e : Entry) → e.span.end ≤ total_at_most → t.last ≤ total_at_most → (tally_by short s end t e).last ≤ total_at_most
+last_on : (short : Bool) (s end : ℕ) (t : Tallied) (e : Entry) → e.span.end ≤ total_at_most → t.last ≤ total_at_most → (tally_by short s end t e).last ≤ total_at_most
 unfolding tally_by
 last_on short s end t e h l = at (is_weekly (as_read e))
   where
@@ -203,7 +220,7 @@ module _ (starts ends nets reading : List ℕ) (k s : ℕ) where
   abbrev all : List Entry
   all = entries (spans_in starts ends k) (fields_in reading)
 
-  pub record Walking (i : ℕ) (t : Tally) (compensations weekly regular : List ℕ) : Type 0 where
+  pub record Walking (i : ℕ) (t : Tallied) (compensations : List ℕ) (counts : WeekCounts) : Type 0 where
     pub earlier : List Entry
     pub laid : Laid starts ends nets reading compensations k
     pub outstanding : (j : ℕ) → i ≤ j → j < k → get_or compensations j 0 ≡ compensation_of (suc j) earlier
@@ -214,19 +231,16 @@ module _ (starts ends nets reading : List ℕ) (k s : ℕ) where
     pub short : t.short ≤ i
     pub last : t.last ≤ total_at_most
     pub weeklies : (w : ℕ) → w < 256
-        → get_or weekly w 0 + count_of (of_kind is_weekly w) (left starts ends reading k i earlier) ≡ count_of (of_kind is_weekly w) (entries (spans_in starts ends k) (fields_in reading))
+        → get_or counts.weekly w 0 + count_of (of_kind is_weekly w) (left starts ends reading k i earlier) ≡ count_of (of_kind is_weekly w) (entries (spans_in starts ends k) (fields_in reading))
     pub regulars : (w : ℕ) → w < 256
-        → get_or regular w 0 + count_of (of_kind is_regular w) (left starts ends reading k i earlier) ≡ count_of (of_kind is_regular w) (entries (spans_in starts ends k) (fields_in reading))
-    pub few_weeklies : Below i weekly
-    pub few_regulars : Below i regular
-    pub weekly_size : length weekly ≡ 256
-    pub regular_size : length regular ≡ 256
+        → get_or counts.regular w 0 + count_of (of_kind is_regular w) (left starts ends reading k i earlier) ≡ count_of (of_kind is_regular w) (entries (spans_in starts ends k) (fields_in reading))
+    pub few : Few i counts
+    pub weekly_size : length counts.weekly ≡ 256
+    pub regular_size : length counts.regular ≡ 256
 
-  pub walk_start : (compensations weekly regular : List ℕ) → Laid starts ends nets reading compensations k → Zeros compensations → Zeros weekly → Zeros regular → length weekly ≡ 256
-      → length regular ≡ 256
-      → Walking 0 fresh_tally compensations weekly regular
+  pub walk_start : (compensations : List ℕ) (counts : WeekCounts) → Laid starts ends nets reading compensations k → Zeros compensations → Fresh counts → Walking 0 fresh_tally compensations counts
   unfolding rule7 compensation_of
-  walk_start compensations weekly regular l z zw zr nw nr = record {
+  walk_start compensations counts l z f = record {
     earlier = [];
     laid = l;
     outstanding = λ j h g. z j;
@@ -235,15 +249,14 @@ module _ (starts ends nets reading : List ℕ) (k s : ℕ) where
     tally = ap (test_from (counts_by nets) s (spans_in starts ends k) fresh_tally) (left_all starts ends reading k);
     short = omega arith;
     last = omega arith;
-    weeklies = λ w h. omega (arith, zw w, ap (count_of (of_kind is_weekly w)) (left_all starts ends reading k));
-    regulars = λ w h. omega (arith, zr w, ap (count_of (of_kind is_regular w)) (left_all starts ends reading k));
-    few_weeklies = λ j. omega (arith, zw j);
-    few_regulars = λ j. omega (arith, zr j);
-    weekly_size = nw;
-    regular_size = nr;
+    weeklies = λ w h. omega (arith, f.weekly w, ap (count_of (of_kind is_weekly w)) (left_all starts ends reading k));
+    regulars = λ w h. omega (arith, f.regular w, ap (count_of (of_kind is_regular w)) (left_all starts ends reading k));
+    few = (λ j. omega (arith, f.weekly j), λ j. omega (arith, f.regular j));
+    weekly_size = f.weekly_size;
+    regular_size = f.regular_size;
   }
 
-  module _ {i : ℕ} {t : Tally} {compensations weekly regular : List ℕ} (w : Walking i t compensations weekly regular) (h : i < k) where
+  module _ {i : ℕ} {t : Tallied} {compensations : List ℕ} {counts : WeekCounts} (w : Walking i t compensations counts) (h : i < k) where
     abbrev this : Entry
     this = this_entry starts ends reading k i w.earlier
 
@@ -287,17 +300,17 @@ module _ (starts ends nets reading : List ℕ) (k s : ℕ) where
           ap₂ (λ (x : Kind) (y : ℕ). one (f x and eqb y v)) p q,
         )
 
-    pub walk_on : {r : LongRest} {b : Bool} {end : ℕ} {t' : Tally} {compensations' weekly' regular' : List ℕ} {d : ℕ}
+    pub walk_on : {r : LongRest} {b : Bool} {end : ℕ} {t' : Tallied} {compensations' : List ℕ} {counts' : WeekCounts} {d : ℕ}
         → r ≡ rest_by (item_at starts ends nets reading compensations i) → b ≡ enough_by r (get_or compensations i 0) → b ≡ true
         → end ≡ end_at ends k (item_at starts ends nets reading compensations i).carrier
         → t' ≡ tally_by (short_by (item_at starts ends nets reading compensations i)) s end t (entry_by (item_at starts ends nets reading compensations i))
-        → weekly' ≡ incremented (is_weekly r.kind) weekly (item_at starts ends nets reading compensations i).week
-        → regular' ≡ incremented (is_regular r.kind) regular (item_at starts ends nets reading compensations i).week
+        → counts'.weekly ≡ incremented (is_weekly r.kind) counts.weekly (item_at starts ends nets reading compensations i).week
+        → counts'.regular ≡ incremented (is_regular r.kind) counts.regular (item_at starts ends nets reading compensations i).week
         → d ≡ reduction_of r.kind
         → compensations' ≡ added_to compensations (item_at starts ends nets reading compensations i).carrier d
-        → Walking (i + 1) t' compensations' weekly' regular'
+        → Walking (i + 1) t' compensations' counts'
     unfolding all_of ◌and◌ compensation_of
-    walk_on {r} {b} {end} {t'} {compensations'} {weekly'} {regular'} {d} qr qb eb qe qt qw qg qd ql =
+    walk_on {r} {b} {end} {t'} {compensations'} {counts'} {d} qr qb eb qe qt qw qg qd ql =
         let x = item_at starts ends nets reading compensations i in
         let kind : r.kind ≡ as_read this = ap (λ (y : LongRest). y.kind) qr ∙ ap as_read here_item in
         let wk : x.week ≡ this.week = ap (λ (y : Entry). y.week) here_item in
@@ -327,17 +340,19 @@ module _ (starts ends nets reading : List ℕ) (k s : ℕ) where
           tally =
               w.tally ∙ ap (test_from (counts_by nets) s (spans_in starts ends k) t) next
               ∙ test_next (counts_by nets) s (spans_in starts ends k) t this (left starts ends reading k (i + 1) (this ∷ w.earlier))
-              ∙ ap (λ (y : Tally). test_from (counts_by nets) s (spans_in starts ends k) y (left starts ends reading k (i + 1) (this ∷ w.earlier)))
+              ∙ ap (λ (y : Tallied). test_from (counts_by nets) s (spans_in starts ends k) y (left starts ends reading k (i + 1) (this ∷ w.earlier)))
               (sym (qt ∙ ap (λ (y : Bool). tally_by y s end t (entry_by x)) (sym (item_counts starts ends nets reading compensations i))
               ∙ ap₂ (λ (e : ℕ) (y : Entry). tally_by (counts_by nets y) s e t y) (qe ∙ end_of_spans starts ends k x.carrier ∙ ap (end_of (spans_in starts ends k)) carried) here_item));
-          short = omega (arith, ap (λ (y : Tally). y.short) qt, short_on (short_by x) s end t (entry_by x), w.short);
-          last = le_trans (le_of_eq (ap (λ (y : Tally). y.last) qt)) (last_on (short_by x) s end t (entry_by x) (w.laid.limited i h) w.last);
-          weeklies = λ v l. increment_on is_weekly weekly weekly' r.kind x.week v kind wk w.weekly_size l qw (w.weeklies v l);
-          regulars = λ v l. increment_on is_regular regular regular' r.kind x.week v kind wk w.regular_size l qg (w.regulars v l);
-          few_weeklies = λ j. omega (arith, ap (λ (y : List ℕ). get_or y j 0) qw, incremented_below (is_weekly r.kind) weekly x.week i w.few_weeklies j);
-          few_regulars = λ j. omega (arith, ap (λ (y : List ℕ). get_or y j 0) qg, incremented_below (is_regular r.kind) regular x.week i w.few_regulars j);
-          weekly_size = ap length qw ∙ incremented-length (is_weekly r.kind) weekly x.week ∙ w.weekly_size;
-          regular_size = ap length qg ∙ incremented-length (is_regular r.kind) regular x.week ∙ w.regular_size;
+          short = omega (arith, ap (λ (y : Tallied). y.short) qt, short_on (short_by x) s end t (entry_by x), w.short);
+          last = le_trans (le_of_eq (ap (λ (y : Tallied). y.last) qt)) (last_on (short_by x) s end t (entry_by x) (w.laid.limited i h) w.last);
+          weeklies = λ v l. increment_on is_weekly counts.weekly counts'.weekly r.kind x.week v kind wk w.weekly_size l qw (w.weeklies v l);
+          regulars = λ v l. increment_on is_regular counts.regular counts'.regular r.kind x.week v kind wk w.regular_size l qg (w.regulars v l);
+          few = (
+            λ j. omega (arith, ap (λ (y : List ℕ). get_or y j 0) qw, incremented_below (is_weekly r.kind) counts.weekly x.week i w.few.0 j),
+            λ j. omega (arith, ap (λ (y : List ℕ). get_or y j 0) qg, incremented_below (is_regular r.kind) counts.regular x.week i w.few.1 j),
+          );
+          weekly_size = ap length qw ∙ incremented-length (is_weekly r.kind) counts.weekly x.week ∙ w.weekly_size;
+          regular_size = ap length qg ∙ incremented-length (is_regular r.kind) counts.regular x.week ∙ w.regular_size;
         }
 
     pub compensate_room : {r : LongRest} {b : Bool} {d : ℕ} → r ≡ rest_by (item_at starts ends nets reading compensations i) → b ≡ enough_by r (get_or compensations i 0) → b ≡ true
@@ -347,8 +362,12 @@ module _ (starts ends nets reading : List ℕ) (k s : ℕ) where
         let long : long_enough this ≡ true = sym (enough_here b (qb ∙ ap (λ (y : LongRest). enough_by y (get_or compensations i 0)) qr)) ∙ eb in
         (le_trans (is_outstanding-here this long (qd ∙ ap reduction_of kind)) (omega arith), λ j. omega (arith, w.below j, w.laid.few))
 
-  pub walk_through : {i : ℕ} {t : Tally} {compensations weekly regular : List ℕ} → Walking i t compensations weekly regular → k ≤ i → i ≤ k
-      → Through (counts_by nets) s (spans_in starts ends k) (entries (spans_in starts ends k) (fields_in reading)) t weekly regular
+  -- no week has more rests than there are before index i, which are few
+  pub walk_few : {i : ℕ} {t : Tallied} {compensations : List ℕ} {counts : WeekCounts} → Walking i t compensations counts → i ≤ k → Few compensation_at_most counts
+  walk_few w g = (λ j. omega (arith, w.few.0 j, w.laid.few, g), λ j. omega (arith, w.few.1 j, w.laid.few, g))
+
+  pub walk_through : {i : ℕ} {t : Tallied} {compensations : List ℕ} {counts : WeekCounts} → Walking i t compensations counts → k ≤ i → i ≤ k
+      → Through (counts_by nets) s (spans_in starts ends k) (entries (spans_in starts ends k) (fields_in reading)) t counts
   unfolding all_of count_of
   walk_through {i} w h g =
       let none = left_none starts ends reading k w.earlier i h in
@@ -358,8 +377,5 @@ module _ (starts ends nets reading : List ℕ) (k s : ℕ) where
         last = w.last;
         weeklies = λ v l. omega (arith, w.weeklies v l, ap (count_of (of_kind is_weekly v)) none);
         regulars = λ v l. omega (arith, w.regulars v l, ap (count_of (of_kind is_regular v)) none);
-        few_weeklies = λ j. omega (arith, w.few_weeklies j, w.laid.few);
-        few_regulars = λ j. omega (arith, w.few_regulars j, w.laid.few);
-        weekly_size = w.weekly_size;
-        regular_size = w.regular_size;
+        few = walk_few w g;
       }

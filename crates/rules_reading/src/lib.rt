@@ -1,246 +1,170 @@
 // The reading test.
 #![tactic(auto)]
 
-ghost use Rattle.std.specs.Prelude.{◌≡◌, ◌*◌, ◌≤◌, length};
+ghost use Rattle.std.specs.Prelude.{◌≡◌, ◌*◌, ◌^◌, ◌≤◌, length};
 ghost use Rattle.recording.specs.Answers.{answered};
 ghost use Rattle.recording.specs.Operations.{total_at_most, measured};
 ghost use Rattle.rules.specs.Broken.{unless};
+ghost use Rattle.rules.specs.Numbers.{rule_or_none};
 ghost use Rattle.rules.specs.Reading.{entry_bytes, fields_in, entries};
 ghost use Rattle.rules.specs.ReadingRules.{rule6, in_gap};
 ghost use Rattle.rules.specs.Operations.{reading_tested};
 ghost use Rattle.rules_nets.specs.Nets.{counts_by};
-ghost use Rattle.rules_fixed.specs.Tested.{tested};
-ghost use Rattle.rules_items.specs.Items.{compensation_at_most, Below, spans_in, Laid, Zeros, Walked, rule11_with, rest_weeks, later_by, Roomy};
+ghost use Rattle.rules_fixed.specs.Answers.{rule_answer};
+ghost use Rattle.rules_items.specs.Items.{compensation_at_most, Few, Fresh, spans_among, Zeros, Walked, rule11_with, rest_weeks, later_by};
 
-use recording::{Measure, Weighing};
-use rules_fixed::Tested;
-use rules_items::{Tally, Walk};
-
-// The rules that are named where they are broken.
-const FORM_BROKEN: u32 = 6;
-
-const NET_BROKEN: u32 = 7;
-
-const PAIRS_BROKEN: u32 = 11;
+use recording::{Measure, Recording, Refusal};
+use rules::Rule;
+use rules_items::{Rests, Tally, WeekCounts};
 
 // Rule 6 of all long rests.
-fn form_test(
-    starts: &[u32],
-    ends: &[u32],
-    nets: &[u32],
-    reading: &[u8],
-    compensations: &[u32],
-    k: usize,
-) -> bool
-    requires { Laid starts.now ends.now nets.now reading.now compensations.now k × Zeros compensations.now }
-    ensures { result ≡ rule6 k (entries (spans_in starts.now ends.now k) (fields_in reading.now)) }
+fn form_test(rests: Rests, reading: &[u8], compensations: &[u32]) -> bool
+    requires entries { length reading.now ≡ entry_bytes * length rests.starts.now }
+    requires room { length rests.starts.now ≤ length compensations.now }
+    requires zeros { Zeros compensations.now }
+    ensures { result ≡ rule6 (length rests.entry.starts.now) (entries (spans_among rests.entry) (fields_in reading.now)) }
 {
-    let mut i = 0;
-    while i < k {
-        let x = rules_items::item_at(starts, ends, nets, reading, compensations, i);
-        i += 1;
-        if !rules_items::formed_item(k as u32, x) {
+    let k = rests.starts.len();
+    for i in 0..k {
+        let x = rules_items::item_at(rests, reading, compensations, i);
+        if !x.is_formed(k as u32) {
             return false;
         }
     }
     true
 }
 
-// Rules 7 to 10, and the rests counted in each week, in one walk over the long rests. What each compensates for is summed in
+// Rules 7 to 10, and the rests counted in each week, in one walk over the long rests; none where one breaks rule 7. What each compensates for is summed in
 // `compensations` as the walk goes.
 fn rest_walk(
-    starts: &[u32],
-    ends: &[u32],
-    nets: &[u32],
+    rests: Rests,
     reading: &[u8],
     compensations: &mut [u32],
-    weekly: &mut [u32],
-    regular: &mut [u32],
-    k: usize,
+    counts: &mut WeekCounts,
     s: u32,
-) -> Walk
-    requires { Laid starts.now ends.now nets.now reading.now compensations.old k × Zeros compensations.old × Zeros weekly.old × Zeros regular.old × (length weekly.old ≡ 256)
-        × (length regular.old ≡ 256) }
-    ensures { Walked (counts_by nets.now) s (spans_in starts.now ends.now k)
-        (entries (spans_in starts.now ends.now k) (fields_in reading.now)) result weekly.new regular.new }
+) -> Option<Tally>
+    requires entries { length reading.now ≡ entry_bytes * length rests.starts.now }
+    requires room { length rests.starts.now ≤ length compensations.old }
+    requires zeros { Zeros compensations.old }
+    requires fresh { Fresh counts.old }
+    ensures { Walked (counts_by rests.entry.nets.now) s (spans_among rests.entry)
+        (entries (spans_among rests.entry) (fields_in reading.now)) result counts.new }
 {
-    let mut t = Tally {
-        rule: 0,
+    let mut tally = Tally {
+        rule: None,
         short: 0,
         last: 0,
     };
-    let mut i = 0;
-    while i < k {
-        let x = rules_items::item_at(starts, ends, nets, reading, compensations, i);
-        i += 1;
-        let r = rules_items::as_read(x);
-        if !rules_items::long_enough(r, x.compensation) {
-            return Walk::TooShort;
+    for i in 0..rests.starts.len() {
+        let x = rules_items::item_at(rests, reading, compensations, i);
+        let r = x.as_read();
+        if !r.is_long_enough(x.compensation) {
+            return None;
         }
-        t = rules_items::tally_after(s, rules_items::end_of(ends, k, x.carrier), t, x, r);
-        rules_items::increment(rules_items::is_weekly(r), weekly, x.week);
-        rules_items::increment(rules_items::is_regular(r), regular, x.week);
-        let kind = r.kind;
-        rules_items::compensate(compensations, x.carrier, rules_items::reduction(kind));
+        tally = tally.after(s, rules_items::end_of(rests.ends, x.carrier), x, r);
+        counts.count(r, x.week);
+        rules_items::compensate(compensations, x.carrier, rules_items::reduction(r.kind));
     }
-    Walk::AllThrough(t)
+    Some(tally)
 }
 
 // Rule 11 of all pairs of weeks that end by s.
-fn pairs_test(
-    starts: &[u32],
-    ends: &[u32],
-    weekly: &[u32],
-    regular: &[u32],
-    k: usize,
-    s: u32,
-) -> bool
-    requires { (k ≤ length starts.now) × (k ≤ length ends.now) × (s ≤ total_at_most) × (length weekly.now ≡ 256) × (length regular.now ≡ 256) × Below compensation_at_most weekly.now
-        × Below compensation_at_most regular.now }
-    ensures { result ≡ rule11_with (rest_weeks (spans_in starts.now ends.now k)) s weekly.now regular.now }
+fn pairs_test(rests: Rests, counts: &WeekCounts, s: u32) -> bool
+    requires judged { s ≤ total_at_most }
+    requires few { Few compensation_at_most counts.now }
+    ensures { result ≡ rule11_with (rest_weeks (spans_among rests.entry)) s counts.now.weekly counts.now.regular }
 {
-    let mut w = s / recording::WEEK_MINUTES;
-    while 0 < w {
-        w -= 1;
-        if !rules_items::pair_kept(starts, ends, weekly, regular, k, s, w) {
+    for w in 0..s / recording::WEEK_MINUTES {
+        if !rules_items::pair_kept(rests, counts, s, w) {
             return false;
         }
     }
     true
 }
 
-// Rule 10 from the last weekly rest's end to s: 10 where that is too far, or 0.
-fn gap_rule(q: u32, s: u32) -> u32
+// Rule 10 from the last weekly rest's end to s, where that is too far.
+fn gap_rule(q: u32, s: u32) -> Option<Rule>
     requires { q ≤ total_at_most }
-    ensures { result ≡ unless (in_gap q s) 10 0 }
+    ensures { rule_or_none result ≡ unless (in_gap q s) 10 0 }
 {
     if s <= q + rules_items::WEEKLY_GAP {
-        return 0;
+        None
+    } else {
+        Some(Rule::WeeklyRestGap)
     }
-    10
 }
 
-// Rules 6 to 11 of a reading, where the k long rests stand in `starts`, `ends` and `nets` and S is s: 0 or the smallest broken one. The compensations are
-// room to sum them.
-fn later_test(
-    starts: &[u32],
-    ends: &[u32],
-    nets: &[u32],
-    reading: &[u8],
-    compensations: &mut [u32],
-    k: usize,
-    s: u32,
-) -> u32
-    requires { Laid starts.now ends.now nets.now reading.now compensations.old k × Zeros compensations.old × (s ≤ total_at_most) }
-    ensures { result ≡ later_by starts.now ends.now nets.now reading.now k s }
+// Rules 6 to 11 of a reading, where the judged end is s: the smallest broken one. The compensations are room to sum them.
+fn later_test(rests: Rests, reading: &[u8], compensations: &mut [u32], s: u32) -> Option<Rule>
+    requires entries { length reading.now ≡ entry_bytes * length rests.starts.now }
+    requires room { length rests.starts.now ≤ length compensations.old }
+    requires zeros { Zeros compensations.old }
+    requires judged { s ≤ total_at_most }
+    ensures { rule_or_none result ≡ later_by rests.entry.starts.now rests.entry.ends.now rests.entry.nets.now reading.now (length rests.entry.starts.now) s }
 {
-    if !form_test(starts, ends, nets, reading, compensations, k) {
-        return FORM_BROKEN;
+    if !form_test(rests, reading, compensations) {
+        return Some(Rule::EntryForm);
     }
-    let mut weekly = [0u32; 256];
-    let mut regular = [0u32; 256];
-    let Walk::AllThrough(t) = rest_walk(
-        starts,
-        ends,
-        nets,
-        reading,
-        compensations,
-        &mut weekly,
-        &mut regular,
-        k,
-        s,
-    ) else {
-        return NET_BROKEN;
+    let mut counts = WeekCounts::none();
+    let Some(tally) = rest_walk(rests, reading, compensations, &mut counts, s) else {
+        return Some(Rule::NetLength);
     };
-    let broken = rules_items::smaller_of(t.rule, gap_rule(t.last, s));
-    if broken != 0 {
+    let broken = rules_items::smaller_of(tally.rule, gap_rule(tally.last, s));
+    if broken.is_some() {
         return broken;
     }
-    if pairs_test(starts, ends, &weekly, &regular, k, s) {
-        return 0;
+    if pairs_test(rests, &counts, s) {
+        None
+    } else {
+        Some(Rule::WeeklyRests)
     }
-    PAIRS_BROKEN
 }
 
-// The rules of a recording with this measure and of a reading with an entry for each long rest: 0 or the smallest broken one. The slices are room for the
-// long rests and for what each compensates.
-fn tested_among(
+// The rules of a recording with this measure and of a reading with an entry for each long rest, with room for so many long rests: the smallest broken one.
+fn tested_in_room<const RESTS: usize>(
     words: &[u32],
     measure: Measure,
     reading: &[u8],
-    starts: &mut [u32],
-    ends: &mut [u32],
-    nets: &mut [u32],
-    compensations: &mut [u32],
-) -> u32
-    requires { (measured words.now ≡ answered measure) × (length reading.now ≡ entry_bytes * measure.count)
-        × Roomy measure.count starts.old ends.old nets.old compensations.old × Zeros compensations.old }
-    ensures { answered result ≡ reading_tested words.now reading.now }
+) -> Option<Rule>
+    requires bound { RESTS ≤ 2 ^ 20 }
+    requires weighed { measured words.now ≡ answered measure }
+    requires entries { length reading.now ≡ entry_bytes * measure.count }
+    requires room { measure.count ≤ RESTS }
+    ensures { answered (rule_or_none result) ≡ reading_tested words.now reading.now }
 {
-    let found = rules_fixed::survey_of(words, starts, ends, nets);
-    let account = found.account;
-    let rule = rules_limits::smallest_rule(account.broken);
-    if rule != 0 {
+    let mut starts = [0; RESTS];
+    let mut ends = [0; RESTS];
+    let mut nets = [0; RESTS];
+    let found = rules_fixed::survey_of(Recording::new(words), &mut starts, &mut ends, &mut nets);
+    let rule = rules_limits::smallest_rule(found.account.broken);
+    if rule.is_some() {
         return rule;
     }
     let count = measure.count as usize;
-    later_test(
-        starts,
-        ends,
-        nets,
-        reading,
-        compensations,
-        count,
-        measure.judged,
-    )
+    let rests = Rests {
+        starts: &starts[..count],
+        ends: &ends[..count],
+        nets: &nets[..count],
+    };
+    let mut compensations = [0; RESTS];
+    later_test(rests, reading, &mut compensations, measure.judged)
 }
 
-// The same with room of its own, by the recording's length.
-fn tested_in_room(words: &[u32], measure: Measure, reading: &[u8]) -> u32
-    requires { (measured words.now ≡ answered measure) × (length reading.now ≡ entry_bytes * measure.count) }
-    ensures { answered result ≡ reading_tested words.now reading.now }
-{
-    if measure.total <= recording::SHORT_TOTAL {
-        let mut starts = [0u32; recording::SHORT_RESTS];
-        let mut ends = [0u32; recording::SHORT_RESTS];
-        let mut nets = [0u32; recording::SHORT_RESTS];
-        let mut compensations = [0u32; recording::SHORT_RESTS];
-        return tested_among(
-            words,
-            measure,
-            reading,
-            &mut starts,
-            &mut ends,
-            &mut nets,
-            &mut compensations,
-        );
-    }
-    let mut starts = [0u32; recording::LONG_RESTS];
-    let mut ends = [0u32; recording::LONG_RESTS];
-    let mut nets = [0u32; recording::LONG_RESTS];
-    let mut compensations = [0u32; recording::LONG_RESTS];
-    tested_among(
-        words,
-        measure,
-        reading,
-        &mut starts,
-        &mut ends,
-        &mut nets,
-        &mut compensations,
-    )
-}
-
-// Testing a reading: refusals 1 and 2, then 6 where its byte count is not 4 for each long rest; else 0 or the smallest broken rule.
-pub fn reading_test(words: &[u32], reading: &[u8]) -> Tested
-    ensures { tested result ≡ reading_tested words.now reading.now }
+/// Testing a reading: weighing's refusals, then that of a byte count that is not 4 for each long rest; else the smallest broken rule.
+pub fn reading_test(words: &[u32], reading: &[u8]) -> Result<Option<Rule>, Refusal>
+    ensures { rule_answer result ≡ reading_tested words.now reading.now }
 {
     let weighing = recording::weigh(words);
-    let Weighing::Weighed(measure) = weighing else {
-        return Tested::Refused(recording::refusal_of(weighing));
+    let Ok(measure) = weighing else {
+        return Err(weighing.unwrap_err());
     };
-    let count = measure.count as usize;
-    if reading.len() != rules_entries::ENTRY_BYTES * count {
-        return Tested::Refused(rules_entries::BAD_COUNT);
+    if reading.len() != rules_entries::ENTRY_BYTES * measure.count as usize {
+        return Err(Refusal::WrongByteCount);
     }
-    Tested::Answer(tested_in_room(words, measure, reading))
+    let rule = if measure.total <= recording::SHORT_TOTAL {
+        tested_in_room::<{ recording::SHORT_RESTS }>(words, measure, reading)
+    } else {
+        tested_in_room::<{ recording::LONG_RESTS }>(words, measure, reading)
+    };
+    Ok(rule)
 }

@@ -1,14 +1,15 @@
 -- The two ways to say the form agree, and a text has at most one list of weeks. Assumes nothing.
 use mathlib.Core.Path.{◌≡◌, refl, sym, ap, ◌∙◌}
-use mathlib.Core.Bool.{true, false}
+use mathlib.Core.Bool.{Bool, true, false}
 use mathlib.Core.List.{List, []}
 use Prim.Native.Nat.{ℕ, ◌*◌, ◌≤◌, ◌<◌}
 use native.Mathlib.Omega.{arith}
-use lib.Dec.{leb, ltb}
+use lib.Dec.{ltb}
 use lib.ListN.{length}
 use lib.Seq.{sets}
-use borrow.Author.Tests.{lt-ltb, le-ltb, leb-true, leb-false}
-use Rattle.recording.specs.Tests.{pick}
+use borrow.Author.Tests.{lt-ltb, le-ltb}
+use Rattle.std.specs.Prelude.{None, Some}
+use Rattle.std.specs.Bool.{then_some}
 use Rattle.recording.specs.Answers.{Answer, refused, answered, counted, filled}
 use Rattle.recording.specs.Weeks.{week_minutes}
 use Rattle.recording.proofs.Slices.{put_in_front}
@@ -57,6 +58,15 @@ words_read f = rw (f.text_is, allowed_lines f.allowed) (lines_words f.weeks)
 pub few_words_read : (text : List ℕ) → is_text text ≡ true → length (words_of (lines_in text)) ≤ week_minutes * weeks_at_most
 few_words_read text e = let f = read_is_form text e in rw (words_read f) (allowed_few f.allowed)
 
+-- ---- how many run lines a text of the form has
+pub none_formed : (formed : Bool) (n : ℕ) → None ≡ then_some formed n → formed ≡ false
+none_formed true n e = let z : ◌≡◌ {A = ℕ} 0 1 = cc in absurd (omega arith)
+none_formed false n e = refl
+
+pub some_formed : (formed : Bool) (n : ℕ) {m : ℕ} → Some m ≡ then_some formed n → (formed ≡ true) × (m ≡ n)
+some_formed true n e = (refl, cc)
+some_formed false n e = let z : ◌≡◌ {A = ℕ} 0 1 = cc in absurd (omega arith)
+
 -- ---- what stands at each return of reading
 module _ (text words : List ℕ) where
   pub record ReadText (r : Answer ℕ) (words' : List ℕ) : Type 0 where
@@ -67,18 +77,15 @@ module _ (text words : List ℕ) where
   unfolding text_read
   not_formed e = record { answer = rw e; content = rw e }
 
-  pub few_lent : {n : ℕ} {words' : List ℕ} → is_text text ≡ true → n ≡ length (words_of (lines_in text)) → leb n (length words) ≡ false
-      → words' ≡ pick (leb n (length words)) (sets words 0 (words_of (lines_in text))) words → ReadText (refused 9) words'
+  pub few_lent : {n : ℕ} → is_text text ≡ true → n ≡ length (words_of (lines_in text)) → length words < n → ReadText (refused 9) words
   unfolding text_read
-  few_lent {n} e p h q =
-      let l : length words < n = leb-false n (length words) h in
+  few_lent e p l =
       let t : ltb (length words) (length (words_of (lines_in text))) ≡ true = lt-ltb (length words) (length (words_of (lines_in text))) (omega arith) in
-      record { answer = rw (e, t); content = q ∙ rw (h, e, t) }
+      record { answer = rw (e, t); content = rw (e, t) }
 
-  pub all_read : {n : ℕ} {words' : List ℕ} → is_text text ≡ true → n ≡ length (words_of (lines_in text)) → leb n (length words) ≡ true
-      → words' ≡ pick (leb n (length words)) (sets words 0 (words_of (lines_in text))) words → ReadText (answered n) words'
+  pub all_read : {n : ℕ} {words' : List ℕ} → is_text text ≡ true → n ≡ length (words_of (lines_in text)) → n ≤ length words
+      → words' ≡ sets words 0 (words_of (lines_in text)) → ReadText (answered n) words'
   unfolding text_read
-  all_read {n} e p h q =
-      let l : n ≤ length words = leb-true n (length words) h in
+  all_read {n} e p l q =
       let t : ltb (length words) (length (words_of (lines_in text))) ≡ false = le-ltb (length words) (length (words_of (lines_in text))) (omega arith) in
-      record { answer = rw (e, t, p); content = q ∙ rw (h, e, t) (put_in_front (words_of (lines_in text)) words (omega arith)) }
+      record { answer = rw (e, t, p); content = q ∙ rw (e, t) (put_in_front (words_of (lines_in text)) words (omega arith)) }

@@ -189,7 +189,7 @@ weeks_few (suc k) (a ∷ ms) =
     go (inl x) d i f = omega (arith, f x)
     go (inr x) d i f = omega arith
 
--- "0 to" 53 "weeks": the weeks of a recording within the limit are allowed
+-- 0 to 53 weeks: the weeks of a recording within the limit are allowed
 pub weeks_allowed : {ms : List ℕ} → Coded ms → length ms ≤ total_at_most → Allowed (weeks_joined ms)
 unfolding weeks_joined
 weeks_allowed {ms} c h = record { few = omega (arith, weeks_few (length ms) ms); each = weeks_each (length ms) c }

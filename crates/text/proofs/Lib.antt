@@ -3,6 +3,7 @@ pub mod WordsInFront
 pub mod Numbers
 pub mod LineText
 pub mod WeekLines
+pub mod LineAfterLine
 pub mod FormLaws
 pub mod Joining
 pub mod Parts

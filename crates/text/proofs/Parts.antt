@@ -10,19 +10,20 @@ use lib.ListN.{length, take, drop, get_or, replicate, length-append, length-drop
 use lib.Seq.{take-append-add, drop-append-add, take_at, drop_at, take-nil, drop-nil, drop-drop, sets, drop-length}
 use borrow.Author.Tests.{eq-eqb, ne_eqb, eqb-true, eqb-false}
 use Rattle.recording.specs.Tests.{pick}
-use Rattle.recording.specs.Words.{activities, word_of, minutes_in, activity_in, minutes_of}
+use Rattle.recording.specs.Words.{activities, code_of, word_of, minutes_in, activity_in, minutes_of}
 use Rattle.recording.specs.Weeks.{week_minutes}
 use Rattle.recording.specs.Operations.{total_at_most}
 use Rattle.recording.proofs.TestLaws.{less_or_not}
 use Rattle.text_lines.specs.Form.{line_end, recording_line, week_line, closing_line, line_text, text_of_lines, runs_then, weeks_then_end}
 use Rattle.text.specs.Writing.{joined, weeks_within, weeks_joined, text_of_minutes}
-use Rattle.text.specs.Passes.{Put, roomy, InFront, same_words, same_minutes, EachSome, none, next, in_week, lines_left, part_lines, left_after}
+use Rattle.text.specs.Page.{Put, Puts}
+use Rattle.text.specs.Passes.{roomy, FirstRun, same_words, same_minutes, EachSome, none, next, in_week, lines_left, part_lines, left_after}
 use Rattle.text_lines.specs.declared.Line.{Line}
 use Rattle.text_lines.specs.declared.Line.TheVariants as line
-use Rattle.text.specs.declared.Ahead.{Ahead}
-use Rattle.recording.proofs.Slices.{part_rest, sets_append}
-use Rattle.text.proofs.WordsInFront.{words_on, words_within}
-use Rattle.text.proofs.Puts.{put_same_length, ended, put_then, part_text, pick_short, name_short, number_short}
+use Rattle.recording.specs.declared.Run.{Run}
+use Rattle.text.specs.declared.page.Page.{Page}
+use Rattle.recording.proofs.Slices.{sets_append}
+use Rattle.text.proofs.Puts.{ended, puts_then, part_text, pick_short, name_short, number_short, code_small}
 use Rattle.recording.proofs.WordLaws.{Coded, no_minute, coded_take, coded_minutes}
 use Rattle.text.proofs.Joining.{starts_with, joined_run, weeks_next}
 
@@ -66,7 +67,8 @@ module _ (a : ℕ) (code : a < activities) {ms : List ℕ} (c : Coded ms) (s : s
   full_part left n h l =
       let z : left + (n - left) ≡ n = omega arith in
       let e : replicate n a ++ ms ≡ replicate left a ++ (replicate (n - left) a ++ ms) =
-      ap (λ (k : ℕ). replicate k a ++ ms) (sym z) ∙ ap (λ (xs : List ℕ). xs ++ ms) (sym (replicate-append-replicate left (n - left) a)) ∙ append_assoc (replicate left a) (replicate (n - left) a) ms in
+      ap (λ (k : ℕ). replicate k a ++ ms) (sym z) ∙ ap (λ (xs : List ℕ). xs ++ ms) (sym (replicate-append-replicate left (n - left) a))
+      ∙ append_assoc (replicate left a) (replicate (n - left) a) ms in
       let t : take left (replicate n a ++ ms) ≡ replicate left a = ap (take left) e ∙ take_at (replicate left a) _ left (length-replicate left a) in
       let d : drop left (replicate n a ++ ms) ≡ replicate (n - left) a ++ ms = ap (drop left) e ∙ drop_at (replicate left a) _ left (length-replicate left a) in
       let j : joined (replicate left a) ≡ word_of left a ∷ [] = whole_run a code left h in
@@ -94,7 +96,7 @@ module _ (a : ℕ) (code : a < activities) {ms : List ℕ} (c : Coded ms) (s : s
       ∙ sym (append_assoc (pick (eqb left week_minutes) (line.Week ∷ []) []) _ _)
 
 -- ---- the words in front
-pub same_minutes_law : (a : ℕ) (ws : List ℕ) → minutes_of ws ≡ replicate (same_minutes a ws) a ++ minutes_of (drop (same_words a ws) ws)
+same_minutes_law : (a : ℕ) (ws : List ℕ) → minutes_of ws ≡ replicate (same_minutes a ws) a ++ minutes_of (drop (same_words a ws) ws)
 unfolding minutes_of same_minutes same_words
 same_minutes_law a [] = refl
 same_minutes_law a (w ∷ ws) = go (eqb (activity_in w) a) refl (same_minutes_law a ws)
@@ -125,7 +127,7 @@ same_apart a (next {w = w} {ws = ws} h e) = go (eqb (activity_in w) a) refl (sam
     go true e ih = ih
     go false e ih = starts_run a (activity_in w) (minutes_in w) (minutes_of ws) h (eqb-false (activity_in w) a e)
 
-pub each_drop : (i : ℕ) {ws : List ℕ} → EachSome ws → EachSome (drop i ws)
+each_drop : (i : ℕ) {ws : List ℕ} → EachSome ws → EachSome (drop i ws)
 each_drop zero e = e
 each_drop (suc i) none = none
 each_drop (suc i) (next h e) = each_drop i e
@@ -134,20 +136,22 @@ each_drop (suc i) (next h e) = each_drop i e
 abbrev pub left_text : ℕ → ℕ → ℕ → List ℕ → List ℕ
 left_text left a n ws = text_of_lines (lines_left left (replicate n a ++ minutes_of ws))
 
--- the lines after the first, put from `from` on into `start`
+-- the lines after the first
 abbrev pub body_text : List ℕ → List ℕ
 body_text words = text_of_lines (lines_left week_minutes (minutes_of words))
 
-pub record Writing (words start : List ℕ) (from : ℕ) (text : List ℕ) (at left a n i : ℕ) : Type 0 where
-  pub within : i ≤ length words
+-- what is left, after the page so far, makes what the whole, of so many minutes, makes after the page at the start
+pub record Writing (start : Page) (whole : List ℕ) (total : ℕ) (page : Page) (left a n : ℕ) (rest : List ℕ) : Type 0 where
+  pub each : EachSome rest
   pub some : 1 ≤ left
   pub most : left ≤ week_minutes
   pub code : a < activities
-  pub apart : 1 ≤ n → starts_with a (minutes_of (drop i words)) ≡ false
-  pub text_is : sets start from (body_text words) ≡ sets text at (left_text left a n (drop i words))
-  pub place : from + length (body_text words) ≡ at + length (left_text left a n (drop i words))
-  pub less : n + length (minutes_of (drop i words)) ≤ length (minutes_of words)
-  pub room : at + 64 * (n + length (minutes_of (drop i words))) ≤ from + 64 * length (minutes_of words)
+  pub apart : 1 ≤ n → starts_with a (minutes_of rest) ≡ false
+  pub text_is : sets start.bytes.now start.len whole ≡ sets page.bytes.now page.len (left_text left a n rest)
+  pub place : start.len + length whole ≡ page.len + length (left_text left a n rest)
+  pub less : n + length (minutes_of rest) ≤ total
+  pub room : page.len + 64 * (n + length (minutes_of rest)) ≤ start.len + 64 * total
+  pub same : page.bytes.ghost_name ≡ start.bytes.ghost_name
 
 lines_text : (xs ys : List Line) → text_of_lines (xs ++ ys) ≡ text_of_lines xs ++ text_of_lines ys
 unfolding text_of_lines
@@ -173,9 +177,10 @@ end_text left = rw (take-nil left, drop-nil left) (go (eqb left week_minutes))
     go true = refl
     go false = refl
 
-pub start_writing : (words start : List ℕ) (from : ℕ) → Writing words start from start from week_minutes 0 0 0
-start_writing words start from = record {
-  within = omega arith;
+-- before the first run, and before the first part of one
+pub start_writing : (words : List ℕ) (start : Page) → EachSome words → Writing start (body_text words) (length (minutes_of words)) start week_minutes 0 0 words
+start_writing words start e = record {
+  each = e;
   some = omega arith;
   most = omega arith;
   code = omega arith;
@@ -184,6 +189,7 @@ start_writing words start from = record {
   place = refl;
   less = omega arith;
   room = omega arith;
+  same = refl;
 }
 
 part_length : (left n a : ℕ) → a < activities → length (text_of_lines (part_lines left n (word_of n a))) ≤ 64
@@ -199,88 +205,128 @@ left_some left n h k l = go (eqb left n) refl
     go true e = (omega arith, omega arith)
     go false e = let z : left ≡ n → ⊥ = eqb-false left n e in (omega arith, omega arith)
 
-module _ {words start text : List ℕ} {from at left a n i : ℕ} (w : Writing words start from text at left a n i) where
-  pub at-roomy : length (minutes_of words) ≤ total_at_most → from ≤ 64 → at ≤ roomy
+module _ {start page : Page} {whole rest : List ℕ} {total left a n : ℕ} (w : Writing start whole total page left a n rest) where
+  pub at-roomy : total ≤ total_at_most → start.len ≤ 64 → page.len ≤ roomy
   at-roomy h l = omega (arith, w.room)
 
-  pub writing_length : length text ≡ length start
-  writing_length = put_same_length start text from at (body_text words) (left_text left a n (drop i words)) w.text_is
+  -- from here on
+  pub from_here : Writing page (left_text left a n rest) (n + length (minutes_of rest)) page left a n rest
+  from_here = record {
+    each = w.each;
+    some = w.some;
+    most = w.most;
+    code = w.code;
+    apart = w.apart;
+    text_is = refl;
+    place = refl;
+    less = omega arith;
+    room = omega arith;
+    same = refl;
+  }
 
-  pub part_on : {part next left' : ℕ} {text' : List ℕ} → 1 ≤ n → part ≡ min n left → Put text at (text_of_lines (part_lines left part (word_of part a))) next text'
-      → left' ≡ left_after left part → Writing words start from text' next left' a (n - part) i
-  part_on {part} {next} {left'} {text'} h m p q =
+  pub further : {page' : Page} {left' a' n' : ℕ} {rest' : List ℕ} → Writing page (left_text left a n rest) (n + length (minutes_of rest)) page' left' a' n' rest'
+      → Writing start whole total page' left' a' n' rest'
+  further v = record {
+    each = v.each;
+    some = v.some;
+    most = v.most;
+    code = v.code;
+    apart = v.apart;
+    text_is = w.text_is ∙ v.text_is;
+    place = w.place ∙ v.place;
+    less = omega (arith, w.less, v.less);
+    room = omega (arith, w.room, v.room);
+    same = v.same ∙ w.same;
+  }
+
+  pub part_on : {part left' : ℕ} {page' : Page} → 1 ≤ n → part ≡ min n left → Puts page (text_of_lines (part_lines left part (word_of part a))) page'
+      → left' ≡ left_after left part → Writing start whole total page' left' a (n - part) rest
+  part_on {part} {left'} {page'} h m p q =
       let r : part ≤ left = omega arith in
       let ls = left_some left part w.some w.most r in
-      let e : left_text left a n (drop i words) ≡ text_of_lines (part_lines left part (word_of part a)) ++ left_text left' a (n - part) (drop i words) =
-      ap text_of_lines (part_lines_law a w.code (coded_minutes (drop i words)) (w.apart h) left n h w.some w.most ∙ rw (q, m) refl)
+      let e : left_text left a n rest ≡ text_of_lines (part_lines left part (word_of part a)) ++ left_text left' a (n - part) rest =
+      ap text_of_lines (part_lines_law a w.code (coded_minutes rest) (w.apart h) left n h w.some w.most ∙ rw (q, m) refl)
       ∙ lines_text (part_lines left part (word_of part a)) _ in
-      let k = placed p (left_text left a n (drop i words)) (left_text left' a (n - part) (drop i words)) e in
+      let k = placed p.put (left_text left a n rest) (left_text left' a (n - part) rest) e in
       let b = part_length left part a w.code in
       record {
-        within = w.within;
+        each = w.each;
         some = rw q ls.0;
         most = rw q ls.1;
         code = w.code;
         apart = λ _. w.apart h;
-        text_is = w.text_is ∙ carried p (left_text left a n (drop i words)) (left_text left' a (n - part) (drop i words)) e;
+        text_is = w.text_is ∙ carried p.put (left_text left a n rest) (left_text left' a (n - part) rest) e;
         place = w.place ∙ k;
         less = omega (arith, w.less);
-        room = omega (arith, w.room, w.some, p.next_is);
+        room = omega (arith, w.room, w.some, p.put.next_is);
+        same = p.same ∙ w.same;
       }
 
-  pub rest_room : n ≡ 0 → length (minutes_of words) ≤ total_at_most → length (minutes_of (take (length words - i) (drop i words))) ≤ total_at_most
-  rest_room z h = rw (part_rest words i) (omega (arith, w.less))
+  -- the next run
+  module _ (z : n ≡ 0) {run : Run} {after : List ℕ} (f : FirstRun rest run after) where
+    abbrev next_code : ℕ
+    next_code = code_of run.activity
 
-  module _ (z : n ≡ 0) (h : i < length words) {r : Ahead} (f : InFront (activity_in (get_or words i 0)) (take (length words - i) (drop i words)) r) where
-    there : InFront (activity_in (get_or words i 0)) (drop i words) r
-    there = rw (part_rest words i) at f
-
-    pub fetch_moved : 1 ≤ r.words
-    fetch_moved = omega (arith, there.words, words_on (activity_in (get_or words i 0)) words i h refl)
-
-    pub fetch_within : i + r.words ≤ length words
-    fetch_within =
-        let k : same_words (activity_in (get_or words i 0)) (drop i words) ≤ length words - i = rw length-drop at (words_within (activity_in (get_or words i 0)) (drop i words)) in
-        omega (arith, there.words)
-
-    fetched : replicate n a ++ minutes_of (drop i words) ≡ replicate r.minutes (activity_in (get_or words i 0)) ++ minutes_of (drop (i + r.words) words)
+    fetched : replicate n a ++ minutes_of rest ≡ replicate run.minutes next_code ++ minutes_of after
     fetched =
-        ap (λ (k : ℕ). replicate k a ++ minutes_of (drop i words)) z
-        ∙ same_minutes_law (activity_in (get_or words i 0)) (drop i words)
-        ∙ rw (← there.minutes, ← there.words, drop-drop r.words i words) refl
+        ap (λ (k : ℕ). replicate k a ++ minutes_of rest) z
+        ∙ same_minutes_law next_code rest
+        ∙ rw (← f.minutes, ← f.after_is) refl
 
-    pub fetched_length : n + length (minutes_of (drop i words)) ≡ r.minutes + length (minutes_of (drop (i + r.words) words))
+    fetched_length : n + length (minutes_of rest) ≡ run.minutes + length (minutes_of after)
     fetched_length = rw (length-append, length-append, length-replicate, length-replicate) at (ap length fetched)
 
-    pub fetch_on : EachSome words → Writing words start from text at left (activity_in (get_or words i 0)) r.minutes (i + r.words)
-    fetch_on e =
-        let t : left_text left a n (drop i words) ≡ left_text left (activity_in (get_or words i 0)) r.minutes (drop (i + r.words) words) = ap (λ (ms : List ℕ). text_of_lines
-        (lines_left left ms)) fetched in
-        let s : starts_with (activity_in (get_or words i 0)) (minutes_of (drop (i + r.words) words)) ≡ false =
-        ap (λ (l : List ℕ). starts_with (activity_in (get_or words i 0)) (minutes_of l)) (sym (ap (λ (k : ℕ). drop k (drop i words)) (sym there.words) ∙ drop-drop r.words i words))
-        ∙ same_apart (activity_in (get_or words i 0)) (each_drop i e) in
+    pub fetch_on : Writing start whole total page left next_code run.minutes after
+    fetch_on =
+        let t : left_text left a n rest ≡ left_text left next_code run.minutes after = ap (λ (ms : List ℕ). text_of_lines (lines_left left ms)) fetched in
         record {
-          within = fetch_within;
+          each = rw f.after_is (each_drop (same_words next_code rest) w.each);
           some = w.some;
           most = w.most;
-          code = omega arith;
-          apart = λ _. s;
-          text_is = w.text_is ∙ ap (sets text at) t;
-          place = w.place ∙ ap (λ (l : List ℕ). at + length l) t;
+          code = code_small run.activity;
+          apart = λ _. rw f.after_is (same_apart next_code w.each);
+          text_is = w.text_is ∙ ap (sets page.bytes.now page.len) t;
+          place = w.place ∙ ap (λ (l : List ℕ). page.len + length l) t;
           less = omega (arith, w.less, fetched_length);
           room = omega (arith, w.room, fetched_length);
+          same = w.same;
         }
 
+  pub run_done : n ≡ 0 → Writing start whole total page left 0 0 rest
+  run_done z = record {
+    each = w.each;
+    some = w.some;
+    most = w.most;
+    code = omega arith;
+    apart = λ h. absurd (omega arith);
+    text_is = w.text_is ∙ rw z refl;
+    place = w.place ∙ rw z refl;
+    less = omega (arith, w.less);
+    room = omega (arith, w.room);
+    same = w.same;
+  }
+
   -- at the end
-  pub write_end : {mid last : ℕ} {first u v : List ℕ} → n ≡ 0 → i ≡ length words → Put first 0 (ended recording_line) from start
-      → Put text at (pick (not (eqb left week_minutes)) (ended closing_line) []) mid u → Put u mid (ended closing_line) last v
-      → Put first 0 (text_of_minutes (minutes_of words)) last v
-  write_end {mid} {last} {first} {u} {v} z e f p q =
-      let k = put_then p q in
-      let t : left_text left a n (drop i words) ≡ pick (not (eqb left week_minutes)) (ended closing_line) [] ++ ended closing_line =
-      ap (λ (m : ℕ). left_text left a m (drop i words)) z ∙ ap (λ (l : List ℕ). text_of_lines (lines_left left (minutes_of l))) (rw (e, drop-length) refl) ∙ end_text left in
-      let b : Put start from (body_text words) last v = record {
-        next_is = k.next_is ∙ ap (λ (l : List ℕ). at + length l) (sym t) ∙ sym w.place;
-        text_is = k.text_is ∙ ap (sets text at) (sym t) ∙ sym w.text_is;
+  pub write_end : (words : List ℕ) {first mid last : Page} → whole ≡ body_text words → n ≡ 0 → rest ≡ [] → first.len ≡ 0 → Puts first (ended recording_line) start
+      → Puts page (pick (not (eqb left week_minutes)) (ended closing_line) []) mid → Puts mid (ended closing_line) last
+      → Puts first (text_of_minutes (minutes_of words)) last
+  write_end words {first} {mid} {last} g z e o f p q =
+      let k = puts_then p q in
+      let t : left_text left a n rest ≡ pick (not (eqb left week_minutes)) (ended closing_line) [] ++ ended closing_line =
+      ap (λ (m : ℕ). left_text left a m rest) z ∙ ap (λ (l : List ℕ). text_of_lines (lines_left left (minutes_of l))) e ∙ end_text left in
+      let b : Puts start (body_text words) last = record {
+        put = record {
+          next_is = k.put.next_is ∙ ap (λ (l : List ℕ). page.len + length l) (sym t) ∙ sym w.place ∙ ap (λ (l : List ℕ). start.len + length l) g;
+          text_is = k.put.text_is ∙ ap (sets page.bytes.now page.len) (sym t) ∙ sym w.text_is ∙ ap (sets start.bytes.now start.len) g;
+        };
+        same = k.same ∙ w.same;
       } in
-      rw (first_text (minutes_of words)) (put_then f b)
+      rw (first_text (minutes_of words)) (puts_then f b)
+
+pub run_shorter : {rest after : List ℕ} {run : Run} → FirstRun rest run after → length after < length rest
+unfolding same_words
+run_shorter {rest} {after} {run} f = go rest f.moved (ap length f.after_is ∙ length-drop _ _)
+  where
+    go : (ws : List ℕ) → 1 ≤ same_words (code_of run.activity) ws → length after ≡ length ws - same_words (code_of run.activity) ws → length after < length ws
+    go [] h e = absurd (omega arith)
+    go (w ∷ ws) h e = omega arith

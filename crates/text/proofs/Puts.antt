@@ -10,11 +10,15 @@ use lib.Seq.{drop-cons, drop-length, sets, length-sets}
 use lib.Dec.{eqb, ltb}
 use borrow.Author.Tests.{lt-ltb, le-ltb}
 use Rattle.recording.specs.Tests.{pick}
-use Rattle.recording.specs.Words.{word_of, activities, rest, availability, other_work}
+use Rattle.recording.specs.Words.{code_of, word_of, activities, rest, availability, other_work}
 use Rattle.recording.specs.Weeks.{week_minutes}
 use Rattle.recording.proofs.WordLaws.{minutes_in_law, activity_in_law}
+use Rattle.recording.specs.declared.Activity.{Activity}
+use Rattle.recording.specs.declared.Activity.TheVariants.{Rest, Availability, OtherWork, Driving}
 use Rattle.text_lines.specs.Form.{line_end, week_line, closing_line, run_name, digit_zero, base, digit_at, decimal, line_text, text_of_lines}
-use Rattle.text.specs.Passes.{Put, part_lines}
+use Rattle.text.specs.Passes.{part_lines}
+use Rattle.text.specs.Page.{Put, Puts}
+use Rattle.text.specs.declared.page.Page.{Page}
 use Rattle.text_lines.specs.declared.Line.TheVariants as line
 use Rattle.recording.proofs.Slices.{sets_append}
 
@@ -24,8 +28,14 @@ put_then {t} {u} {v} {at} {next} {last} {xs} {ys} p q = record {
   text_is = q.text_is ∙ rw (p.text_is, p.next_is) (sym (sets_append t at xs ys));
 }
 
+pub puts_then : {p q r : Page} {xs ys : List ℕ} → Puts p xs q → Puts q ys r → Puts p (xs ++ ys) r
+puts_then k l = record { put = put_then k.put l.put; same = l.same ∙ k.same }
+
 pub put_none : (t : List ℕ) (at : ℕ) → Put t at [] at t
 put_none t at = record { next_is = omega arith; text_is = refl }
+
+pub puts_none : (p : Page) → Puts p [] p
+puts_none p = record { put = put_none p.bytes.now p.len; same = refl }
 
 pub put_length : {t u bytes : List ℕ} {at next : ℕ} → Put t at bytes next u → length u ≡ length t
 put_length {t} {u} {bytes} {at} p = ap length p.text_is ∙ length-sets t at bytes
@@ -34,11 +44,9 @@ put_length {t} {u} {bytes} {at} p = ap length p.text_is ∙ length-sets t at byt
 pub put_first : (t bytes : List ℕ) (at : ℕ) → sets t at bytes ≡ sets t (at + 0) bytes
 put_first t bytes at = ap (λ (n : ℕ). sets t n bytes) (omega arith)
 
-pub put_on : {u : List ℕ} (t bytes : List ℕ) (at i : ℕ) → i < length bytes → u ≡ set t (at + i) (get_or bytes i 0)
-    → sets t (at + i) (drop i bytes) ≡ sets u (at + (i + 1)) (drop (i + 1) bytes)
-put_on {u} t bytes at i h e =
-    let z : suc (at + i) ≡ at + suc i = omega arith in
-    rw (drop-cons bytes i 0, add-one, e) (ap (λ (n : ℕ). sets (set t (at + i) (get_or bytes i 0)) n (drop (suc i) bytes)) z)
+pub put_on : {u : List ℕ} (t bytes : List ℕ) (at i : ℕ) → i < length bytes → u ≡ set t at (get_or bytes i 0)
+    → sets t at (drop i bytes) ≡ sets u (at + 1) (drop (i + 1) bytes)
+put_on {u} t bytes at i h e = rw (drop-cons bytes i 0, add-one i, add-one at, e) refl
 
 pub put_done : (t bytes : List ℕ) (at i : ℕ) → i ≡ length bytes → sets t at (drop i bytes) ≡ t
 put_done t bytes at i e = rw (e, drop-length)
@@ -47,14 +55,14 @@ pub put_same_length : (t u : List ℕ) (at next : ℕ) (xs ys : List ℕ) → se
 put_same_length t u at next xs ys e = sym (length-sets u next ys) ∙ sym (ap length e) ∙ length-sets t at xs
 
 -- ---- a digit
-module _ (t : List ℕ) (at p n : ℕ) where
-  pub digit_none : n < p → Put t at (digit_at p n) at t
+module _ (p : Page) (v n : ℕ) where
+  pub digit_none : n < v → Puts p (digit_at v n) p
   unfolding digit_at
-  digit_none h = rw (lt-ltb n p h) (put_none t at)
+  digit_none h = rw (lt-ltb n v h) (puts_none p)
 
-  pub digit_put : {u : List ℕ} → p ≤ n → u ≡ set t at (digit_zero + n / p % base) → Put t at (digit_at p n) (at + 1) u
+  pub digit_put : {q : Page} → v ≤ n → Puts p ((digit_zero + n / v % base) ∷ []) q → Puts p (digit_at v n) q
   unfolding digit_at
-  digit_put h e = rw (le-ltb n p h) (record { next_is = refl; text_is = e })
+  digit_put h e = rw (le-ltb n v h) e
 
 pub pick_at_most : {A : Type 0} (b : Bool) (xs ys : List A) (k : ℕ) → length xs ≤ k → length ys ≤ k → length (pick b xs ys) ≤ k
 pick_at_most true xs ys k h l = h
@@ -96,6 +104,12 @@ part_bytes true true n a h = rw (minutes_in_law n a h, activity_in_law n a h) (s
 part_bytes true false n a h = rw (minutes_in_law n a h, activity_in_law n a h) (sym (regroup (ended week_line) (run_name a) (decimal n) []))
 part_bytes false true n a h = rw (minutes_in_law n a h, activity_in_law n a h) (sym (regroup [] (run_name a) (decimal n) (ended closing_line)))
 part_bytes false false n a h = rw (minutes_in_law n a h, activity_in_law n a h) (sym (regroup [] (run_name a) (decimal n) []))
+
+pub code_small : (a : Activity) → code_of a < activities
+code_small Rest = omega arith
+code_small Availability = omega arith
+code_small OtherWork = omega arith
+code_small Driving = omega arith
 
 pub part_text : (left n a : ℕ) → a < activities → text_of_lines (part_lines left n (word_of n a))
     ≡ pick (eqb left week_minutes) (ended week_line) [] ++ run_name a ++ decimal n ++ ended closing_line ++ pick (eqb left n) (ended closing_line) []

@@ -24,8 +24,8 @@ abbrev around : List ℕ → List ℕ
 around bytes = recording_line ++ line_end ∷ week_line ++ line_end ∷ bytes ++ line_end ∷ closing_line ++ line_end ∷ closing_line ++ line_end ∷ []
 
 pub record Worked : Type 0 where
-  -- the document's own text, and the empty recording
-  paper : text_read (text_of ((d 240 ∷ r 660 ∷ w 60 ∷ []) ∷ [])) 3 ≡ answered (d 240 ∷ r 660 ∷ w 60 ∷ [])
+  -- a day of three runs, and the empty recording
+  day : text_read (text_of ((d 240 ∷ r 660 ∷ w 60 ∷ []) ∷ [])) 3 ≡ answered (d 240 ∷ r 660 ∷ w 60 ∷ [])
   empty : text_read (text_of []) 0 ≡ answered []
   -- n from 1 to 10080, without leading zeros
   one : text_read (around (run_name rest ++ 49 ∷ closing ∷ [])) 1 ≡ answered (r 1 ∷ [])
@@ -58,7 +58,7 @@ unfolding opened run_name digit_at decimal line_text text_of_lines runs_then wee
     words_of text_read joined_to
     joined weeks_within weeks_joined text_written
 worked = record {
-  paper = refl;
+  day = refl;
   empty = refl;
   one = refl;
   zero_minutes = refl;

@@ -15,7 +15,9 @@ use Rattle.recording.proofs.Listing.{measured_is}
 use Rattle.text_lines.specs.Form.{OfTheForm}
 use Rattle.text_lines.specs.Reading.{lines_in, is_text, words_of, text_read}
 use Rattle.text.specs.Writing.{weeks_joined, text_of_minutes, text_written}
-use Rattle.text.specs.Passes.{Put, EachSome, none, next, Writable}
+use Rattle.text.specs.declared.page.Page.{Page}
+use Rattle.text.specs.Page.{Puts}
+use Rattle.text.specs.Passes.{EachSome, none, next, Writable}
 use Rattle.recording.proofs.WordLaws.{no_fault, coded_minutes}
 use Rattle.recording.proofs.Slices.{put_in_front}
 use Rattle.text.proofs.Joining.{weeks_allowed, all_minutes}
@@ -47,19 +49,23 @@ module _ (words text : List ℕ) where
   unfolding text_written
   not_measured e = record { answer = rw e; content = rw e }
 
-  pub few_bytes : {m : Measure} {t u : List ℕ} {n : ℕ} → measured words ≡ answered m → Put t 0 (text_of_minutes (minutes_of words)) n u → length text < n → WriteText (refused 10) text
+  pub few_bytes : {m : Measure} {p q : Page} → measured words ≡ answered m → p.len ≡ 0 → Puts p (text_of_minutes (minutes_of words)) q → length text < q.len
+      → WriteText (refused 10) text
   unfolding text_written
-  few_bytes e p h =
-      let t : ltb (length text) (length (text_of_minutes (minutes_of words))) ≡ true = lt-ltb (length text) (length (text_of_minutes (minutes_of words))) (omega (arith, p.next_is)) in
+  few_bytes e z p h =
+      let t : ltb (length text) (length (text_of_minutes (minutes_of words))) ≡ true = lt-ltb (length text) (length (text_of_minutes (minutes_of words))) (omega (arith, p.put.next_is)) in
       record { answer = rw (e, t); content = rw (e, t) }
 
-  pub all_written : {m : Measure} {t u text' : List ℕ} {n k : ℕ} → measured words ≡ answered m → Put t 0 (text_of_minutes (minutes_of words)) n u → n ≤ length text
-      → Put text 0 (text_of_minutes (minutes_of words)) k text' → WriteText (answered n) text'
+  pub all_written : {m : Measure} {p q p' q' : Page} → measured words ≡ answered m → p.len ≡ 0 → Puts p (text_of_minutes (minutes_of words)) q → q.len ≤ length text
+      → p'.bytes.now ≡ text → p'.len ≡ 0 → Puts p' (text_of_minutes (minutes_of words)) q' → WriteText (answered q.len) q'.bytes.now
   unfolding text_written
-  all_written {n = n} e p h q =
-      let l : n ≡ length (text_of_minutes (minutes_of words)) = omega (arith, p.next_is) in
+  all_written {q = q} e z p h b y r =
+      let l : q.len ≡ length (text_of_minutes (minutes_of words)) = omega (arith, p.put.next_is) in
       let t : ltb (length text) (length (text_of_minutes (minutes_of words))) ≡ false = le-ltb (length text) (length (text_of_minutes (minutes_of words))) (omega arith) in
-      record { answer = rw (e, t, l); content = q.text_is ∙ rw (e, t) (put_in_front (text_of_minutes (minutes_of words)) text (omega arith)) }
+      record {
+        answer = rw (e, t, l);
+        content = r.put.text_is ∙ rw (e, t, b, y) (put_in_front (text_of_minutes (minutes_of words)) text (omega arith));
+      }
 
 -- ---- what is written is of the form
 pub minutes_form : (ws : List ℕ) → length (minutes_of ws) ≤ total_at_most → OfTheForm (text_of_minutes (minutes_of ws))

@@ -1,28 +1,16 @@
--- Inner: what the functions of this layer answer. Nobody has to believe it: no public contract cites it.
+-- Inner: what the functions of writing answer. Nobody has to believe it: no public contract cites it.
 -- Assumes nothing.
 use Rattle.std.specs.Prelude.{◌≡◌, List, [], ◌∷◌, ◌++◌, ℕ, suc, ◌+◌, ◌-◌, ◌≤◌, eqb, length, take, drop}
-use Rattle.std.proofs.lemmas.List.Edits.{sets}
 use Rattle.recording.specs.Tests.{pick}
-use Rattle.recording.specs.Words.{minutes_in, activity_in, minutes_of}
+use Rattle.recording.specs.Words.{code_of, minutes_in, activity_in, minutes_of}
 use Rattle.recording.specs.Weeks.{week_minutes}
 use Rattle.recording.specs.Operations.{total_at_most}
+use Rattle.recording.specs.declared.Run.{Run}
 use Rattle.text_lines.specs.declared.Line.{Line}
 use Rattle.text_lines.specs.declared.Line.TheVariants as line
-use Rattle.text.specs.declared.Ahead.{Ahead}
-use Rattle.text.specs.declared.Judgement.{Judgement}
 use Rattle.text_lines.specs.Form.{runs_then, weeks_then_end}
-use Rattle.text_lines.specs.Reading.{lines_in, is_text, words_of}
 use Rattle.text.specs.Writing.{joined, weeks_joined}
-
--- ---- reading: what the first pass finds
-pub record Judged (text : List ℕ) (r : Judgement) : Type 0 where
-  pub formed : r.formed ≡ is_text text
-  pub runs : r.runs ≡ length (words_of (lines_in text))
-
--- ---- writing: bytes put from a place on, as far as the buffer reaches, and the place after them
-pub record Put (text : List ℕ) (at : ℕ) (bytes : List ℕ) (next : ℕ) (text' : List ℕ) : Type 0 where
-  pub next_is : next ≡ at + length bytes
-  pub text_is : text' ≡ sets text at bytes
+use Rattle.text.specs.Page.{places}
 
 -- the words in front that have the activity a: how many, and their minutes
 unfoldable pub same_words : ℕ → List ℕ → ℕ
@@ -32,6 +20,12 @@ same_words a (w ∷ ws) = pick (eqb (activity_in w) a) (suc (same_words a ws)) 0
 unfoldable pub same_minutes : ℕ → List ℕ → ℕ
 same_minutes a [] = 0
 same_minutes a (w ∷ ws) = pick (eqb (activity_in w) a) (minutes_in w + same_minutes a ws) 0
+
+-- the run that the words in front make together, and the words after them
+pub record FirstRun (words : List ℕ) (run : Run) (after : List ℕ) : Type 0 where
+  pub moved : 1 ≤ same_words (code_of run.activity) words
+  pub minutes : run.minutes ≡ same_minutes (code_of run.activity) words
+  pub after_is : after ≡ drop (same_words (code_of run.activity) words) words
 
 -- the lines of the minutes that are left where the week can take `left` more: a whole week that is not begun, or the rest of one
 unfoldable pub in_week : ℕ → List ℕ → List Line
@@ -47,17 +41,9 @@ part_lines left n w = pick (eqb left week_minutes) (line.Week ∷ []) [] ++ line
 unfoldable pub left_after : ℕ → ℕ → ℕ
 left_after left n = pick (eqb left n) week_minutes (left - n)
 
--- the places of a text: its length is answered as a number of 32 bits, and up to `roomy` a run's lines can still be put
-abbrev pub places : ℕ
-places = 4294967296
-
+-- up to this length of a page, a run's lines can still be put
 abbrev pub roomy : ℕ
 roomy = places - 64
-
--- the minutes of the words in front, and how many words they are
-pub record InFront (a : ℕ) (ws : List ℕ) (r : Ahead) : Type 0 where
-  pub words : r.words ≡ same_words a ws
-  pub minutes : r.minutes ≡ same_minutes a ws
 
 -- words that weighing accepts: each has a minute, and they are within the limit
 pub data EachSome : List ℕ → Type 0 where

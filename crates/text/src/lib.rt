@@ -1,149 +1,90 @@
 // Bracket text: reading it into words, and writing words as text. What is said of it stands in specs/ and in crates/text_lines/specs.
 #![tactic(auto)]
 
-ghost use Rattle.std.specs.Prelude.{◌≡◌, [], ◌+◌, ◌≤◌, ◌<◌, eqb, length};
+ghost use Rattle.std.specs.Prelude.{◌≡◌, [], ◌+◌, ◌≤◌, ◌<◌, length, MatchOption};
+ghost use Rattle.std.specs.Bool.{then_some};
 ghost use Rattle.std.proofs.lemmas.List.Edits.{sets};
-ghost use Rattle.recording.specs.Tests.{pick};
-ghost use Rattle.recording.specs.Answers.{counted, filled};
-ghost use Rattle.recording.specs.Words.{activities, activity_in, word_of, minutes_of};
-ghost use Rattle.recording.specs.Operations.{total_at_most, written};
-ghost use Rattle.text_lines.specs.Form.{run_name, digit_at, decimal, text_of_lines};
-ghost use Rattle.text_lines.specs.Reading.{lines_in, words_of, text_read};
+ghost use Rattle.recording.specs.Answers.{answer_of, counted, filled};
+ghost use Rattle.recording.specs.Words.{code_of, word_of, minutes_of};
+ghost use Rattle.recording.specs.Operations.{total_at_most};
+ghost use Rattle.text_lines.specs.Form.{text_of_lines};
+ghost use Rattle.text_lines.specs.Reading.{lines_in, is_text, words_of, text_read};
 ghost use Rattle.text.specs.Writing.{text_of_minutes, text_written};
-ghost use Rattle.text.specs.Passes.{Judged, Put, places, roomy, InFront, part_lines, left_after, Writable};
+ghost use Rattle.text.specs.Page.{places, Puts};
+ghost use Rattle.text.specs.Passes.{roomy, FirstRun, part_lines, left_after, Writable};
 
-use recording::{Filling, Weighing};
+pub use page::Page;
+use recording::{Activity, Refusal, Run};
+use text_lines::{Line, Stage};
+use text_reader::Reader;
 
-// What the first pass over a text finds: whether it is of the form, and its run lines.
-#[derive(Clone, Copy)]
-pub struct Judgement {
-    pub formed: bool,
-    pub runs: usize,
-}
-
-// The words in front that have one activity: how many, and their minutes.
-#[derive(Clone, Copy)]
-pub struct Ahead {
-    pub words: usize,
-    pub minutes: u32,
-}
+mod page;
 
 // ---- reading
 
-// The first pass: whether the text is of the form, and its run lines. Its words are not wanted.
-fn judge(text: &[u8]) -> Judgement
-    ensures { Judged text.now result }
+// How many run lines a text has, if it is of the form.
+fn runs_of(text: &[u8]) -> Option<usize>
+    ensures { result ≡ then_some (is_text text.now) (length (words_of (lines_in text.now))) }
 {
-    let mut nothing = [0u32; 1];
-    let p = text_reader::through(text, &mut nothing);
-    let stage = p.stage;
-    Judgement {
-        formed: text_lines::is_over(stage),
-        runs: p.runs,
+    let mut stage = Stage::Before;
+    let mut runs = 0;
+    for line in Reader::new(text) {
+        stage = stage.after(line);
+        if let Line::Run(_) = line {
+            runs += 1;
+        }
+    }
+    match stage {
+        Stage::Over => Some(runs),
+        _ => None,
     }
 }
 
-// The second pass, where it is wanted.
-fn fill_if(text: &[u8], words: &mut [u32], wanted: bool)
-    ensures { words.new ≡ pick wanted (sets words.old 0 (words_of (lines_in text.now))) words.old }
+// A word for each run line, as far as the words reach.
+fn put_words(text: &[u8], words: &mut [u32])
+    ensures { words.new ≡ sets words.old 0 (words_of (lines_in text.now)) }
 {
-    if wanted {
-        text_reader::through(text, words);
+    // Not every line has a word, so the words' own index is counted.
+    let mut at = 0;
+    for line in Reader::new(text) {
+        if let Line::Run(word) = line {
+            recording::put(words, at, word);
+            at += 1;
+        }
     }
 }
 
-// Reading text: refusal 8, not of the form; 9, too few words; or the count of words, one a run line.
-pub fn read_text(text: &[u8], words: &mut [u32]) -> Filling
-    ensures answer { written result ≡ counted (text_read text.now (length words.old)) }
+/// Reading text: refusal 8, not of the form; 9, too few words; or the count of words, one a run line.
+pub fn read_text(text: &[u8], words: &mut [u32]) -> Result<u32, Refusal>
+    ensures answer { answer_of result ≡ counted (text_read text.now (length words.old)) }
     ensures words_after { words.new ≡ filled (text_read text.now (length words.old)) words.old }
 {
-    let judgement = judge(text);
-    if !judgement.formed {
-        return Filling::Refused(8);
+    let Some(runs) = runs_of(text) else {
+        return Err(Refusal::NotText);
+    };
+    if words.len() < runs {
+        return Err(Refusal::TooFewWords);
     }
-    let enough = judgement.runs <= words.len();
-    fill_if(text, words, enough);
-    if !enough {
-        return Filling::Refused(9);
-    }
-    Filling::Written(judgement.runs as u32)
+    put_words(text, words);
+    Ok(runs as u32)
 }
 
 // ---- writing
 
-// Bytes from a place on, as far as the text reaches; the place after them.
-pub fn put_all(text: &mut [u8], at: usize, bytes: &[u8]) -> usize
-    requires { at + length bytes.now ≤ places }
-    ensures { Put text.old at bytes.now result text.new }
+// A run that the week can take, with the week's own lines where it begins or ends there.
+fn put_part(page: &mut Page, left: u32, run: Run)
+    requires { page.old.len ≤ roomy }
+    ensures { Puts page.old (text_of_lines (part_lines left run.minutes (word_of run.minutes (code_of run.activity)))) page.new }
 {
-    let mut i = 0;
-    while i < bytes.len() {
-        recording::put_byte(text, at + i, bytes[i]);
-        i += 1;
+    if left == recording::WEEK_MINUTES {
+        page.put(b"(week\n");
     }
-    at + i
-}
-
-// The same, where they are wanted.
-fn put_all_if(text: &mut [u8], at: usize, wanted: bool, bytes: &[u8]) -> usize
-    requires { at + length bytes.now ≤ places }
-    ensures { Put text.old at (pick wanted bytes.now []) result text.new × (result ≤ at + length bytes.now) }
-{
-    if wanted {
-        return put_all(text, at, bytes);
+    page.put(text_lines::run_name(run.activity));
+    page.put_number(run.minutes);
+    page.put(b")\n");
+    if left == run.minutes {
+        page.put(b")\n");
     }
-    at
-}
-
-// The digit of n at a place of this value, where n reaches that far.
-fn put_digit(text: &mut [u8], at: usize, value: u32, n: u32) -> usize
-    requires { (0 < value) × (at < places) }
-    ensures { Put text.old at (digit_at value n) result text.new × (result ≤ at + 1) }
-{
-    if n < value {
-        return at;
-    }
-    recording::put_byte(text, at, (48 + n / value % 10) as u8);
-    at + 1
-}
-
-// A number of at most six digits, in decimal.
-pub fn put_number(text: &mut [u8], at: usize, n: u32) -> usize
-    requires { at + 6 ≤ places }
-    ensures { Put text.old at (decimal n) result text.new × (result ≤ at + 6) }
-{
-    let a = put_digit(text, at, 100000, n);
-    let b = put_digit(text, a, 10000, n);
-    let c = put_digit(text, b, 1000, n);
-    let d = put_digit(text, c, 100, n);
-    let e = put_digit(text, d, 10, n);
-    recording::put_byte(text, e, (48 + n % 10) as u8);
-    e + 1
-}
-
-// The word of a run in the text, by its activity.
-fn put_name(text: &mut [u8], at: usize, activity: u32) -> usize
-    requires { at + 7 ≤ places }
-    ensures { Put text.old at (run_name activity) result text.new × (result ≤ at + 7) }
-{
-    match activity {
-        0 => put_all(text, at, b"(rest "),
-        1 => put_all(text, at, b"(avail "),
-        2 => put_all(text, at, b"(work "),
-        3 | _ => put_all(text, at, b"(drive "),
-    }
-}
-
-// A run of n minutes that the week can take, with the week's own lines where it begins or ends there.
-fn put_part(text: &mut [u8], at: usize, left: u32, activity: u32, n: u32) -> usize
-    requires { (at ≤ roomy) × (activity < activities) }
-    ensures { Put text.old at (text_of_lines (part_lines left n (word_of n activity))) result text.new }
-{
-    let begun = put_all_if(text, at, left == recording::WEEK_MINUTES, b"(week\n");
-    let named = put_name(text, begun, activity);
-    let timed = put_number(text, named, n);
-    let ended = put_all(text, timed, b")\n");
-    put_all_if(text, ended, left == n, b")\n")
 }
 
 // What the week can take after n minutes; the next week's minutes where it is full.
@@ -157,82 +98,70 @@ fn left_after(left: u32, n: u32) -> u32
     left - n
 }
 
-// Whether a word has this activity.
-fn has_activity(word: u32, activity: u32) -> bool
-    ensures { result ≡ eqb activity (activity_in word) }
-{
-    let code = word % 4;
-    match code {
-        0 => activity == 0,
-        1 => activity == 1,
-        2 => activity == 2,
-        3 | _ => activity == 3,
-    }
-}
-
-// The words in front that have this activity.
-fn words_ahead(words: &[u32], activity: u32) -> Ahead
+// The run that the words in front make together, all of one activity, and the words after them.
+fn split_run(words: &[u32]) -> Option<(Run, &[u32])>
     requires { length (minutes_of words.now) ≤ total_at_most }
-    ensures { InFront activity words.now result }
+    ensures { MatchOption result (words.now ≡ []) (λ found. FirstRun words.now found.0 found.1.now) }
 {
-    let mut minutes: u32 = 0;
-    let mut i = 0;
-    while i < words.len() {
-        let word = words[i];
-        if !has_activity(word, activity) {
-            return Ahead { words: i, minutes };
+    let (&first, _) = words.split_first()?;
+    let activity = Run::from(first).activity;
+    let mut minutes = 0;
+    let mut rest = words;
+    while let Some((&word, after)) = rest.split_first() {
+        let run = Run::from(word);
+        if run.activity != activity {
+            break;
         }
-        minutes += word / 4;
-        i += 1;
+        minutes += run.minutes;
+        rest = after;
     }
-    Ahead { words: i, minutes }
+    Some((Run { activity, minutes }, rest))
 }
 
-// The text of a recording, as far as the buffer reaches, and its length: neighbours of one activity are joined, and the run that
-// they make is put part by part, cut where a week is full.
-fn put_recording(words: &[u32], text: &mut [u8]) -> usize
-    requires { Writable words.now }
-    ensures { Put text.old 0 (text_of_minutes (minutes_of words.now)) result text.new × (result < places) }
+// The text of a recording: neighbours of one activity are joined, and the run that they make is put part by part, cut where a
+// week is full.
+fn put_recording(words: &[u32], page: &mut Page)
+    requires { Writable words.now × (page.old.len ≡ 0) }
+    ensures text { Puts page.old (text_of_minutes (minutes_of words.now)) page.new }
+    ensures fits { page.new.len < places }
 {
-    let mut at = put_all(text, 0, b"(recording\n");
+    page.put(b"(recording\n");
     let mut left = recording::WEEK_MINUTES;
-    let mut activity: u32 = 0;
-    let mut n: u32 = 0;
-    let mut i = 0;
-    'walk: loop {
-        if n == 0 {
-            if i == words.len() {
-                break 'walk;
-            }
-            activity = words[i] % 4;
-            let ahead = words_ahead(&words[i..], activity);
-            n = ahead.minutes;
-            i += ahead.words;
-        } else {
-            let part = recording::lesser(n, left);
-            at = put_part(text, at, left, activity, part);
-            left = left_after(left, part);
-            n -= part;
+    let mut rest = words;
+    while let Some((run, after)) = split_run(rest) {
+        rest = after;
+        let mut minutes = run.minutes;
+        while minutes != 0 {
+            let part = Run {
+                minutes: minutes.min(left),
+                ..run
+            };
+            put_part(page, left, part);
+            left = left_after(left, part.minutes);
+            minutes -= part.minutes;
         }
     }
-    let ended = put_all_if(text, at, left != recording::WEEK_MINUTES, b")\n");
-    put_all(text, ended, b")\n")
+    if left != recording::WEEK_MINUTES {
+        page.put(b")\n");
+    }
+    page.put(b")\n");
 }
 
-// Writing text: refusals 1 and 2; 10, too few bytes; or the text's length.
-pub fn write_text(words: &[u32], text: &mut [u8]) -> Filling
-    ensures answer { written result ≡ counted (text_written words.now (length text.old)) }
+/// Writing text: refusals 1 and 2; 10, too few bytes; or the text's length.
+pub fn write_text(words: &[u32], text: &mut [u8]) -> Result<u32, Refusal>
+    ensures answer { answer_of result ≡ counted (text_written words.now (length text.old)) }
     ensures text_after { text.new ≡ filled (text_written words.now (length text.old)) text.old }
 {
     let weighing = recording::weigh(words);
-    let Weighing::Weighed(_) = weighing else {
-        return Filling::Refused(recording::refusal_of(weighing));
+    let Ok(_) = weighing else {
+        return Err(weighing.unwrap_err());
     };
-    let mut nothing = [0u8; 1];
-    let length = put_recording(words, &mut nothing);
+    let mut measured = Page::new(&mut []);
+    put_recording(words, &mut measured);
+    let length = measured.len;
     if text.len() < length {
-        return Filling::Refused(10);
+        return Err(Refusal::TooFewBytes);
     }
-    put_recording(words, text);
-    Filling::Written(length as u32)
+    put_recording(words, &mut Page::new(text));
+    Ok(length as u32)
 }

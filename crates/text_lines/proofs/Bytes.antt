@@ -1,11 +1,17 @@
 -- One byte of each walk over the bytes of a text. Assumes nothing.
 use mathlib.Core.Path.{◌≡◌, refl, sym, ap, ◌∙◌}
+use mathlib.Core.Logic.{◌⊎◌, inl, inr}
 use mathlib.Core.Bool.{Bool, true, false, false≢true}
-use mathlib.Core.List.{List, [], ◌∷◌}
-use Prim.Native.Nat.{ℕ, ◌+◌, ◌≤◌, ◌<◌}
+use mathlib.Core.List.{List, [], ◌∷◌, ◌++◌}
+use Prim.Native.Nat.{ℕ, zero, suc, ◌+◌, ◌≤◌, ◌<◌}
 use native.Mathlib.Numerals.{add-one}
 use native.Mathlib.Omega.{arith}
 use lib.Dec.{eqb, leb}
+use lib.Pointwise.{pointwise}
+use Rattle.std.specs.Prelude.{None, Some, not}
+use Rattle.std.specs.Bool.{then_some}
+use Rattle.std.proofs.lemmas.Bool.Decides.{Decides-eqb}
+use Rattle.std.proofs.lemmas.Slice.Eq.{slice_eq-Decides}
 use lib.ListN.{length, drop, get_or}
 use lib.Seq.{drop-cons, drop-length}
 use borrow.Author.Tests.{eq-eqb, ne_eqb, le-leb, lt-leb, lt-ltb, le-ltb, eqb-true, leb-true}
@@ -14,87 +20,88 @@ use Rattle.recording.specs.Words.{word_of}
 use Rattle.recording.proofs.TestLaws.{same_test}
 use Rattle.text_lines.specs.declared.Line.{Line}
 use Rattle.text_lines.specs.declared.Line.TheVariants as line
-use Rattle.text_lines.specs.Form.{line_end, recording_line, week_line, closing, closing_line, run_name, digit_zero, base, run_at_most}
+use Rattle.text_lines.specs.Form.{recording_line, week_line, closing, closing_line, run_name, digit_zero, base, run_at_most}
 use Rattle.text_lines.specs.Reading.{same, is_empty, is_digit, with_digit, in_range, number_from, number_after, run_or, run_or_other, line_of}
-use Rattle.text_lines.specs.LineByLine.{line_length}
+use Rattle.text_lines.specs.LineByLine.{unless_0, word_unless_0}
 
--- ---- the bytes before a line end
-module _ (t : List ℕ) (i : ℕ) (h : i < length t) where
-  pub length_on : (get_or t i 0 ≡ line_end → ⊥) → i + line_length (drop i t) ≡ i + 1 + line_length (drop (i + 1) t)
-  unfolding line_length
-  length_on z = rw (drop-cons t i 0, add-one) (simp (ne_eqb _ _ z) (omega arith))
+-- ---- a number before a closing bracket
+-- bytes that do not end in a bracket are no number
+pub number_open : (v : ℕ) (bs : List ℕ) → ((front : List ℕ) → bs ≡ front ++ closing_line → ⊥) → number_from v bs ≡ 0
+unfolding number_from
+number_open v [] h = refl
+number_open v (b ∷ bs) h = go (eqb b closing) refl (number_open (with_digit v b) bs (λ front e. h (b ∷ front) (ap (λ (l : List ℕ). b ∷ l) e)))
+  where
+    ends : (xs : List ℕ) → ((front : List ℕ) → b ∷ xs ≡ front ++ closing_line → ⊥) → b ≡ closing → pick (is_empty xs) v 0 ≡ 0
+    ends [] k c = absurd (k [] (ap (λ (x : ℕ). x ∷ []) c))
+    ends (x ∷ xs) k c = refl
 
-  pub length_end : get_or t i 0 ≡ line_end → i + line_length (drop i t) ≡ i
-  unfolding line_length
-  length_end e = rw (drop-cons t i 0) (simp (eq-eqb _ _ e) (omega arith))
+    other : (c d : Bool) (n : ℕ) → n ≡ 0 → pick c (pick d n 0) 0 ≡ 0
+    other true true n e = e
+    other true false n e = refl
+    other false d n e = refl
 
-pub length_done : (t : List ℕ) (i : ℕ) → i ≡ length t → i + line_length (drop i t) ≡ i
-unfolding line_length
-length_done t i e = rw (e, drop-length) (omega arith)
+    go : (a : Bool) → eqb b closing ≡ a → number_from (with_digit v b) bs ≡ 0
+        → pick a (pick (is_empty bs) v 0) (pick (is_digit b) (pick (in_range (with_digit v b)) (number_from (with_digit v b) bs) 0) 0) ≡ 0
+    go true e ih = ends bs h (eqb-true b closing e)
+    go false e ih = other (is_digit b) (in_range (with_digit v b)) _ ih
 
--- ---- a number
-empty_done : (t : List ℕ) (i : ℕ) → i ≡ length t → is_empty (drop i t) ≡ true
-empty_done t i e = rw (e, drop-length)
+closed_some : (xs : List ℕ) → is_empty (xs ++ closing_line) ≡ false
+closed_some [] = refl
+closed_some (x ∷ xs) = refl
 
-empty_not : (t : List ℕ) (i : ℕ) → i < length t → is_empty (drop i t) ≡ false
-empty_not t i h = rw (drop-cons t i 0)
+module _ (t : List ℕ) (i v : ℕ) (h : i < length t) where
+  abbrev byte : ℕ
+  byte = get_or t i 0
 
-module _ (t : List ℕ) (i v b : ℕ) (h : i < length t) (e : b ≡ get_or t i 0) where
-  number_at : number_from v (drop i t)
-      ≡ pick (eqb b closing) (pick (is_empty (drop (i + 1) t)) v 0)
-      (pick (is_digit b) (pick (in_range (with_digit v b)) (number_from (with_digit v b) (drop (i + 1) t)) 0) 0)
+  number_at : number_from v (drop i t ++ closing_line)
+      ≡ pick (eqb byte closing) 0
+      (pick (is_digit byte) (pick (in_range (with_digit v byte)) (number_from (with_digit v byte) (drop (i + 1) t ++ closing_line)) 0) 0)
   unfolding number_from
-  number_at = rw (drop-cons t i 0, add-one, e)
+  number_at = rw (drop-cons t i 0, add-one, closed_some (drop (suc i) t)) refl
 
-  pub number_last : b ≡ closing → i + 1 ≡ length t → number_from v (drop i t) ≡ v
-  number_last c l = number_at ∙ rw (eq-eqb _ _ c, empty_done t (i + 1) l)
+  -- a byte that is no digit
+  pub number_other : (byte < digit_zero) ⊎ (digit_zero + base ≤ byte) → number_from v (drop i t ++ closing_line) ≡ 0
+  number_other h = number_at ∙ go (eqb byte closing) h
+    where
+      go : (a : Bool) → (byte < digit_zero) ⊎ (digit_zero + base ≤ byte)
+          → pick a 0 (pick (is_digit byte) (pick (in_range (with_digit v byte)) (number_from (with_digit v byte) (drop (i + 1) t ++ closing_line)) 0) 0) ≡ 0
+      go true h = refl
+      go false (inl l) = rw (lt-leb digit_zero byte l)
+      go false (inr l) = rw (le-leb digit_zero byte (omega arith), le-ltb byte (digit_zero + base) l)
 
-  pub number_more : b ≡ closing → (i + 1 ≡ length t → ⊥) → number_from v (drop i t) ≡ 0
-  number_more c l = number_at ∙ rw (eq-eqb _ _ c, empty_not t (i + 1) (omega arith))
+  module _ (l : digit_zero ≤ byte) (u : byte < digit_zero + base) where
+    digit_at : number_from v (drop i t ++ closing_line) ≡ pick (in_range (with_digit v byte)) (number_from (with_digit v byte) (drop (i + 1) t ++ closing_line)) 0
+    digit_at = number_at ∙ rw (ne_eqb byte closing (λ e. omega arith), le-leb digit_zero byte l, lt-ltb byte (digit_zero + base) u)
 
-  pub number_low : (b ≡ closing → ⊥) → b < digit_zero → number_from v (drop i t) ≡ 0
-  number_low c l = number_at ∙ rw (ne_eqb _ _ c, lt-leb _ _ l)
-
-  pub number_high : (b ≡ closing → ⊥) → digit_zero + base ≤ b → number_from v (drop i t) ≡ 0
-  number_high c l = number_at ∙ rw (ne_eqb _ _ c, le-leb digit_zero b (omega arith), le-ltb b (digit_zero + base) l)
-
-  module _ (c : b ≡ closing → ⊥) (l : digit_zero ≤ b) (u : b < digit_zero + base) where
-    digit_at : number_from v (drop i t) ≡ pick (in_range (with_digit v b)) (number_from (with_digit v b) (drop (i + 1) t)) 0
-    digit_at = number_at ∙ rw (ne_eqb _ _ c, le-leb digit_zero b l, lt-ltb b (digit_zero + base) u)
-
-    pub number_none : with_digit v b ≡ 0 → number_from v (drop i t) ≡ 0
+    pub number_none : with_digit v byte ≡ 0 → number_from v (drop i t ++ closing_line) ≡ 0
     number_none z = digit_at ∙ rw (eq-eqb _ _ z)
 
-    pub number_past : (with_digit v b ≡ 0 → ⊥) → run_at_most < with_digit v b → number_from v (drop i t) ≡ 0
-    number_past z p = digit_at ∙ rw (ne_eqb _ _ z, lt-leb _ _ p)
+    pub number_past : run_at_most < with_digit v byte → number_from v (drop i t ++ closing_line) ≡ 0
+    number_past p = digit_at ∙ rw (ne_eqb (with_digit v byte) 0 (λ e. omega arith), lt-leb _ _ p)
 
-    pub number_on : (with_digit v b ≡ 0 → ⊥) → with_digit v b ≤ run_at_most → number_from v (drop i t) ≡ number_from (with_digit v b) (drop (i + 1) t)
+    pub number_on : (with_digit v byte ≡ 0 → ⊥) → with_digit v byte ≤ run_at_most
+        → number_from v (drop i t ++ closing_line) ≡ number_from (with_digit v byte) (drop (i + 1) t ++ closing_line)
     number_on z p = digit_at ∙ rw (ne_eqb _ _ z, le-leb _ _ p)
 
-pub number_done : (t : List ℕ) (i v : ℕ) → i ≡ length t → number_from v (drop i t) ≡ 0
+pub number_done : (t : List ℕ) (i v : ℕ) → i ≡ length t → number_from v (drop i t ++ closing_line) ≡ v
 unfolding number_from
-number_done t i v e = rw (e, drop-length)
+number_done t i v e = rw (e, drop-length) refl
 
 -- ---- a number after a name
-module _ (name t : List ℕ) (i : ℕ) (h : i < length name) where
-  pub after_short : i ≡ length t → number_after (drop i name) (drop i t) ≡ 0
-  unfolding number_after
-  after_short e = rw (drop-cons name i 0) (let z : drop i t ≡ [] = rw (e, drop-length) in rw z)
-
-  module _ (l : i < length t) where
-    after_at : number_after (drop i name) (drop i t) ≡ pick (eqb (get_or t i 0) (get_or name i 0)) (number_after (drop (i + 1) name) (drop (i + 1) t)) 0
-    unfolding number_after
-    after_at = rw (drop-cons name i 0, drop-cons t i 0, add-one)
-
-    pub after_other : (get_or t i 0 ≡ get_or name i 0 → ⊥) → number_after (drop i name) (drop i t) ≡ 0
-    after_other z = after_at ∙ rw (ne_eqb _ _ z)
-
-    pub after_on : get_or t i 0 ≡ get_or name i 0 → number_after (drop i name) (drop i t) ≡ number_after (drop (i + 1) name) (drop (i + 1) t)
-    after_on e = after_at ∙ rw (eq-eqb _ _ e)
-
-pub after_done : (name t : List ℕ) (i : ℕ) → i ≡ length name → number_after (drop i name) (drop i t) ≡ number_from 0 (drop i t)
+pub after_name : (name bs : List ℕ) → number_after name (name ++ bs) ≡ number_from 0 bs
 unfolding number_after
-after_done name t i e = let z : drop i name ≡ [] = rw (e, drop-length) in rw z
+after_name [] bs = refl
+after_name (c ∷ cs) bs = rw (eq-eqb c c refl) (after_name cs bs)
+
+pub after_other : (name l : List ℕ) → ((rest : List ℕ) → l ≡ name ++ rest → ⊥) → number_after name l ≡ 0
+unfolding number_after
+after_other [] l h = absurd (h l refl)
+after_other (c ∷ cs) [] h = refl
+after_other (c ∷ cs) (b ∷ bs) h = go (eqb b c) refl (λ e. after_other cs bs (λ rest p. h rest (let q : b ≡ c = eqb-true b c e in cc)))
+  where
+    go : (a : Bool) → eqb b c ≡ a → (eqb b c ≡ true → number_after cs bs ≡ 0) → pick a (number_after cs bs) 0 ≡ 0
+    go true e f = f e
+    go false e f = refl
 
 -- ---- the same bytes
 pub same_is : (xs ys : List ℕ) → same xs ys ≡ true → xs ≡ ys
@@ -148,15 +155,36 @@ after_within (c ∷ cs) (b ∷ bs) = go (eqb b c) (after_within cs bs)
     go true h = h
     go false h = omega arith
 
--- ---- which line it is
-module _ (a : ℕ) (l : List ℕ) (other : Line) {n : ℕ} (e : n ≡ number_after (run_name a) l) where
-  pub run_is : {w : ℕ} → w ≡ word_of n a → (n ≡ 0 → ⊥) → run_or a l other ≡ line.Run w
-  unfolding run_or
-  run_is p z = rw (← e, ne_eqb n 0 z, p)
+pub then_unless : (n : ℕ) → then_some (not (eqb n 0)) n ≡ unless_0 n
+then_unless zero = refl
+then_unless (suc n) = rw (ne_eqb (suc n) 0 (λ z. omega arith))
 
-  pub run_not : n ≡ 0 → run_or a l other ≡ other
+-- a number that is there
+pub some_number : {n : ℕ} (m : ℕ) → Some n ≡ unless_0 m → m ≡ n
+some_number {n} zero e = let z : ◌≡◌ {A = ℕ} 0 1 = cc in absurd (omega arith)
+some_number {n} (suc m) e = cc
+
+-- ---- which line it is
+-- what a comparison tells
+pub told : (l k : List ℕ) {r s : Bool} → r ≡ pointwise eqb l k → r ≡ s → same l k ≡ s
+told l k {r} e f = let d = slice_eq-Decides Decides-eqb l k r e in same_told l k d.0 d.1 ∙ f
+
+module _ (a : ℕ) (l : List ℕ) (other : Line) where
+  pub run_is : {w : ℕ} → Some w ≡ word_unless_0 (number_after (run_name a) l) a → run_or a l other ≡ line.Run w
   unfolding run_or
-  run_not z = rw (← e, eq-eqb n 0 z)
+  run_is {w} e = go (number_after (run_name a) l) e
+    where
+      go : (n : ℕ) → Some w ≡ word_unless_0 n a → pick (eqb n 0) other (line.Run (word_of n a)) ≡ line.Run w
+      go zero p = let z : ◌≡◌ {A = ℕ} 0 1 = cc in absurd (omega arith)
+      go (suc n) p = let q : word_of (suc n) a ≡ w = cc in rw (ne_eqb (suc n) 0 (λ z. omega arith)) (ap line.Run q)
+
+  pub run_not : None ≡ word_unless_0 (number_after (run_name a) l) a → run_or a l other ≡ other
+  unfolding run_or
+  run_not e = go (number_after (run_name a) l) e
+    where
+      go : (n : ℕ) → None ≡ word_unless_0 n a → pick (eqb n 0) other (line.Run (word_of n a)) ≡ other
+      go zero p = refl
+      go (suc n) p = let z : ◌≡◌ {A = ℕ} 0 1 = cc in absurd (omega arith)
 
 module _ (l : List ℕ) where
   pub line_recording : same l recording_line ≡ true → line_of l ≡ line.Recording

@@ -1,4 +1,4 @@
--- Public: document 01, "Bracket text", the form, said by generation. A list of weeks of runs has a text, and some lists are allowed. A run is a word of the
+-- Public: the form of bracket text, said by generation. A list of weeks of runs has a text, and some lists are allowed. A run is a word of the
 -- recording: its activity and its minutes.
 -- Assumes nothing.
 use Rattle.std.specs.Prelude.{◌≡◌, List, [], ◌∷◌, ◌++◌, ℕ, ◌+◌, ◌/◌, ◌%◌, ◌≤◌, eqb, ltb, length}
@@ -8,7 +8,7 @@ use Rattle.recording.specs.Weeks.{week_minutes}
 use Rattle.text_lines.specs.declared.Line.{Line}
 use Rattle.text_lines.specs.declared.Line.TheVariants as line
 
--- "each ends in byte 10"
+-- Each line ends in byte 10.
 abbrev pub line_end : ℕ
 line_end = 10
 
@@ -25,7 +25,7 @@ closing = 41
 abbrev pub closing_line : List ℕ
 closing_line = closing ∷ []
 
--- "A run is `(rest n)`, `(avail n)`, `(work n)` or `(drive n)`": what stands before n, by the activity
+-- A run is `(rest n)`, `(avail n)`, `(work n)` or `(drive n)`. What stands before n, by the activity:
 unfoldable pub run_name : ℕ → List ℕ
 run_name a =
     pick (eqb a rest) (40 ∷ 114 ∷ 101 ∷ 115 ∷ 116 ∷ 32 ∷ [])
@@ -33,7 +33,7 @@ run_name a =
     (pick (eqb a other_work) (40 ∷ 119 ∷ 111 ∷ 114 ∷ 107 ∷ 32 ∷ [])
     (40 ∷ 100 ∷ 114 ∷ 105 ∷ 118 ∷ 101 ∷ 32 ∷ [])))
 
--- "n decimal .. without leading zeros": the digit of n at a place of value p, where n reaches that far
+-- Numbers are decimal, without leading zeros. The digit of n at a place of value p, where n reaches that far:
 abbrev pub digit_zero : ℕ
 digit_zero = 48
 
@@ -62,12 +62,12 @@ unfoldable pub text_of_lines : List Line → List ℕ
 text_of_lines [] = []
 text_of_lines (l ∷ ls) = line_text l ++ line_end ∷ text_of_lines ls
 
--- "A week is `(week`, one or more runs, `)`.": its runs and its end, before what follows it
+-- A week is `(week`, one or more runs, `)`. Its runs and its end, before what follows it:
 unfoldable pub runs_then : List ℕ → List Line → List Line
 runs_then [] later = line.Closing ∷ later
 runs_then (w ∷ ws) later = line.Run w ∷ runs_then ws later
 
--- "`(recording`, then 0 to" 53 "weeks, then `)`." Document 02, request 7: "text to 53 weeks".
+-- A text is `(recording`, then 0 to 53 weeks, then `)`.
 unfoldable pub weeks_then_end : List (List ℕ) → List Line
 weeks_then_end [] = line.Closing ∷ []
 weeks_then_end (ws ∷ weeks) = line.Week ∷ runs_then ws (weeks_then_end weeks)
@@ -86,7 +86,7 @@ unfoldable pub sum_of : List ℕ → ℕ
 sum_of [] = 0
 sum_of (w ∷ ws) = minutes_in w + sum_of ws
 
--- "n decimal from 1 to 10080"
+-- A run has from 1 to 10,080 minutes.
 pub record Run (w : ℕ) : Type 0 where
   pub some : 1 ≤ minutes_in w
   pub within : minutes_in w ≤ run_at_most
@@ -95,13 +95,13 @@ pub data Runs : List ℕ → Type 0 where
   none : Runs []
   next : {w : ℕ} {ws : List ℕ} → Run w → Runs ws → Runs (w ∷ ws)
 
--- "one or more runs"; no week sums to more than 10,080
+-- A week has one or more runs, and they sum to 10,080 at most.
 pub record Week (ws : List ℕ) : Type 0 where
   pub some : 1 ≤ length ws
   pub runs : Runs ws
   pub within : sum_of ws ≤ week_minutes
 
--- "Every week but the last sums to 10,080; the last to at most that."
+-- Every week but the last sums to 10,080; the last to at most that.
 pub data Weeks : List (List ℕ) → Type 0 where
   none : Weeks []
   last : {ws : List ℕ} → Week ws → Weeks (ws ∷ [])

@@ -1,4 +1,4 @@
--- Public: document 01, "Bracket text", the form, said by reading line by line, and what reading a text answers.
+-- Public: the form of bracket text, said by reading line by line, and what reading a text answers.
 -- Assumes nothing.
 use Rattle.std.specs.Prelude.{Bool, true, false, not, List, [], ◌∷◌, ◌++◌, ℕ, ◌+◌, ◌-◌, ◌*◌, eqb, leb, ltb, length}
 use Rattle.recording.specs.Tests.{pick}
@@ -22,7 +22,7 @@ abbrev pub is_empty : List ℕ → Bool
 is_empty [] = true
 is_empty (x ∷ xs) = false
 
--- "n decimal from 1 to 10080 without leading zeros", then `)` and nothing more: n, or 0 where that does not stand there. Digit by digit, after
+-- A decimal number from 1 to 10080 without leading zeros, then `)` and nothing more: the number, or 0 where that does not stand there. Digit by digit, after
 -- the value so far: each digit leaves a number from 1 to 10080, so the first one is not 0.
 abbrev pub is_digit : ℕ → Bool
 is_digit b = pick (leb digit_zero b) (ltb b (digit_zero + base)) false
@@ -58,7 +58,7 @@ line_of l =
     (pick (same l week_line) line.Week
     (pick (same l closing_line) line.Closing (run_or_other l)))
 
--- "The reader goes through the text line by line; each ends in byte 10": the lines from a place on, of which the bytes `l` were read; bytes with
+-- The reader goes through the text line by line, and each ends in byte 10. The lines from a place on, of which the bytes `l` were read; bytes with
 -- no end are no line of the form.
 unfoldable pub lines_from : List ℕ → List ℕ → List Line
 lines_from [] [] = []
@@ -71,7 +71,7 @@ lines_in text = lines_from [] text
 -- ---- line after line. A stage is where the reader stands: before the text, between two weeks, within a week, over, or at something wrong. Between
 -- and within, `left` is how many minutes the week that was read last can still take, and `more` how many weeks may still follow.
 
--- "`(recording`, then 0 to" 53 "weeks": no week before lacks a minute
+-- `(recording`, then 0 to 53 weeks: no week before lacks a minute.
 abbrev pub on_recording : Stage → Stage
 on_recording stage.Before = stage.Between 0 weeks_at_most
 on_recording (stage.Between left more) = stage.Wrong
@@ -79,7 +79,7 @@ on_recording (stage.Within left more) = stage.Wrong
 on_recording stage.Over = stage.Wrong
 on_recording stage.Wrong = stage.Wrong
 
--- "Every week but the last sums to 10,080": another week begins only after a full one
+-- Every week but the last sums to 10,080: another week begins only after a full one.
 abbrev pub on_week : Stage → Stage
 on_week stage.Before = stage.Wrong
 on_week (stage.Between left more) = pick (eqb left 0) (pick (eqb more 0) stage.Wrong (stage.Within week_minutes (more - 1))) stage.Wrong
@@ -87,7 +87,7 @@ on_week (stage.Within left more) = stage.Wrong
 on_week stage.Over = stage.Wrong
 on_week stage.Wrong = stage.Wrong
 
--- ".. the last to at most that"
+-- The last sums to at most that.
 abbrev pub on_run : ℕ → Stage → Stage
 on_run n stage.Before = stage.Wrong
 on_run n (stage.Between left more) = stage.Wrong
@@ -95,7 +95,7 @@ on_run n (stage.Within left more) = pick (leb n left) (stage.Within (left - n) m
 on_run n stage.Over = stage.Wrong
 on_run n stage.Wrong = stage.Wrong
 
--- "one or more runs, `)`"; "then 0 to" 53 "weeks, then `)`"
+-- After one or more runs `)` ends the week; after 0 to 53 weeks it ends the text.
 abbrev pub on_closing : Stage → Stage
 on_closing stage.Before = stage.Wrong
 on_closing (stage.Between left more) = stage.Over
@@ -124,7 +124,7 @@ is_over stage.Wrong = false
 unfoldable pub is_text : List ℕ → Bool
 is_text text = is_over (stage_from stage.Before (lines_in text))
 
--- ---- "It writes one word a run line"
+-- ---- reading writes one word a run line
 abbrev pub words_in : Line → List ℕ
 words_in line.Recording = []
 words_in line.Week = []
@@ -136,7 +136,7 @@ unfoldable pub words_of : List Line → List ℕ
 words_of [] = []
 words_of (l ∷ ls) = words_in l ++ words_of ls
 
--- "Reading text: 8, not of the form below; then 9, fewer words lent than run lines. It writes one word a run line, leaves later words, and gives
--- their count." `counted` and `filled` of it are the result and the `room` words.
+-- Reading text: refusal 8, not of the form; then 9, fewer words lent than run lines. It writes one word a run line, leaves later words, and gives
+-- their count. `counted` and `filled` of it are the result and the `room` words.
 unfoldable pub text_read : List ℕ → ℕ → Answer (List ℕ)
 text_read text room = refuse_if (not (is_text text)) 8 (refuse_if (ltb room (length (words_of (lines_in text)))) 9 (answered (words_of (lines_in text))))

@@ -1,16 +1,17 @@
-// The lines of bracket text: what a line is, where the reader stands after it, and reading line by line. What is said of them stands in
-// specs/.
+// The lines of bracket text: what a line is, and where the reader stands after it. What is said of them stands in specs/.
 #![tactic(auto)]
 
-ghost use Rattle.std.specs.Prelude.{◌≡◌, ◌≤◌, ◌<◌, length};
-ghost use Rattle.std.proofs.lemmas.List.Edits.{sets};
-ghost use Rattle.recording.specs.Words.{activities, word_of};
-ghost use Rattle.text_lines.specs.Form.{run_name, run_at_most};
-ghost use Rattle.text_lines.specs.Reading.{number_from, number_after, line_of, on_recording, on_week, on_run, on_closing, stage_after, is_over, words_in};
-ghost use Rattle.text_lines.specs.LineByLine.{line_length, FirstLine, begun, LineRead};
+ghost use Rattle.std.specs.Prelude.{◌≡◌, ◌≤◌, [], MatchOption, nat_eq};
+ghost use Rattle.std.specs.List.{position};
+ghost use Rattle.recording.specs.Words.{code_of, word_of};
+ghost use Rattle.text_lines.specs.Form.{run_name, run_at_most, line_end};
+ghost use Rattle.text_lines.specs.Reading.{number_from, number_after, run_or_other, line_of, on_recording, on_week, on_run, on_closing, stage_after};
+ghost use Rattle.text_lines.specs.LineByLine.{unless_0, word_unless_0, FirstLine};
 
-// A line of the text; a run with its word.
-#[derive(Clone, Copy)]
+use recording::Activity;
+
+/// A line of the text; a run with its word.
+#[derive(Clone, Copy, Debug, PartialEq, Eq)]
 pub enum Line {
     Recording,
     Week,
@@ -19,9 +20,9 @@ pub enum Line {
     Other,
 }
 
-// Where the reader stands. Between and within weeks: the minutes that the last week can still take, and the weeks that may
-// still follow.
-#[derive(Clone, Copy)]
+/// Where the reader stands. Between and within weeks: the minutes that the last week can still take, and the weeks that may
+/// still follow.
+#[derive(Clone, Copy, Debug, PartialEq, Eq)]
 pub enum Stage {
     Before,
     Between(u32, u32),
@@ -30,323 +31,199 @@ pub enum Stage {
     Wrong,
 }
 
-// The first line of a text, and how far the next one lies.
-#[derive(Clone, Copy)]
-pub struct Found {
-    pub line: Line,
-    pub next: usize,
-}
+const RECORDING_LINE: &[u8] = b"(recording";
 
-// What reading carries from line to line: whether a line is left, and its place; where the reader stands; the line read last, and
-// the place of its word; and the run lines so far.
-#[derive(Clone, Copy)]
-pub struct Progress {
-    pub going: bool,
-    pub next: usize,
-    pub stage: Stage,
-    pub line: Line,
-    pub place: usize,
-    pub runs: usize,
-}
+const WEEK_LINE: &[u8] = b"(week";
+
+const CLOSING_LINE: &[u8] = b")";
 
 const WEEKS_AT_MOST: u32 = 53;
 
 const RUN_AT_MOST: u32 = 10080;
 
-// How many bytes stand before the first line end.
-fn line_length(text: &[u8]) -> usize
-    ensures { result ≡ line_length text.now }
-{
-    let mut i = 0;
-    while i < text.len() {
-        if text[i] == 10 {
-            return i;
-        }
-        i += 1;
-    }
-    i
-}
-
-// The number from 1 to 10080, without leading zeros, that stands before a last closing bracket; 0 for anything else.
-fn number_in(bytes: &[u8]) -> u32
-    ensures { result ≡ number_from 0 bytes.now }
-{
-    let mut value: u32 = 0;
-    let mut i = 0;
-    while i < bytes.len() {
-        let b = recording::wide(bytes[i]);
-        i += 1;
-        if b == 41 {
-            if i == bytes.len() {
-                return value;
-            }
-            return 0;
-        }
-        if b < 48 {
-            return 0;
-        }
-        if 57 < b {
-            return 0;
-        }
-        value = value * 10 + (b - 48);
-        if value == 0 {
-            return 0;
-        }
-        if RUN_AT_MOST < value {
-            return 0;
-        }
-    }
-    0
-}
-
-// The number after a name, or 0.
-fn number_after(name: &[u8], line: &[u8]) -> u32
-    ensures { result ≡ number_after name.now line.now }
-{
-    let mut i = 0;
-    while i < name.len() {
-        if i == line.len() {
-            return 0;
-        }
-        if line[i] != name[i] {
-            return 0;
-        }
-        i += 1;
-    }
-    number_in(&line[i..])
-}
-
-// The minutes of a run of this activity, or 0.
-fn run_minutes(line: &[u8], activity: u32) -> u32
-    ensures { result ≡ number_after (run_name activity) line.now }
+/// What stands before the minutes of a run.
+#[tactic(auto, unfolding(crate::specs::Form::run_name))]
+pub fn run_name(activity: Activity) -> &'static [u8]
+    ensures { result.now ≡ run_name (code_of activity) }
 {
     match activity {
-        0 => number_after(b"(rest ", line),
-        1 => number_after(b"(avail ", line),
-        2 => number_after(b"(work ", line),
-        3 | _ => number_after(b"(drive ", line),
+        Activity::Rest => b"(rest ",
+        Activity::Availability => b"(avail ",
+        Activity::OtherWork => b"(work ",
+        Activity::Driving => b"(drive ",
     }
+}
+
+// The number from 1 to 10080, without leading zeros, that stands before a last closing bracket.
+fn number_in(bytes: &[u8]) -> Option<u32>
+    ensures { result ≡ unless_0 (number_from 0 bytes.now) }
+{
+    let digits = bytes.strip_suffix(CLOSING_LINE)?;
+    let mut value = 0;
+    for &digit in digits {
+        if !digit.is_ascii_digit() {
+            return None;
+        }
+        value = value * 10 + u32::from(digit - b'0');
+        if value == 0 || value > RUN_AT_MOST {
+            return None;
+        }
+    }
+    (value != 0).then_some(value)
+}
+
+// The number after a name.
+fn number_after(name: &[u8], line: &[u8]) -> Option<u32>
+    ensures { result ≡ unless_0 (number_after name.now line.now) }
+{
+    number_in(line.strip_prefix(name)?)
 }
 
 // The word of a run.
-fn word_of(minutes: u32, activity: u32) -> u32
-    requires { (minutes ≤ run_at_most) × (activity < activities) }
-    ensures { result ≡ word_of minutes activity }
+fn word_of(minutes: u32, activity: Activity) -> u32
+    requires { minutes ≤ run_at_most }
+    ensures { result ≡ word_of minutes (code_of activity) }
 {
-    4 * minutes + activity
+    let code = match activity {
+        Activity::Rest => 0,
+        Activity::Availability => 1,
+        Activity::OtherWork => 2,
+        Activity::Driving => 3,
+    };
+    4 * minutes + code
+}
+
+// The word of a line that is a run of this activity.
+fn word_in(line: &[u8], activity: Activity) -> Option<u32>
+    ensures { result ≡ word_unless_0 (number_after (run_name (code_of activity)) line.now) (code_of activity) }
+{
+    let minutes = number_after(run_name(activity), line)?;
+    Some(word_of(minutes, activity))
+}
+
+// The run that a line is, if it is one. One question for each of the four names: no chain says it more plainly.
+fn run_of(line: &[u8]) -> Line
+    ensures { result ≡ run_or_other line.now }
+{
+    if let Some(word) = word_in(line, Activity::Rest) {
+        return Line::Run(word);
+    }
+    if let Some(word) = word_in(line, Activity::Availability) {
+        return Line::Run(word);
+    }
+    if let Some(word) = word_in(line, Activity::OtherWork) {
+        return Line::Run(word);
+    }
+    if let Some(word) = word_in(line, Activity::Driving) {
+        return Line::Run(word);
+    }
+    Line::Other
 }
 
 // What a line is.
 fn line_of(line: &[u8]) -> Line
     ensures { result ≡ line_of line.now }
 {
-    if check::same(line, b"(recording") {
+    if line == RECORDING_LINE {
         return Line::Recording;
     }
-    if check::same(line, b"(week") {
+    if line == WEEK_LINE {
         return Line::Week;
     }
-    if check::same(line, b")") {
+    if line == CLOSING_LINE {
         return Line::Closing;
     }
-    let resting = run_minutes(line, 0);
-    if resting != 0 {
-        return Line::Run(word_of(resting, 0));
-    }
-    let available = run_minutes(line, 1);
-    if available != 0 {
-        return Line::Run(word_of(available, 1));
-    }
-    let working = run_minutes(line, 2);
-    if working != 0 {
-        return Line::Run(word_of(working, 2));
-    }
-    let driving = run_minutes(line, 3);
-    if driving != 0 {
-        return Line::Run(word_of(driving, 3));
-    }
-    Line::Other
+    run_of(line)
 }
 
-// The first line of a text that has a byte; without a line end it is none of the form.
-fn first_line(text: &[u8]) -> Found
-    requires { 0 < length text.now }
-    ensures { FirstLine text.now result }
+// Where the first line end stands.
+fn line_end(text: &[u8]) -> Option<usize>
+    ensures { result ≡ position (λ byte. nat_eq byte line_end) text.now }
 {
-    let n = line_length(text);
-    if n == text.len() {
-        return Found {
-            line: Line::Other,
-            next: n,
-        };
-    }
-    let line = line_of(&text[..n]);
-    Found { line, next: n + 1 }
+    text.iter().position(|&byte| byte == b'\n')
 }
 
-// The recording's line stands at the beginning only.
-fn on_recording(s: Stage) -> Stage
-    ensures { result ≡ on_recording s }
+/// The first line of a text, and where the next one begins; a last line that has no end is none of the form.
+pub fn first_line(text: &[u8]) -> Option<(Line, usize)>
+    ensures { MatchOption result (text.now ≡ []) (λ found. FirstLine text.now found.0 found.1) }
 {
-    match s {
-        Stage::Before => Stage::Between(0, WEEKS_AT_MOST),
-        Stage::Between(_, _) => Stage::Wrong,
-        Stage::Within(_, _) => Stage::Wrong,
-        Stage::Over => Stage::Wrong,
-        Stage::Wrong => Stage::Wrong,
+    if text.is_empty() {
+        return None;
     }
+    let Some(n) = line_end(text) else {
+        return Some((Line::Other, text.len()));
+    };
+    Some((line_of(&text[..n]), n + 1))
 }
 
-// Another week begins after a full one only, and not after the twelfth.
-fn on_week(s: Stage) -> Stage
-    ensures { result ≡ on_week s }
-{
-    match s {
-        Stage::Before => Stage::Wrong,
-        Stage::Between(left, more) => {
-            if left != 0 {
-                return Stage::Wrong;
-            }
-            if more == 0 {
-                return Stage::Wrong;
-            }
-            Stage::Within(recording::WEEK_MINUTES, more - 1)
+impl Stage {
+    // The recording's line stands at the beginning only.
+    fn on_recording(self) -> Stage
+        ensures { result ≡ on_recording self }
+    {
+        match self {
+            Stage::Before => Stage::Between(0, WEEKS_AT_MOST),
+            Stage::Between(_, _) | Stage::Within(_, _) | Stage::Over | Stage::Wrong => Stage::Wrong,
         }
-        Stage::Within(_, _) => Stage::Wrong,
-        Stage::Over => Stage::Wrong,
-        Stage::Wrong => Stage::Wrong,
     }
-}
 
-// A run of n minutes stands within a week that can take it.
-fn on_run(n: u32, s: Stage) -> Stage
-    ensures { result ≡ on_run n s }
-{
-    match s {
-        Stage::Before => Stage::Wrong,
-        Stage::Between(_, _) => Stage::Wrong,
-        Stage::Within(left, more) => {
-            if left < n {
-                return Stage::Wrong;
+    // Another week begins after a full one only, and not after the last that may follow.
+    fn on_week(self) -> Stage
+        ensures { result ≡ on_week self }
+    {
+        match self {
+            Stage::Between(left, more) => {
+                if left != 0 || more == 0 {
+                    return Stage::Wrong;
+                }
+                Stage::Within(recording::WEEK_MINUTES, more - 1)
             }
-            Stage::Within(left - n, more)
+            Stage::Before | Stage::Within(_, _) | Stage::Over | Stage::Wrong => Stage::Wrong,
         }
-        Stage::Over => Stage::Wrong,
-        Stage::Wrong => Stage::Wrong,
     }
-}
 
-// A bracket closes a week that has a run, or the recording.
-fn on_closing(s: Stage) -> Stage
-    ensures { result ≡ on_closing s }
-{
-    match s {
-        Stage::Before => Stage::Wrong,
-        Stage::Between(_, _) => Stage::Over,
-        Stage::Within(left, more) => {
-            if left < recording::WEEK_MINUTES {
-                return Stage::Between(left, more);
+    // A run of n minutes stands within a week that can take it.
+    fn on_run(self, n: u32) -> Stage
+        ensures { result ≡ on_run n self }
+    {
+        match self {
+            Stage::Within(left, more) => {
+                if left < n {
+                    return Stage::Wrong;
+                }
+                Stage::Within(left - n, more)
             }
-            Stage::Wrong
+            Stage::Before | Stage::Between(_, _) | Stage::Over | Stage::Wrong => Stage::Wrong,
         }
-        Stage::Over => Stage::Wrong,
-        Stage::Wrong => Stage::Wrong,
     }
-}
 
-// Where the reader stands after a line.
-fn stage_after(s: Stage, line: Line) -> Stage
-    ensures { result ≡ stage_after s line }
-{
-    match line {
-        Line::Recording => on_recording(s),
-        Line::Week => on_week(s),
-        Line::Closing => on_closing(s),
-        Line::Run(word) => on_run(word / 4, s),
-        Line::Other => Stage::Wrong,
+    // A bracket closes a week that has a run, or the recording.
+    fn on_closing(self) -> Stage
+        ensures { result ≡ on_closing self }
+    {
+        match self {
+            Stage::Between(_, _) => Stage::Over,
+            Stage::Within(left, more) => {
+                if left < recording::WEEK_MINUTES {
+                    return Stage::Between(left, more);
+                }
+                Stage::Wrong
+            }
+            Stage::Before | Stage::Over | Stage::Wrong => Stage::Wrong,
+        }
     }
-}
 
-// Whether the recording was closed and nothing followed.
-pub fn is_over(s: Stage) -> bool
-    ensures { result ≡ is_over s }
-{
-    match s {
-        Stage::Before => false,
-        Stage::Between(_, _) => false,
-        Stage::Within(_, _) => false,
-        Stage::Over => true,
-        Stage::Wrong => false,
+    /// Where the reader stands after a line.
+    #[tactic(auto, unfolding(crate::specs::Reading::stage_after))]
+    pub fn after(self, line: Line) -> Stage
+        ensures { result ≡ stage_after self line }
+    {
+        match line {
+            Line::Recording => self.on_recording(),
+            Line::Week => self.on_week(),
+            Line::Closing => self.on_closing(),
+            Line::Run(word) => self.on_run(word / 4),
+            Line::Other => Stage::Wrong,
+        }
     }
-}
-
-// The words of a line: one of a run, none of another.
-fn words_in(line: Line) -> usize
-    ensures { result ≡ length (words_in line) }
-{
-    match line {
-        Line::Recording => 0,
-        Line::Week => 0,
-        Line::Closing => 0,
-        Line::Run(_) => 1,
-        Line::Other => 0,
-    }
-}
-
-// A line's word, if it has one, at a place.
-fn put_line(words: &mut [u32], at: usize, line: Line)
-    ensures { words.new ≡ sets words.old at (words_in line) }
-{
-    match line {
-        Line::Recording => (),
-        Line::Week => (),
-        Line::Closing => (),
-        Line::Run(word) => recording::put_word(words, at, word),
-        Line::Other => (),
-    }
-}
-
-// Before the first line.
-pub fn begin(text: &[u8]) -> Progress
-    ensures { result ≡ begun text.now }
-{
-    Progress {
-        going: 0 < text.len(),
-        next: 0,
-        stage: Stage::Before,
-        line: Line::Other,
-        place: 0,
-        runs: 0,
-    }
-}
-
-// The line at a place is read.
-pub fn line_at(text: &[u8], at: usize, p: Progress) -> Progress
-    requires { (at < length text.now) × (p.runs ≤ at) }
-    ensures { LineRead text.now at p result }
-{
-    let found = first_line(&text[at..]);
-    let line = found.line;
-    let next = at + found.next;
-    let before = p.stage;
-    let stage = stage_after(before, line);
-    let place = p.runs;
-    let runs = place + words_in(line);
-    Progress {
-        going: next < text.len(),
-        next,
-        stage,
-        line,
-        place,
-        runs,
-    }
-}
-
-// The word of the line that was read last, if it has one, at its place.
-pub fn put_last(words: &mut [u32], p: Progress)
-    ensures { words.new ≡ sets words.old p.place (words_in p.line) }
-{
-    let place = p.place;
-    let line = p.line;
-    put_line(words, place, line);
 }

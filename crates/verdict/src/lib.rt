@@ -1,18 +1,20 @@
 // Two operations on a recording: the verdict, a pass or a breach with its minute and article; and its first lawful reading.
 #![tactic(auto)]
 
-ghost use Rattle.std.specs.Prelude.{◌≡◌, ◌∷◌, ◌≤◌, length};
+ghost use Rattle.std.specs.Prelude.{◌≡◌, ◌^◌, ◌≤◌, length};
 ghost use Rattle.recording.specs.Words.{minutes_of};
-ghost use Rattle.recording.specs.Answers.{answered, counted, filled};
-ghost use Rattle.recording.specs.Operations.{total_at_most, measured, written};
+ghost use Rattle.recording.specs.Scan.{words_in};
+ghost use Rattle.recording.specs.Answers.{answered, counted, filled, answer_of};
+ghost use Rattle.recording.specs.Operations.{measured};
 ghost use Rattle.rules.specs.Verdict.{verdict};
 ghost use Rattle.rules.specs.Operations.{finding_of, verdict_given, first_reading_given};
 ghost use Rattle.verdict_judging.specs.Judgements.{finding_by};
 
-use recording::{Filling, Measure, Weighing};
-use verdict_judging::Judgement;
+use recording::{LONG_RESTS, Measure, Recording, Refusal, SHORT_RESTS};
+use verdict_judging::Verdict;
+use verdict_sweep::Fronts;
 
-// How many long rests are few, some, many or plenty; for so many there is a level of nogoods each, and room for some states in a front.
+/// How many long rests are few, some, many or plenty; for so many there is a level of nogoods each, and room for some states in a front.
 pub const FEW: u32 = 8;
 
 pub const FEW_NOGOODS: usize = FEW as usize * verdict_nogoods::LEVEL_WORDS;
@@ -37,396 +39,212 @@ pub const PLENTY_NOGOODS: usize = PLENTY as usize * verdict_nogoods::LEVEL_WORDS
 
 pub const PLENTY_STATES: usize = 1024 * verdict_nogoods::ENTRY_WORDS;
 
-// Any number of long rests: what is lent, four fronts and the nogoods, comes to 1 MiB at most.
+/// Any number of long rests: what is lent, four fronts and the nogoods, comes to 1 MiB at most.
 pub const MOST_NOGOODS: usize = verdict_nogoods::TABLE_WORDS;
 
 pub const MOST_STATES: usize = 1024 * verdict_nogoods::ENTRY_WORDS;
 
 // ---- the verdict
 
-// The verdict on a recording of so many minutes, no more than there may be, with room for its long rests by its length. The nogoods and the fronts are
-// room for the search, of any length. The recording is a first word, also one of no minutes, and then words.
+/// The verdict on a recording of so many minutes, with arrays for its long rests by its length. The nogoods and the fronts are room for the search, of any length.
 pub fn verdict_from(
-    head: u32,
-    words: &[u32],
+    recording: Recording,
     total: u32,
     nogoods: &mut [u32],
-    front: &mut [u32],
-    other: &mut [u32],
-) -> Judgement
-    requires { (length (minutes_of (head ∷ words.now)) ≤ total_at_most) × (total ≡ length (minutes_of (head ∷ words.now))) }
-    ensures { finding_by result ≡ answered (finding_of (verdict (minutes_of (head ∷ words.now)))) }
+    fronts: &mut Fronts,
+) -> Result<Verdict, Refusal>
+    requires { total ≡ length (minutes_of (words_in recording)) }
+    ensures { finding_by result ≡ answered (finding_of (verdict (minutes_of (words_in recording.entry)))) }
 {
     if total <= recording::SHORT_TOTAL {
-        let mut starts = [0u32; recording::SHORT_RESTS];
-        let mut ends = [0u32; recording::SHORT_RESTS];
-        let mut nets = [0u32; recording::SHORT_RESTS];
-        return verdict_judging::verdict_among(
-            head,
-            words,
-            total,
-            &mut starts,
-            &mut ends,
-            &mut nets,
-            nogoods,
-            front,
-            other,
-        );
+        return verdict_judging::verdict_among::<SHORT_RESTS>(recording, total, nogoods, fronts);
     }
-    let mut starts = [0u32; recording::LONG_RESTS];
-    let mut ends = [0u32; recording::LONG_RESTS];
-    let mut nets = [0u32; recording::LONG_RESTS];
-    verdict_judging::verdict_among(
-        head,
-        words,
-        total,
-        &mut starts,
-        &mut ends,
-        &mut nets,
-        nogoods,
-        front,
-        other,
-    )
+    verdict_judging::verdict_among::<LONG_RESTS>(recording, total, nogoods, fronts)
 }
 
-// The same for words with this measure.
+// The verdict on words with this measure.
 fn verdict_within(
     words: &[u32],
     measure: Measure,
     nogoods: &mut [u32],
-    front: &mut [u32],
-    other: &mut [u32],
-) -> Judgement
+    fronts: &mut Fronts,
+) -> Result<Verdict, Refusal>
     requires { measured words.now ≡ answered measure }
     ensures { finding_by result ≡ verdict_given words.now }
 {
-    verdict_from(0, words, measure.total, nogoods, front, other)
+    let recording = Recording { head: 0, words };
+    verdict_from(recording, measure.total, nogoods, fronts)
 }
 
-// The same with room for few long rests.
-fn verdict_of_few(words: &[u32], measure: Measure) -> Judgement
-    requires { measured words.now ≡ answered measure }
+// The same with room of so many words for the nogoods and for each front.
+fn verdict_with<const NOGOODS: usize, const STATES: usize>(
+    words: &[u32],
+    measure: Measure,
+) -> Result<Verdict, Refusal>
+    requires measure { measured words.now ≡ answered measure }
+    requires small { (NOGOODS ≤ 2 ^ 20) × (STATES ≤ 2 ^ 20) }
     ensures { finding_by result ≡ verdict_given words.now }
 {
-    let mut nogoods = [0u32; FEW_NOGOODS];
-    let mut front = [0u32; FEW_STATES];
-    let mut other = [0u32; FEW_STATES];
-    verdict_within(words, measure, &mut nogoods, &mut front, &mut other)
-}
-
-// The same with room for some long rests.
-fn verdict_of_some(words: &[u32], measure: Measure) -> Judgement
-    requires { measured words.now ≡ answered measure }
-    ensures { finding_by result ≡ verdict_given words.now }
-{
-    let mut nogoods = [0u32; SOME_NOGOODS];
-    let mut front = [0u32; SOME_STATES];
-    let mut other = [0u32; SOME_STATES];
-    verdict_within(words, measure, &mut nogoods, &mut front, &mut other)
-}
-
-// The same with room for many long rests.
-fn verdict_of_many(words: &[u32], measure: Measure) -> Judgement
-    requires { measured words.now ≡ answered measure }
-    ensures { finding_by result ≡ verdict_given words.now }
-{
-    let mut nogoods = [0u32; MANY_NOGOODS];
-    let mut front = [0u32; MANY_STATES];
-    let mut other = [0u32; MANY_STATES];
-    verdict_within(words, measure, &mut nogoods, &mut front, &mut other)
-}
-
-// The same with room for plenty of long rests.
-fn verdict_of_plenty(words: &[u32], measure: Measure) -> Judgement
-    requires { measured words.now ≡ answered measure }
-    ensures { finding_by result ≡ verdict_given words.now }
-{
-    let mut nogoods = [0u32; PLENTY_NOGOODS];
-    let mut front = [0u32; PLENTY_STATES];
-    let mut other = [0u32; PLENTY_STATES];
-    verdict_within(words, measure, &mut nogoods, &mut front, &mut other)
-}
-
-// The same with room for as many long rests as there can be.
-fn verdict_of_most(words: &[u32], measure: Measure) -> Judgement
-    requires { measured words.now ≡ answered measure }
-    ensures { finding_by result ≡ verdict_given words.now }
-{
-    let mut nogoods = [0u32; MOST_NOGOODS];
-    let mut front = [0u32; MOST_STATES];
-    let mut other = [0u32; MOST_STATES];
-    verdict_within(words, measure, &mut nogoods, &mut front, &mut other)
+    let mut nogoods = [0u32; NOGOODS];
+    let mut fronts = Fronts {
+        front: &mut [0u32; STATES],
+        other: &mut [0u32; STATES],
+        states: 0,
+    };
+    verdict_within(words, measure, &mut nogoods, &mut fronts)
 }
 
 // The same with room by the number of long rests, so that a short recording does not bear the cost of what a long one needs.
-fn verdict_in_room(words: &[u32], measure: Measure) -> Judgement
+fn verdict_in_room(words: &[u32], measure: Measure) -> Result<Verdict, Refusal>
     requires { measured words.now ≡ answered measure }
     ensures { finding_by result ≡ verdict_given words.now }
 {
-    let count = measure.count;
-    if count <= FEW {
-        return verdict_of_few(words, measure);
+    if measure.count <= FEW {
+        return verdict_with::<FEW_NOGOODS, FEW_STATES>(words, measure);
     }
-    if count <= SOME {
-        return verdict_of_some(words, measure);
+    if measure.count <= SOME {
+        return verdict_with::<SOME_NOGOODS, SOME_STATES>(words, measure);
     }
-    if count <= MANY {
-        return verdict_of_many(words, measure);
+    if measure.count <= MANY {
+        return verdict_with::<MANY_NOGOODS, MANY_STATES>(words, measure);
     }
-    if count <= PLENTY {
-        return verdict_of_plenty(words, measure);
+    if measure.count <= PLENTY {
+        return verdict_with::<PLENTY_NOGOODS, PLENTY_STATES>(words, measure);
     }
-    verdict_of_most(words, measure)
+    verdict_with::<MOST_NOGOODS, MOST_STATES>(words, measure)
 }
 
-// The verdict: refusals 1 and 2.
-pub fn verdict(words: &[u32]) -> Judgement
+/// The verdict, or weighing's refusal.
+pub fn verdict(words: &[u32]) -> Result<Verdict, Refusal>
     ensures { finding_by result ≡ verdict_given words.now }
 {
     let weighing = recording::weigh(words);
-    let Weighing::Weighed(measure) = weighing else {
-        return Judgement::Refused(recording::refusal_of(weighing));
+    let Ok(measure) = weighing else {
+        return Err(weighing.unwrap_err());
     };
     verdict_in_room(words, measure)
 }
 
-// The same with room for the search that the caller lends, of any length.
+/// The same with room for the search that the caller lends, of any length.
 pub fn verdict_lent(
     words: &[u32],
     nogoods: &mut [u32],
-    front: &mut [u32],
-    other: &mut [u32],
-) -> Judgement
+    fronts: &mut Fronts,
+) -> Result<Verdict, Refusal>
     ensures { finding_by result ≡ verdict_given words.now }
 {
     let weighing = recording::weigh(words);
-    let Weighing::Weighed(measure) = weighing else {
-        return Judgement::Refused(recording::refusal_of(weighing));
+    let Ok(measure) = weighing else {
+        return Err(weighing.unwrap_err());
     };
-    verdict_within(words, measure, nogoods, front, other)
+    verdict_within(words, measure, nogoods, fronts)
 }
 
 // ---- the first lawful reading
 
-// The first lawful reading of a recording with this measure, with room for its long rests by its length. The nogoods and the four fronts are room for the
+// The first lawful reading of words with this measure, with arrays for their long rests by their length. The nogoods and the four fronts are room for the
 // search, of any length.
 fn reading_within(
     words: &[u32],
     measure: Measure,
     reading: &mut [u8],
     nogoods: &mut [u32],
-    front: &mut [u32],
-    other: &mut [u32],
+    fronts: &mut Fronts,
     known: &mut [u32],
     beside: &mut [u32],
-) -> Filling
+) -> Result<u32, Refusal>
     requires { measured words.now ≡ answered measure }
-    ensures answer { written result ≡ counted (first_reading_given words.now (length reading.old)) }
+    ensures answer { answer_of result ≡ counted (first_reading_given words.now (length reading.old)) }
     ensures reading_after { reading.new ≡ filled (first_reading_given words.now (length reading.old)) reading.old }
 {
     if measure.total <= recording::SHORT_TOTAL {
-        let mut starts = [0u32; recording::SHORT_RESTS];
-        let mut ends = [0u32; recording::SHORT_RESTS];
-        let mut nets = [0u32; recording::SHORT_RESTS];
-        return verdict_reading::reading_among(
-            words,
-            measure,
-            reading,
-            &mut starts,
-            &mut ends,
-            &mut nets,
-            nogoods,
-            front,
-            other,
-            known,
-            beside,
+        return verdict_reading::reading_among::<SHORT_RESTS>(
+            words, measure, reading, nogoods, fronts, known, beside,
         );
     }
-    let mut starts = [0u32; recording::LONG_RESTS];
-    let mut ends = [0u32; recording::LONG_RESTS];
-    let mut nets = [0u32; recording::LONG_RESTS];
-    verdict_reading::reading_among(
-        words,
-        measure,
-        reading,
-        &mut starts,
-        &mut ends,
-        &mut nets,
-        nogoods,
-        front,
-        other,
-        known,
-        beside,
+    verdict_reading::reading_among::<LONG_RESTS>(
+        words, measure, reading, nogoods, fronts, known, beside,
     )
 }
 
-// The same with room for few long rests.
-fn reading_of_few(words: &[u32], measure: Measure, reading: &mut [u8]) -> Filling
-    requires { measured words.now ≡ answered measure }
-    ensures answer { written result ≡ counted (first_reading_given words.now (length reading.old)) }
+// The same with room of so many words for the nogoods and for each front.
+fn reading_with<const NOGOODS: usize, const STATES: usize>(
+    words: &[u32],
+    measure: Measure,
+    reading: &mut [u8],
+) -> Result<u32, Refusal>
+    requires measure { measured words.now ≡ answered measure }
+    requires small { (NOGOODS ≤ 2 ^ 20) × (STATES ≤ 2 ^ 20) }
+    ensures answer { answer_of result ≡ counted (first_reading_given words.now (length reading.old)) }
     ensures reading_after { reading.new ≡ filled (first_reading_given words.now (length reading.old)) reading.old }
 {
-    let mut nogoods = [0u32; FEW_NOGOODS];
-    let mut front = [0u32; FEW_STATES];
-    let mut other = [0u32; FEW_STATES];
-    let mut known = [0u32; FEW_STATES];
-    let mut beside = [0u32; FEW_STATES];
+    let mut nogoods = [0u32; NOGOODS];
+    let mut fronts = Fronts {
+        front: &mut [0u32; STATES],
+        other: &mut [0u32; STATES],
+        states: 0,
+    };
+    let mut known = [0u32; STATES];
+    let mut beside = [0u32; STATES];
     reading_within(
         words,
         measure,
         reading,
         &mut nogoods,
-        &mut front,
-        &mut other,
-        &mut known,
-        &mut beside,
-    )
-}
-
-// The same with room for some long rests.
-fn reading_of_some(words: &[u32], measure: Measure, reading: &mut [u8]) -> Filling
-    requires { measured words.now ≡ answered measure }
-    ensures answer { written result ≡ counted (first_reading_given words.now (length reading.old)) }
-    ensures reading_after { reading.new ≡ filled (first_reading_given words.now (length reading.old)) reading.old }
-{
-    let mut nogoods = [0u32; SOME_NOGOODS];
-    let mut front = [0u32; SOME_STATES];
-    let mut other = [0u32; SOME_STATES];
-    let mut known = [0u32; SOME_STATES];
-    let mut beside = [0u32; SOME_STATES];
-    reading_within(
-        words,
-        measure,
-        reading,
-        &mut nogoods,
-        &mut front,
-        &mut other,
-        &mut known,
-        &mut beside,
-    )
-}
-
-// The same with room for many long rests.
-fn reading_of_many(words: &[u32], measure: Measure, reading: &mut [u8]) -> Filling
-    requires { measured words.now ≡ answered measure }
-    ensures answer { written result ≡ counted (first_reading_given words.now (length reading.old)) }
-    ensures reading_after { reading.new ≡ filled (first_reading_given words.now (length reading.old)) reading.old }
-{
-    let mut nogoods = [0u32; MANY_NOGOODS];
-    let mut front = [0u32; MANY_STATES];
-    let mut other = [0u32; MANY_STATES];
-    let mut known = [0u32; MANY_STATES];
-    let mut beside = [0u32; MANY_STATES];
-    reading_within(
-        words,
-        measure,
-        reading,
-        &mut nogoods,
-        &mut front,
-        &mut other,
-        &mut known,
-        &mut beside,
-    )
-}
-
-// The same with room for plenty of long rests.
-fn reading_of_plenty(words: &[u32], measure: Measure, reading: &mut [u8]) -> Filling
-    requires { measured words.now ≡ answered measure }
-    ensures answer { written result ≡ counted (first_reading_given words.now (length reading.old)) }
-    ensures reading_after { reading.new ≡ filled (first_reading_given words.now (length reading.old)) reading.old }
-{
-    let mut nogoods = [0u32; PLENTY_NOGOODS];
-    let mut front = [0u32; PLENTY_STATES];
-    let mut other = [0u32; PLENTY_STATES];
-    let mut known = [0u32; PLENTY_STATES];
-    let mut beside = [0u32; PLENTY_STATES];
-    reading_within(
-        words,
-        measure,
-        reading,
-        &mut nogoods,
-        &mut front,
-        &mut other,
-        &mut known,
-        &mut beside,
-    )
-}
-
-// The same with room for as many long rests as there can be.
-fn reading_of_most(words: &[u32], measure: Measure, reading: &mut [u8]) -> Filling
-    requires { measured words.now ≡ answered measure }
-    ensures answer { written result ≡ counted (first_reading_given words.now (length reading.old)) }
-    ensures reading_after { reading.new ≡ filled (first_reading_given words.now (length reading.old)) reading.old }
-{
-    let mut nogoods = [0u32; MOST_NOGOODS];
-    let mut front = [0u32; MOST_STATES];
-    let mut other = [0u32; MOST_STATES];
-    let mut known = [0u32; MOST_STATES];
-    let mut beside = [0u32; MOST_STATES];
-    reading_within(
-        words,
-        measure,
-        reading,
-        &mut nogoods,
-        &mut front,
-        &mut other,
+        &mut fronts,
         &mut known,
         &mut beside,
     )
 }
 
 // The same with room by the number of long rests.
-fn reading_in_room(words: &[u32], measure: Measure, reading: &mut [u8]) -> Filling
+fn reading_in_room(words: &[u32], measure: Measure, reading: &mut [u8]) -> Result<u32, Refusal>
     requires { measured words.now ≡ answered measure }
-    ensures answer { written result ≡ counted (first_reading_given words.now (length reading.old)) }
+    ensures answer { answer_of result ≡ counted (first_reading_given words.now (length reading.old)) }
     ensures reading_after { reading.new ≡ filled (first_reading_given words.now (length reading.old)) reading.old }
 {
-    let count = measure.count;
-    if count <= FEW {
-        return reading_of_few(words, measure, reading);
+    if measure.count <= FEW {
+        return reading_with::<FEW_NOGOODS, FEW_STATES>(words, measure, reading);
     }
-    if count <= SOME {
-        return reading_of_some(words, measure, reading);
+    if measure.count <= SOME {
+        return reading_with::<SOME_NOGOODS, SOME_STATES>(words, measure, reading);
     }
-    if count <= MANY {
-        return reading_of_many(words, measure, reading);
+    if measure.count <= MANY {
+        return reading_with::<MANY_NOGOODS, MANY_STATES>(words, measure, reading);
     }
-    if count <= PLENTY {
-        return reading_of_plenty(words, measure, reading);
+    if measure.count <= PLENTY {
+        return reading_with::<PLENTY_NOGOODS, PLENTY_STATES>(words, measure, reading);
     }
-    reading_of_most(words, measure, reading)
+    reading_with::<MOST_NOGOODS, MOST_STATES>(words, measure, reading)
 }
 
-// The first lawful reading: refusals 1 and 2, then 4, then 13 where the verdict is a breach; or the count of its bytes.
-pub fn first_reading(words: &[u32], reading: &mut [u8]) -> Filling
-    ensures answer { written result ≡ counted (first_reading_given words.now (length reading.old)) }
+/// The first lawful reading, and the count of its bytes; or weighing's refusal, then that of too few bytes, and then that of a breach.
+pub fn first_reading(words: &[u32], reading: &mut [u8]) -> Result<u32, Refusal>
+    ensures answer { answer_of result ≡ counted (first_reading_given words.now (length reading.old)) }
     ensures reading_after { reading.new ≡ filled (first_reading_given words.now (length reading.old)) reading.old }
 {
     let weighing = recording::weigh(words);
-    let Weighing::Weighed(measure) = weighing else {
-        return Filling::Refused(recording::refusal_of(weighing));
+    let Ok(measure) = weighing else {
+        return Err(weighing.unwrap_err());
     };
     reading_in_room(words, measure, reading)
 }
 
-// The same with room for the search that the caller lends, of any length.
+/// The same with room for the search that the caller lends, of any length.
 pub fn first_reading_lent(
     words: &[u32],
     reading: &mut [u8],
     nogoods: &mut [u32],
-    front: &mut [u32],
-    other: &mut [u32],
+    fronts: &mut Fronts,
     known: &mut [u32],
     beside: &mut [u32],
-) -> Filling
-    ensures answer { written result ≡ counted (first_reading_given words.now (length reading.old)) }
+) -> Result<u32, Refusal>
+    ensures answer { answer_of result ≡ counted (first_reading_given words.now (length reading.old)) }
     ensures reading_after { reading.new ≡ filled (first_reading_given words.now (length reading.old)) reading.old }
 {
     let weighing = recording::weigh(words);
-    let Weighing::Weighed(measure) = weighing else {
-        return Filling::Refused(recording::refusal_of(weighing));
+    let Ok(measure) = weighing else {
+        return Err(weighing.unwrap_err());
     };
-    reading_within(
-        words, measure, reading, nogoods, front, other, known, beside,
-    )
+    reading_within(words, measure, reading, nogoods, fronts, known, beside)
 }

@@ -1,9 +1,9 @@
 -- What the walk over the words keeps that looks for the next minute that is not rest. Assumes nothing.
-use mathlib.Core.Path.{◌≡◌, refl, sym, ap, subst, ◌∙◌}
+use mathlib.Core.Path.{◌≡◌, refl, sym, ap, ap₂, subst, ◌∙◌}
 use mathlib.Core.Bool.{Bool, true, false}
 use mathlib.Core.Logic.{◌⊎◌, inl, inr}
 use mathlib.Core.List.{List, ◌∷◌, ◌++◌}
-use Prim.Native.Nat.{ℕ, zero, suc, ◌+◌, ◌-◌, ◌≤◌, ◌<◌, min}
+use Prim.Native.Nat.{ℕ, zero, suc, ◌+◌, ◌-◌, ◌≤◌, ◌<◌, min, max}
 use native.Mathlib.Numerals.{add-one}
 use native.Mathlib.Omega.{arith}
 use lib.Dec.{ltb}
@@ -11,20 +11,27 @@ use lib.ListN.{length, get_or, drop, replicate, length-append, length-replicate,
 use lib.Seq.{drop-cons, drop-length, get_or-append-add}
 use borrow.Author.Tests.{lt-ltb, le-ltb, ltb-true, ltb-false}
 use Rattle.recording.specs.Tests.{pick}
-use Rattle.recording.specs.Words.{rest, minutes_in, activity_in, minutes_of}
+use Rattle.std.proofs.Common.{Option, Some, None}
+use Rattle.recording.specs.Words.{rest, minutes_in, activity_in, minutes_of, code_of, IsRunOf}
+use Rattle.recording.specs.declared.Run.{Run}
+use Rattle.recording.specs.declared.Activity.{Activity}
+use Rattle.recording.specs.declared.Activity.TheVariants.{Availability, OtherWork, Driving}
 use Rattle.recording.proofs.TestLaws.{less_or_not}
 use Rattle.recording.proofs.Scanning.{next_word}
-use Rattle.verdict_breach.specs.Verdicts.{later_of, active_in, NextActive}
+use Rattle.verdict_breach.specs.Verdicts.{active_in, NextActive}
 
 -- ---- a run that is not rest: its first stretch from x on, or none
-module _ (first from to x : ℕ) (e : first ≡ later_of (from + 1) x) where
-  pub active_none : (a : ℕ) → (a ≡ rest → ⊥) → to < first → 0 ≡ active_in a from to x
-  active_none zero busy l = absurd (busy refl)
-  active_none (suc a) busy l = rw (lt-ltb to (later_of (from + 1) x) (omega arith)) refl
+busy_code : {a : Activity} → (a ≡ Availability) ⊎ (a ≡ OtherWork) ⊎ (a ≡ Driving) → (n : ℕ) × (code_of a ≡ suc n)
+busy_code (inl e) = (0, ap code_of e)
+busy_code (inr (inl e)) = (1, ap code_of e)
+busy_code (inr (inr e)) = (2, ap code_of e)
 
-  pub active_some : (a : ℕ) → (a ≡ rest → ⊥) → first ≤ to → first ≡ active_in a from to x
-  active_some zero busy l = absurd (busy refl)
-  active_some (suc a) busy l = rw (le-ltb to (later_of (from + 1) x) (omega arith)) e
+module _ {a : Activity} (busy : (a ≡ Availability) ⊎ (a ≡ OtherWork) ⊎ (a ≡ Driving)) (from to x : ℕ) where
+  pub active_none : to < max x (from + 1) → None ≡ active_in (code_of a) from to x
+  active_none l = rw ((busy_code busy).1, lt-ltb to (max x (from + 1)) l) refl
+
+  pub active_some : max x (from + 1) ≤ to → Some (max x (from + 1)) ≡ active_in (code_of a) from to x
+  active_some l = rw ((busy_code busy).1, le-ltb to (max x (from + 1)) l) refl
 
 -- ---- the walk: before the word of index i, which begins at the minute `now`: the minutes from x - 1 on were rest
 pub record Ahead (ws : List ℕ) (x now i : ℕ) : Type 0 where
@@ -80,32 +87,37 @@ module _ {ws : List ℕ} {x now i : ℕ} (k : Ahead ws x now i) (h : i < length 
       earlier j l (inr g) = f j g l
 
   -- the word holds no such stretch: it is rest, or ends before x
-  none_there : (a : ℕ) → activity_in (get_or ws i 0) ≡ a → active_in a now (now + minutes_in (get_or ws i 0)) x ≡ 0 → Ahead ws x (now + minutes_in (get_or ws i 0)) (i + 1)
+  none_there : (a : ℕ) → activity_in (get_or ws i 0) ≡ a → active_in a now (now + minutes_in (get_or ws i 0)) x ≡ None → Ahead ws x (now + minutes_in (get_or ws i 0)) (i + 1)
   none_there zero e z = ahead_on (λ j l g q. in_run j l g ∙ e)
-  none_there (suc a) e z = short (ltb (now + minutes_in (get_or ws i 0)) (later_of (now + 1) x)) refl z
+  none_there (suc a) e z = short (ltb (now + minutes_in (get_or ws i 0)) (max x (now + 1))) refl z
     where
-      short : (b : Bool) → ltb (now + minutes_in (get_or ws i 0)) (later_of (now + 1) x) ≡ b → pick b 0 (later_of (now + 1) x) ≡ 0 → Ahead ws x (now + minutes_in (get_or ws i 0)) (i + 1)
-      short true t z = ahead_on (λ j g q r. absurd (omega (arith, ltb-true (now + minutes_in (get_or ws i 0)) (later_of (now + 1) x) t)))
-      short false t z = absurd (omega arith)
+      short : (b : Bool) → ltb (now + minutes_in (get_or ws i 0)) (max x (now + 1)) ≡ b → pick b None (Some (max x (now + 1))) ≡ None → Ahead ws x (now + minutes_in (get_or ws i 0)) (i + 1)
+      short true t z = ahead_on (λ j g q r. absurd (omega (arith, ltb-true (now + minutes_in (get_or ws i 0)) (max x (now + 1)) t)))
+      short false t z = cc
 
   -- or its first one is r
-  some_there : {r : ℕ} (a : ℕ) → activity_in (get_or ws i 0) ≡ a → r ≡ active_in a now (now + minutes_in (get_or ws i 0)) x → (r ≡ 0 → ⊥)
-      → (a ≡ rest → ⊥) × (r ≡ later_of (now + 1) x) × (r ≤ now + minutes_in (get_or ws i 0))
-  some_there zero e q f = absurd (f q)
-  some_there {r} (suc a) e q f = there (ltb (now + minutes_in (get_or ws i 0)) (later_of (now + 1) x)) refl q
+  some_there : {r : ℕ} (a : ℕ) → activity_in (get_or ws i 0) ≡ a → Some r ≡ active_in a now (now + minutes_in (get_or ws i 0)) x
+      → (a ≡ rest → ⊥) × (r ≡ max x (now + 1)) × (r ≤ now + minutes_in (get_or ws i 0))
+  some_there zero e q = cc
+  some_there {r} (suc a) e q = there (ltb (now + minutes_in (get_or ws i 0)) (max x (now + 1))) refl q
     where
-      there : (b : Bool) → ltb (now + minutes_in (get_or ws i 0)) (later_of (now + 1) x) ≡ b → r ≡ pick b 0 (later_of (now + 1) x)
-          → (suc a ≡ rest → ⊥) × (r ≡ later_of (now + 1) x) × (r ≤ now + minutes_in (get_or ws i 0))
-      there true t q = absurd (f q)
-      there false t q = (λ z. absurd (omega (arith, z)), q, omega (arith, ltb-false (now + minutes_in (get_or ws i 0)) (later_of (now + 1) x) t, q))
+      there : (b : Bool) → ltb (now + minutes_in (get_or ws i 0)) (max x (now + 1)) ≡ b → Some r ≡ pick b None (Some (max x (now + 1)))
+          → (suc a ≡ rest → ⊥) × (r ≡ max x (now + 1)) × (r ≤ now + minutes_in (get_or ws i 0))
+      there true t q = cc
+      there false t q =
+          let s : r ≡ max x (now + 1) = cc in
+          (λ z. absurd (omega (arith, z)), s, omega (arith, ltb-false (now + minutes_in (get_or ws i 0)) (max x (now + 1)) t, s))
 
-  module _ {found : ℕ} (e : found ≡ active_in (activity_in (get_or ws i 0)) now (now + minutes_in (get_or ws i 0)) x) where
-    rest_on : found ≡ 0 → Ahead ws x (now + minutes_in (get_or ws i 0)) (i + 1)
-    rest_on z = none_there (activity_in (get_or ws i 0)) refl (sym e ∙ z)
+  module _ {run : Run} (w : IsRunOf (get_or ws i 0) run) {found : Option ℕ} (e : found ≡ active_in (code_of run.activity) now (now + run.minutes) x) where
+    as_word : found ≡ active_in (activity_in (get_or ws i 0)) now (now + minutes_in (get_or ws i 0)) x
+    as_word = e ∙ ap₂ (λ (a n : ℕ). active_in a now (now + n) x) w.activity w.minutes
 
-    active_there : {bound r : ℕ} → x ≤ bound → (found ≡ 0 → ⊥) → r ≡ min found bound → NextActive (minutes_of ws) x bound r
-    active_there limit f q =
-        let s = some_there (activity_in (get_or ws i 0)) refl e f in
+    rest_on : found ≡ None → Ahead ws x (now + run.minutes) (i + 1)
+    rest_on z = subst (λ (n : ℕ). Ahead ws x (now + n) (i + 1)) (sym w.minutes) (none_there (activity_in (get_or ws i 0)) refl (sym as_word ∙ z))
+
+    active_there : {bound there r : ℕ} → found ≡ Some there → x ≤ bound → r ≡ min there bound → NextActive (minutes_of ws) x bound r
+    active_there z limit q =
+        let s = some_there (activity_in (get_or ws i 0)) refl (sym z ∙ as_word) in
         record {
           from = omega (arith, s.1);
           within = omega arith;
@@ -120,26 +132,28 @@ all_rested {ws} {x} {now} {i} k e l h =
     record { from = l; within = omega arith; resting = λ j g q. k.rested j (omega (arith, k.room)) g; active = λ g. absurd (omega arith) }
 
 -- ---- the first word, and the next one where the first stands apart
-module _ (w : ℕ) (ws : List ℕ) (x : ℕ) {found : ℕ} (e : found ≡ active_in (activity_in w) 0 (minutes_in w) x) where
-  from_none : 0 + minutes_in w ≡ minutes_in w
-  from_none = omega arith
+from_none : (n : ℕ) → 0 + n ≡ n
+from_none n = omega arith
 
-  there : found ≡ active_in (activity_in w) 0 (0 + minutes_in w) x
-  there = e ∙ ap (λ (n : ℕ). active_in (activity_in w) 0 n x) (sym from_none)
+from_start : (a n x : ℕ) → active_in a 0 n x ≡ active_in a 0 (0 + n) x
+from_start a n x = ap (λ (m : ℕ). active_in a 0 m x) (sym (from_none n))
 
-  pub first_on : found ≡ 0 → Ahead (w ∷ ws) x (minutes_in w) 1
-  first_on z = subst (λ (n : ℕ). Ahead (w ∷ ws) x n 1) from_none (rest_on (start_ahead (w ∷ ws) x) (omega arith) there z)
+pub first_on : {w x : ℕ} {ws : List ℕ} {run : Run} {found : Option ℕ} → IsRunOf w run → found ≡ active_in (code_of run.activity) 0 run.minutes x → found ≡ None
+    → Ahead (w ∷ ws) x run.minutes 1
+first_on {w} {x} {ws} {run} r e z =
+    subst (λ (n : ℕ). Ahead (w ∷ ws) x n 1) (from_none run.minutes) (rest_on (start_ahead (w ∷ ws) x) (omega arith) r (e ∙ from_start (code_of run.activity) run.minutes x) z)
 
-  pub first_active : {bound r : ℕ} → x ≤ bound → (found ≡ 0 → ⊥) → r ≡ min found bound → NextActive (minutes_of (w ∷ ws)) x bound r
-  first_active = active_there (start_ahead (w ∷ ws) x) (omega arith) there
+pub first_active : (w : ℕ) (ws : List ℕ) {x bound there r : ℕ} {run : Run} {found : Option ℕ} → IsRunOf w run → found ≡ active_in (code_of run.activity) 0 run.minutes x
+    → found ≡ Some there → x ≤ bound → r ≡ min there bound → NextActive (minutes_of (w ∷ ws)) x bound r
+first_active w ws {x} {run = run} r e = active_there (start_ahead (w ∷ ws) x) (omega arith) r (e ∙ from_start (code_of run.activity) run.minutes x)
 
-module _ {w : ℕ} {ws : List ℕ} {x now i : ℕ} (k : Ahead (w ∷ ws) x now (suc i)) (h : i < length ws) where
-  pub next_room : now + minutes_in (get_or ws i 0) ≤ length (minutes_of (w ∷ ws))
-  next_room = omega (arith, room_there k (omega arith))
+module _ {w : ℕ} {ws : List ℕ} {x now i : ℕ} (k : Ahead (w ∷ ws) x now (suc i)) (h : i < length ws) {run : Run} (r : IsRunOf (get_or ws i 0) run) where
+  pub next_room : now + run.minutes ≤ length (minutes_of (w ∷ ws))
+  next_room = omega (arith, room_there k (omega arith), r.minutes)
 
-  module _ {found : ℕ} (e : found ≡ active_in (activity_in (get_or ws i 0)) now (now + minutes_in (get_or ws i 0)) x) where
-    pub next_on : found ≡ 0 → Ahead (w ∷ ws) x (now + minutes_in (get_or ws i 0)) (suc (i + 1))
-    next_on z = subst (λ (n : ℕ). Ahead (w ∷ ws) x (now + minutes_in (get_or ws i 0)) n) (next_word i) (rest_on k (omega arith) e z)
+  module _ {found : Option ℕ} (e : found ≡ active_in (code_of run.activity) now (now + run.minutes) x) where
+    pub next_on : found ≡ None → Ahead (w ∷ ws) x (now + run.minutes) (suc (i + 1))
+    next_on z = subst (λ (n : ℕ). Ahead (w ∷ ws) x (now + run.minutes) n) (next_word i) (rest_on k (omega arith) r e z)
 
-    pub next_there : {bound r : ℕ} → x ≤ bound → (found ≡ 0 → ⊥) → r ≡ min found bound → NextActive (minutes_of (w ∷ ws)) x bound r
-    next_there = active_there k (omega arith) e
+    pub next_there : {bound there r : ℕ} → found ≡ Some there → x ≤ bound → r ≡ min there bound → NextActive (minutes_of (w ∷ ws)) x bound r
+    next_there = active_there k (omega arith) r e

@@ -19,7 +19,7 @@ use Rattle.recording.proofs.LongRests.{long_busy, rests_ordered}
 use Rattle.rules.specs.Verdict.{prefix}
 use Rattle.rules_nets.specs.Nets.{nets_of}
 use Rattle.rules_fixed.proofs.NetLaws.{all_numbered, first_nets}
-use Rattle.rules_reading.proofs.LaterLaws.{nowhere}
+use Rattle.rules_items.proofs.SpanLaws.{nowhere}
 use Rattle.verdict_breach.proofs.Lawfulness.{neighbours}
 
 -- ---- the long rests past a stretch end there or later

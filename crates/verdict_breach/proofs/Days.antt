@@ -8,9 +8,8 @@ use native.Mathlib.Nat.{eq-or-lt_of_le}
 use native.Mathlib.Omega.{arith}
 use lib.ListN.{length, take}
 use lib.Seq.{length-take-le, get_or-take}
-use Rattle.verdict_completion.specs.Completable.{at, Lies}
-use Rattle.verdict_choosing.specs.First.{rests_only}
-use Rattle.verdict_breach.specs.Verdicts.{HasKept, Some, first_rests, day_start, DayReadable}
+use Rattle.verdict_completion.specs.Completable.{at, Lies, rests_only}
+use Rattle.verdict_breach.specs.Verdicts.{HasKept, SaysWhether, first_rests, day_start, DayReadable}
 
 module _ {starts ends nets : List ℕ} {most : ℕ} (l : Lies (rests_only starts ends nets most)) where
   pub ends_low : (i : ℕ) → i < length ends → at ends i ≤ most
@@ -68,7 +67,7 @@ module _ (starts ends nets : List ℕ) {bound n from : ℕ} (e : from ≡ day_st
   pub over_bound : bound ≤ from → DayReadable starts ends nets bound n false
   over_bound l = record { yes = λ t. absurd (false≢true t); no = λ t h. absurd (omega arith) }
 
-  pub day_asked : from < bound → {r : Bool} → Some (first_rests starts ends nets n from) r → DayReadable starts ends nets bound n r
+  pub day_asked : from < bound → {r : Bool} → SaysWhether (first_rests starts ends nets n from) r → DayReadable starts ends nets bound n r
   day_asked l {r} s = record {
     yes = λ t. (omega arith, subst (λ (d : ℕ). HasKept (first_rests starts ends nets n d)) e (s.yes t));
     no = λ t h k. let k' = subst (λ (d : ℕ). HasKept (first_rests starts ends nets n d)) (sym e) k in s.no t k'.0 k'.2;

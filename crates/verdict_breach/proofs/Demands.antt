@@ -4,48 +4,44 @@ use mathlib.Core.Logic.{◌⊎◌, inl, inr}
 use mathlib.Core.Bool.{Bool, true, false}
 use mathlib.Core.List.{List}
 use Prim.Native.Nat.{ℕ, suc, ◌+◌, ◌-◌, ◌≤◌, ◌<◌}
-use native.Mathlib.Nat.{eq-or-lt_of_le}
 use native.Mathlib.Omega.{arith}
 use lib.ListN.{length}
+use Rattle.recording.proofs.TestLaws.{less_or_not}
 use Rattle.recording.specs.Weeks.{week_start, week_of}
 use Rattle.rules.specs.ReadingRules.{weekly_gap}
-use Rattle.verdict_completion.specs.Completable.{at}
-use Rattle.verdict_choosing.specs.First.{rests_only}
-use Rattle.verdict_breach.specs.Verdicts.{HasKept, Some, Sooner, NextDemand, FirstWithout}
+use Rattle.verdict_completion.specs.Completable.{at, rests_only}
+use Rattle.verdict_breach.specs.Verdicts.{HasKept, SaysWhether, Sooner, NextDemand, FirstWithout}
 use Rattle.verdict_breach.proofs.JudgedEnds.{has_too, sooner, before_next}
 
--- the ends from index i on are through
+-- the ends before index i are through
 pub record Demands (ends : List ℕ) (s next i : ℕ) : Type 0 where
-  pub within : i ≤ length ends
   pub past : s < next
   pub week : next ≤ week_start (week_of s + 1)
   pub from_start : s ≤ weekly_gap → next ≤ weekly_gap + 1
-  pub from_rest : (j : ℕ) → i ≤ j → j < length ends → s ≤ at ends j + weekly_gap → next ≤ at ends j + weekly_gap + 1
+  pub from_rest : (j : ℕ) → j < i → s ≤ at ends j + weekly_gap → next ≤ at ends j + weekly_gap + 1
 
-pub start_demands : (ends : List ℕ) {s other next i : ℕ} → other ≡ week_start (week_of s + 1) → Sooner 0 s other next → i ≡ length ends → Demands ends s next i
-start_demands ends {s} e g f = record {
-  within = omega arith;
+pub start_demands : (ends : List ℕ) {s other next : ℕ} → other ≡ week_start (week_of s + 1) → Sooner 0 s other next → Demands ends s next 0
+start_demands ends {s} e g = record {
   past = g.past (omega arith);
   week = omega (arith, g.least);
   from_start = λ h. omega (arith, g.gap (omega arith));
   from_rest = λ j l h. absurd (omega arith);
 }
 
-pub demands_on : {ends : List ℕ} {s next i j r : ℕ} → Demands ends s next i → suc j ≡ i → Sooner (at ends j) s next r → Demands ends s r j
-demands_on {ends} {s} {next} {i} {j} {r} d e g = record {
-  within = omega (arith, d.within);
+pub demands_on : {ends : List ℕ} {s next i r : ℕ} → Demands ends s next i → Sooner (at ends i) s next r → Demands ends s r (i + 1)
+demands_on {ends} {s} {next} {i} {r} d g = record {
   past = g.past d.past;
   week = omega (arith, g.least, d.week);
   from_start = λ h. omega (arith, g.least, d.from_start h);
-  from_rest = λ k l h q. through k h q (eq-or-lt_of_le l);
+  from_rest = λ k h q. through k q (less_or_not k i) h;
 }
   where
-    through : (k : ℕ) → k < length ends → s ≤ at ends k + weekly_gap → (j ≡ k) ⊎ (j < k) → r ≤ at ends k + weekly_gap + 1
-    through k h q (inl p) = let z : at ends j ≡ at ends k = ap (at ends) p in omega (arith, g.gap (omega arith))
-    through k h q (inr p) = omega (arith, g.least, d.from_rest k (omega arith) h q)
+    through : (k : ℕ) → s ≤ at ends k + weekly_gap → (k < i) ⊎ (i ≤ k) → k < i + 1 → r ≤ at ends k + weekly_gap + 1
+    through k q (inl p) h = omega (arith, g.least, d.from_rest k p q)
+    through k q (inr p) h = let e : i ≡ k = omega arith in let z : at ends i ≡ at ends k = ap (at ends) e in omega (arith, g.gap (omega arith))
 
-pub demands_done : {ends : List ℕ} {s next i : ℕ} → Demands ends s next i → i ≡ 0 → NextDemand ends s next
-demands_done d e = record { past = d.past; week = d.week; from_start = d.from_start; from_rest = λ j h q. d.from_rest j (omega arith) h q }
+pub demands_done : {ends : List ℕ} {s next i : ℕ} → Demands ends s next i → i ≡ length ends → NextDemand ends s next
+demands_done d e = record { past = d.past; week = d.week; from_start = d.from_start; from_rest = λ j h q. d.from_rest j (omega arith) q }
 
 -- ---- the judged ends before `next` leave a reading, if `from` does
 pub record Asking (starts ends nets : List ℕ) (from next : ℕ) : Type 0 where
@@ -57,10 +53,10 @@ module _ (starts nets : List ℕ) {ends : List ℕ} {from next : ℕ} where
   start_asking n = record { past = n.past; before = λ h t e. has_too starts nets (before_next n t (omega arith)) h }
 
 module _ {starts ends nets : List ℕ} {from next : ℕ} (k : Asking starts ends nets from next) where
-  pub ask_on : {r : ℕ} {a : Bool} → Some (rests_only starts ends nets next) a → a ≡ true → NextDemand ends next r → Asking starts ends nets from r
+  pub ask_on : {r : ℕ} {a : Bool} → SaysWhether (rests_only starts ends nets next) a → a ≡ true → NextDemand ends next r → Asking starts ends nets from r
   ask_on s t n = record { past = omega (arith, k.past, n.past); before = λ h u e. has_too starts nets (before_next n u (omega arith)) (s.yes t) }
 
-  pub found_none : {top : ℕ} {a : Bool} → next ≤ top → Some (rests_only starts ends nets next) a → a ≡ false → FirstWithout starts ends nets from top next
+  pub found_none : {top : ℕ} {a : Bool} → next ≤ top → SaysWhether (rests_only starts ends nets next) a → a ≡ false → FirstWithout starts ends nets from top next
   found_none l s f = record { past = k.past; within = omega arith; before = k.before; there = λ h i. s.no f i.0 i.2 }
 
   pub all_asked : {top : ℕ} → from ≤ top → top < next → FirstWithout starts ends nets from top (top + 1)

@@ -7,7 +7,13 @@ use Prim.Native.Nat.{ℕ, zero, suc, ◌+◌, ◌-◌, ◌≤◌, ◌<◌, zero-
 use native.Mathlib.Omega.{arith}
 use lib.ListN.{length}
 use lib.Seq.{take-length}
+use Rattle.std.proofs.Common.{Option, Some, None}
 use Rattle.rules.specs.Fixed.{fixed_test}
+use Rattle.rules.specs.Numbers.{number_of_rule, number_of_article, article_of}
+use Rattle.rules.specs.declared.Rule.{Rule}
+use Rattle.rules.specs.declared.Rule.TheVariants.{AccumulatedDriving, DailyDriving, WeeklyDriving, FortnightlyDriving, DailyRest, EntryForm, NetLength}
+use Rattle.rules.specs.declared.Rule.TheVariants.{CompensationInTime, ShortenedRests, WeeklyRestGap, WeeklyRests}
+use Rattle.rules.proofs.ArticleOrder.{rule_most}
 use Rattle.rules.specs.Verdict.{prefix, breach_minute, article, verdict}
 use Rattle.rules.specs.Operations.{breached, finding_of}
 use Rattle.rules.specs.Opened.{opened}
@@ -19,9 +25,9 @@ use Rattle.recording.proofs.TestLaws.{less_or_not}
 use Rattle.rules_items.specs.Items.{spans_from}
 use Rattle.verdict_completion.specs.States.{advance}
 use Rattle.verdict_completion.specs.Runs.{Runs}
-use Rattle.verdict_choosing.specs.First.{rests_only}
+use Rattle.verdict_completion.specs.Completable.{rests_only}
 use Rattle.verdict_breach.specs.Verdicts.{HasKept, HasReading, Bound, first_rests, day_start, DayReadable, LastDay}
-use Rattle.verdict_breach.proofs.Lawfulness.{fixed_first, from_has}
+use Rattle.verdict_breach.proofs.Lawfulness.{fixed_first, from_has, is_rule}
 
 -- no rests, at the beginning: the empty reading keeps the rules
 kept_nothing : HasKept (rests_only [] [] [] 0)
@@ -69,8 +75,26 @@ module _ (ms : List ℕ) where
   bound_above (suc bound) b = omega arith
 
 -- ---- the breach
+-- a fixed rule has the number of its article
+article_number : (r : Rule) → number_of_rule r ≤ 5 → number_of_article (article_of r) ≡ number_of_rule r
+article_number AccumulatedDriving h = refl
+article_number DailyDriving h = refl
+article_number WeeklyDriving h = refl
+article_number FortnightlyDriving h = refl
+article_number DailyRest h = refl
+article_number EntryForm h = absurd (omega arith)
+article_number NetLength h = absurd (omega arith)
+article_number CompensationInTime h = absurd (omega arith)
+article_number ShortenedRests h = absurd (omega arith)
+article_number WeeklyRestGap h = absurd (omega arith)
+article_number WeeklyRests h = absurd (omega arith)
+
+fixed_most : (ms : List ℕ) → fixed_test ms ≤ 5
+unfolding fixed_test
+fixed_most ms = rule_most _
+
 module _ (ms : List ℕ) (n : HasReading ms → ⊥) where
-  abbrev first : Break
+  abbrev first : Option Break
   first = (account_from opening ms).first
 
   no_lawful : HasLawful ms → ⊥
@@ -80,25 +104,7 @@ module _ (ms : List ℕ) (n : HasReading ms → ⊥) where
   unfolding verdict
   finding {m} {a} e f = rw (is_none_law ms no_lawful, f, sym e) refl
 
-  pub bound_whole : first.rule ≡ 0 → Bound ms (length ms)
-  bound_whole z = record {
-    within = omega arith;
-    fixed = λ m l. (first_least ms).none_broken z m;
-    broken = λ h. n (subst HasReading (take-length ms) h);
-  }
-
-  first_within : {f : Break} → First ms f → (f.rule ≡ 0 → ⊥) → f.at ≤ length ms
-  first_within (unbroken z e) r = absurd (r z)
-  first_within (broken-at n e h p q r) z = omega arith
-
-  pub bound_fixed : (first.rule ≡ 0 → ⊥) → Bound ms first.at
-  bound_fixed r = record {
-    within = first_within (account_right ms).first r;
-    fixed = (first_least ms).before r;
-    broken = λ h. r (sym ((first_least ms).there r) ∙ fixed_first (prefix first.at ms) h.0 h.2);
-  }
-
-  -- the article: 6 below the first breach of a fixed rule, there that rule
+  -- the article: 6 below the first breach of a fixed rule, there that rule's
   no_rule : (m : ℕ) → fixed_test (prefix m ms) ≡ 0 → 6 ≡ article (prefix m ms)
   unfolding article
   no_rule m e = rw e refl
@@ -108,43 +114,44 @@ module _ (ms : List ℕ) (n : HasReading ms → ⊥) where
   some_rule m zero e z = absurd (z refl)
   some_rule m (suc r) e z = rw e refl
 
-  pub breach_unfixed : {m : ℕ} → m ≡ breach_minute ms → first.rule ≡ 0 → breached m 6 ≡ finding_of (verdict ms)
-  breach_unfixed {m} e z = finding e (no_rule m ((first_least ms).none_broken z m))
+  pub least_in_whole : {total : ℕ} → total ≡ length ms → first ≡ None → Bound ms total
+  least_in_whole e z = subst (Bound ms) (sym e) (record {
+    within = omega arith;
+    fixed = λ m l. (first_least ms).none_broken z m;
+    broken = λ h. n (subst HasReading (take-length ms) h);
+  })
 
-  pub breach_below : {m : ℕ} → m ≡ breach_minute ms → (first.rule ≡ 0 → ⊥) → m < first.at → breached m 6 ≡ finding_of (verdict ms)
-  breach_below {m} e z l = finding e (no_rule m ((first_least ms).before z m l))
+  pub breach_whole : {m : ℕ} → first ≡ None → m ≡ breach_minute ms → breached m 6 ≡ finding_of (verdict ms)
+  breach_whole {m} z e = finding e (no_rule m ((first_least ms).none_broken z m))
 
-  pub breach_there : {m : ℕ} → m ≡ breach_minute ms → (first.rule ≡ 0 → ⊥) → first.at ≤ m → breached m first.rule ≡ finding_of (verdict ms)
-  breach_there {m} e z l =
-      let b = breach_is ms no_lawful in
-      let q : m ≡ first.at = at_first b e z l in
-      finding e (some_rule m first.rule (ap (λ (x : ℕ). fixed_test (prefix x ms)) q ∙ (first_least ms).there z) z)
-    where
-      -- the stretch that breaks a fixed rule has no lawful reading, so the breach is no later
-      at_first : {m : ℕ} → Breach ms (breach_minute ms) → m ≡ breach_minute ms → (first.rule ≡ 0 → ⊥) → first.at ≤ m → m ≡ first.at
-      at_first {m} b e z l = no_later (less_or_not first.at (breach_minute ms))
-        where
-          no_later : (first.at < breach_minute ms) ⊎ (breach_minute ms ≤ first.at) → m ≡ first.at
-          no_later (inl h) = absurd ((bound_fixed z).broken (from_has (b.shorter first.at h)))
-          no_later (inr h) = omega arith
+  module _ {f : Break} (q : first ≡ Some f) where
+    first_within : {o : Option Break} → First ms o → o ≡ Some f → f.at ≤ length ms
+    first_within (unbroken z) r = cc
+    first_within (broken-at {f = g} k e h p s) r =
+        let same : g ≡ f = cc in
+        omega (arith, ap (λ (b : Break). b.at) same)
 
-  -- the same, of the first breach as the code has it
-  module _ {f : Break} (q : f ≡ first) where
-    pub least_in_whole : {total : ℕ} → total ≡ length ms → f.rule ≡ 0 → Bound ms total
-    least_in_whole e z = subst (Bound ms) (sym e) (bound_whole (sym (ap (λ (b : Break). b.rule) q) ∙ z))
+    pub least_in_fixed : Bound ms f.at
+    least_in_fixed = record {
+      within = first_within (account_right ms).first q;
+      fixed = (first_least ms).before q;
+      broken = λ h. is_rule f.rule (sym ((first_least ms).there q) ∙ fixed_first (prefix f.at ms) h.0 h.2);
+    }
 
-    broken_first : (f.rule ≡ 0 → ⊥) → first.rule ≡ 0 → ⊥
-    broken_first z e = z (ap (λ (b : Break). b.rule) q ∙ e)
+    pub breach_under : {m : ℕ} → m ≡ breach_minute ms → m < f.at → breached m 6 ≡ finding_of (verdict ms)
+    breach_under {m} e l = finding e (no_rule m ((first_least ms).before q m l))
 
-    pub least_in_fixed : (f.rule ≡ 0 → ⊥) → Bound ms f.at
-    least_in_fixed z = subst (λ (b : Break). Bound ms b.at) (sym q) (bound_fixed (broken_first z))
-
-    pub breach_whole : {m : ℕ} → f.rule ≡ 0 → m ≡ breach_minute ms → breached m 6 ≡ finding_of (verdict ms)
-    breach_whole z e = breach_unfixed e (sym (ap (λ (b : Break). b.rule) q) ∙ z)
-
-    pub breach_under : {m : ℕ} → (f.rule ≡ 0 → ⊥) → m ≡ breach_minute ms → m < f.at → breached m 6 ≡ finding_of (verdict ms)
-    breach_under {m} z e l = breach_below e (broken_first z) (subst (λ (b : Break). m < b.at) q l)
-
-    pub breach_here : {m : ℕ} → (f.rule ≡ 0 → ⊥) → m ≡ breach_minute ms → f.at ≤ m → breached m f.rule ≡ finding_of (verdict ms)
-    breach_here {m} z e l =
-        ap (λ (b : Break). breached m b.rule) q ∙ breach_there e (broken_first z) (subst (λ (b : Break). b.at ≤ m) q l)
+    pub breach_here : {m : ℕ} → m ≡ breach_minute ms → f.at ≤ m → breached m (number_of_article (article_of f.rule)) ≡ finding_of (verdict ms)
+    breach_here {m} e l =
+        let b = breach_is ms no_lawful in
+        let s : m ≡ f.at = at_first b e l in
+        let t : fixed_test (prefix m ms) ≡ number_of_rule f.rule = ap (λ (x : ℕ). fixed_test (prefix x ms)) s ∙ (first_least ms).there q in
+        finding e (article_number f.rule (omega (arith, t, fixed_most (prefix m ms))) ∙ some_rule m (number_of_rule f.rule) t (is_rule f.rule))
+      where
+        -- the stretch that breaks a fixed rule has no lawful reading, so the breach is no later
+        at_first : {m : ℕ} → Breach ms (breach_minute ms) → m ≡ breach_minute ms → f.at ≤ m → m ≡ f.at
+        at_first {m} b e l = no_later (less_or_not f.at (breach_minute ms))
+          where
+            no_later : (f.at < breach_minute ms) ⊎ (breach_minute ms ≤ f.at) → m ≡ f.at
+            no_later (inl h) = absurd (least_in_fixed.broken (from_has (b.shorter f.at h)))
+            no_later (inr h) = omega arith

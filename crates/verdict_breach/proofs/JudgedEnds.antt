@@ -19,17 +19,16 @@ use Rattle.rules.specs.declared.Kind.TheVariants.{Daily, Weekly}
 use Rattle.rules.specs.declared.Standing.TheVariants.{Regular, Reduced}
 use Rattle.rules_items.specs.Items.{spans_from}
 use Rattle.verdict_completion.specs.declared.State.{State}
-use Rattle.verdict_completion.specs.declared.Brought.{Brought}
-use Rattle.verdict_completion.specs.declared.Brought.TheVariants.{Broken}
+use Rattle.std.proofs.Common.{Option, None}
 use Rattle.verdict_completion.specs.States.{pair_kept, advance, After}
 use Rattle.verdict_completion.specs.Runs.{Ends, Takes, Runs}
-use Rattle.verdict_completion.specs.Completable.{at, spans_of, rest_week, counts}
-use Rattle.verdict_choosing.specs.First.{KeptBy, rests_only}
+use Rattle.verdict_completion.specs.Completable.{at, spans_of, rest_week, counts, rests_only}
+use Rattle.verdict_completion.specs.First.{KeptBy}
 use Rattle.verdict_breach.specs.Verdicts.{HasKept, AsksNoMore, NextDemand}
 
 -- ---- weeks
 module _ (rest_week : ℕ → Bool) where
-  after_both : (P Q : State → Type 0) (b : Bool) (u v : Brought) → (After v Q → After u P) → After (pick b v Broken) Q → After (pick b u Broken) P
+  after_both : (P Q : State → Type 0) (b : Bool) (u v : Option State) → (After v Q → After u P) → After (pick b v None) Q → After (pick b u None) P
   after_both P Q true u v f h = f h
   after_both P Q false u v f h = absurd h
 

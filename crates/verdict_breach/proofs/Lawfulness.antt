@@ -1,84 +1,77 @@
 -- A reading of a recording's long rests that keeps rules 6 to 11 is a lawful one, where the fixed rules hold. Assumes nothing.
 use mathlib.Core.Path.{◌≡◌, refl, sym, ap, subst, ◌∙◌}
 use mathlib.Core.Bool.{Bool, true, false, not}
+use mathlib.Core.Logic.{◌⊎◌, inl, inr}
 use mathlib.Core.List.{List, [], map}
-use mathlib.Core.Option.{Option, some}
-use Prim.Native.Nat.{ℕ, zero, suc, ◌+◌, ◌*◌, ◌≤◌, ◌<◌, zero-le}
+use mathlib.Core.Option.{Option as Maybe, some}
+use Prim.Native.Nat.{ℕ, zero, suc, ◌+◌, ◌*◌, ◌≤◌, ◌<◌}
 use native.Mathlib.Omega.{arith}
-use lib.ListN.{length, get_or, take, length-map}
+use lib.ListN.{length, get_or, take, replicate, length-map, length-replicate, get_or-replicate, get_or-eq_default}
 use borrow.Author.Tests.{eqb-true, eq-eqb}
 use Rattle.recording.specs.Words.{minutes_of}
 use Rattle.recording.specs.Rests.{judged_end, long_rests, long_rests_at_most}
 use Rattle.recording.specs.Operations.{total_at_most}
 use Rattle.recording.specs.declared.Span.{Span}
+use Rattle.recording.proofs.TestLaws.{less_or_not}
 use Rattle.recording.proofs.Walks.{judged_within}
 use Rattle.recording.proofs.LongRests.{Ordered, none as no-rest, next, rests_ordered, few_rests}
 use Rattle.rules.specs.Broken.{if_none}
+use Rattle.std.proofs.Common.{Option, Some, None}
 use Rattle.rules.specs.Fixed.{fixed_test}
+use Rattle.rules.specs.Numbers.{number_of_rule, rule_or_none}
+use Rattle.rules.specs.declared.Rule.{Rule}
+use Rattle.rules.specs.declared.Rule.TheVariants.{AccumulatedDriving, DailyDriving, WeeklyDriving, FortnightlyDriving, DailyRest, EntryForm, NetLength}
+use Rattle.rules.specs.declared.Rule.TheVariants.{CompensationInTime, ShortenedRests, WeeklyRestGap, WeeklyRests}
 use Rattle.rules.specs.Reading.{entry_bytes, reading_size, compensation_of, entries}
 use Rattle.rules.specs.ReadingRules.{fields_test}
 use Rattle.rules.specs.Order.{Fields}
 use Rattle.rules.specs.Verdict.{lawful_fields, is_none, first_fields, first_lawful}
 use Rattle.rules.proofs.Breach.{HasLawful, first_fields_law, is_none_law, some_first}
 use Rattle.rules_items.specs.Items.{spans_from, spans_in, rest_weeks, Zeros}
-use Rattle.rules_reading.proofs.LaterLaws.{nowhere, map_at, spans_are, if_zero}
+use Rattle.rules_items.proofs.SpanLaws.{nowhere, map_at, spans_are, if_zero}
 use Rattle.verdict_completion.specs.States.{start_state}
 use Rattle.verdict_completion.specs.Runs.{Kept}
-use Rattle.verdict_completion.specs.Completable.{Course, count, rest_week, Completable, Lies}
+use Rattle.verdict_completion.specs.Completable.{Course, count, Lies, rests_only}
 use Rattle.verdict_completion.proofs.Carriers.{extend, extended}
 use Rattle.verdict_completion.proofs.RunLaws.{later_kept, kept_later}
-use Rattle.verdict_search.specs.Search.{Found, course_of, Sound, Lent}
+use Rattle.verdict_completion.specs.Courses.{course_with}
+use Rattle.verdict_completion.specs.declared.course.LongRests.{LongRests}
+use Rattle.verdict_completion.proofs.Courses.{lies_with}
+use Rattle.verdict_steps.specs.Steps.{Says}
+use Rattle.verdict_sweep.specs.Sweep.{CanBeRead}
 use Rattle.rules_nets.specs.Nets.{nets_of, counts_by}
 use Rattle.rules_fixed.proofs.NetLaws.{all_numbered, nets_most, reading_by_numbers}
-use Rattle.verdict_choosing.specs.First.{KeptBy, Least, rests_only}
-use Rattle.verdict_breach.specs.Verdicts.{InFront, HasKept, Some, ByRule, HasReading, Readable, AllRests, Whole}
+use Rattle.verdict_completion.specs.First.{KeptBy, Least}
+use Rattle.verdict_breach.specs.Verdicts.{InFront, course_in, HasKept, SaysWhether, ByRule, HasReading, Readable, AllRests, Whole}
 use Rattle.verdict_breach.proofs.Days.{lies_later}
 use Rattle.verdict_breach.specs.declared.Rests.{Rests}
 
 -- ---- the search's answer on long rests without compensations
-module _ (starts ends nets compensations outstanding : List ℕ) (s : ℕ) (lies : Lies (rests_only starts ends nets s)) (few : length starts ≤ long_rests_at_most) (bound : s ≤ total_at_most)
-    (no-compensation : Zeros compensations) (size : length outstanding ≡ length starts) (none-outstanding : Zeros outstanding) where
+none_zeros : (k : ℕ) → Zeros (replicate {A = ℕ} k 0)
+none_zeros k i = at (less_or_not i k)
+  where
+    at : (i < k) ⊎ (k ≤ i) → ◌≡◌ {A = ℕ} (get_or (replicate k 0) i 0) 0
+    at (inl h) = get_or-replicate k i 0 0 h
+    at (inr h) = get_or-eq_default (replicate {A = ℕ} k 0) 0 {n = i} (omega (arith, length-replicate {A = ℕ} k 0, h))
+
+module _ (rests : LongRests) where
+  abbrev k : ℕ
+  k = length rests.starts.now
+
   abbrev c : Course
-  c = course_of starts ends nets compensations s
+  c = course_with rests (replicate k 0)
 
-  lies_too : Lies (course_of starts ends nets compensations s)
-  lies_too = record {
-    ends_too = lies.ends_too;
-    nets_too = lies.nets_too;
-    net = lies.net;
-    proper = lies.proper;
-    ordered = lies.ordered;
-    judged = lies.judged;
-  }
-
-  all : length starts + 0 ≡ length starts
+  all : k + 0 ≡ k
   all = omega arith
 
-  pub lent : length compensations ≡ length starts → Lent (course_of starts ends nets compensations s) outstanding
-  lent e = record {
-    sized = record {
-      lies = lies_too;
-      compensations_too = e;
-      outstanding_too = size;
-      few = few;
-      judged = bound;
-      compensations_low = λ i. let z = no-compensation i in omega arith;
-    };
-    below = zero-le;
-    unused = λ x _. none-outstanding x;
-  }
-
-  pub some_reading : {r : Bool} {outstanding' nogoods : List ℕ}
-      → Found (Completable (course_of starts ends nets compensations s) (length starts) 0 (start_state (rest_week (course_of starts ends nets compensations s) 0)) outstanding) r
-      outstanding outstanding'
-      (Sound (course_of starts ends nets compensations s) nogoods)
-      → Some (rests_only starts ends nets s) r
+  pub some_reading : {r : Bool} → Says (CanBeRead (course_with rests (replicate k 0)) (replicate k 0)) r → SaysWhether (course_in rests) r
   unfolding entries compensation_of
   some_reading a =
+      let zeros = none_zeros k in
+      let size : length (replicate {A = ℕ} k 0) ≡ k = length-replicate k 0 in
       record {
-        yes = λ t. extend (course_of starts ends nets compensations s) lies_too (omega arith) bound (length starts) 0 _ outstanding [] all size none-outstanding (λ i h. no-compensation i) (a.yes t);
-        no = λ t fields k. a.no t (extended (course_of starts ends nets compensations s) lies_too (omega arith) bound (length starts) 0 _ outstanding [] all size none-outstanding
-            (λ i h. no-compensation i) fields k);
+        yes = λ t. extend c (lies_with rests (replicate k 0)) (omega (arith, rests.few)) rests.low k 0 _ (replicate k 0) [] all size zeros (λ i h. zeros i) (a.yes t);
+        no = λ t fields q. a.no t (extended c (lies_with rests (replicate k 0)) (omega (arith, rests.few)) rests.low k 0 _ (replicate k 0) [] all size zeros (λ i h. zeros i) fields q);
       }
 
 -- ---- the long rests of a recording, with their numbers
@@ -197,7 +190,7 @@ module _ (ms : List ℕ) where
   pub kept_has : fixed_test ms ≡ 0 → HasKept (rests_in ms) → HasReading ms
   kept_has f h = (h.0, as_few h.0 h.1, kept_lawful f h.0 h.2)
 
-  pub readable : {r : Bool} → Some (rests_in ms) r → Readable ms r
+  pub readable : {r : Bool} → SaysWhether (rests_in ms) r → Readable ms r
   readable a = record { yes = λ t f. kept_has f (a.yes t); no = λ t h. a.no t h.0 (lawful_kept h.0 h.2) }
 
 -- ---- the answer whether there is a lawful reading
@@ -208,7 +201,7 @@ pub from_has : {ms : List ℕ} → HasLawful ms → HasReading ms
 from_has (r, l) = (r, l.bounded, l.keeps)
 
 pub has_none : (ms : List ℕ) → (fixed_test ms ≡ 0 → ⊥) → false ≡ not (is_none (first_lawful ms))
-has_none ms f = sym (ap (λ (o : Option (List ℕ)). not (is_none o)) (is_none_law ms (λ h. f (fixed_first ms h.0 h.1.keeps))))
+has_none ms f = sym (ap (λ (o : Maybe (List ℕ)). not (is_none o)) (is_none_law ms (λ h. f (fixed_first ms h.0 h.1.keeps))))
 
 module _ (ms : List ℕ) {r : Bool} (a : Readable ms r) where
   pub has_it : fixed_test ms ≡ 0 → r ≡ not (is_none (first_lawful ms))
@@ -216,12 +209,26 @@ module _ (ms : List ℕ) {r : Bool} (a : Readable ms r) where
     where
       at : (t : Bool) → r ≡ t → t ≡ not (is_none (first_lawful ms))
       at true e = sym (ap not (some_first ms (to_has (a.yes e f))))
-      at false e = sym (ap (λ (o : Option (List ℕ)). not (is_none o)) (is_none_law ms (λ h. a.no e (from_has h))))
+      at false e = sym (ap (λ (o : Maybe (List ℕ)). not (is_none o)) (is_none_law ms (λ h. a.no e (from_has h))))
+
+-- a rule has a number
+pub is_rule : (r : Rule) → number_of_rule r ≡ 0 → ⊥
+is_rule AccumulatedDriving e = absurd (omega arith)
+is_rule DailyDriving e = absurd (omega arith)
+is_rule WeeklyDriving e = absurd (omega arith)
+is_rule FortnightlyDriving e = absurd (omega arith)
+is_rule DailyRest e = absurd (omega arith)
+is_rule EntryForm e = absurd (omega arith)
+is_rule NetLength e = absurd (omega arith)
+is_rule CompensationInTime e = absurd (omega arith)
+is_rule ShortenedRests e = absurd (omega arith)
+is_rule WeeklyRestGap e = absurd (omega arith)
+is_rule WeeklyRests e = absurd (omega arith)
 
 -- the answer that goes by the fixed rules first
-pub by_fixed : (ms : List ℕ) (rule : ℕ) {t : Bool} → fixed_test ms ≡ rule → ByRule (rests_in ms) rule t → t ≡ not (is_none (first_lawful ms))
-by_fixed ms zero e a = has_it ms (readable ms (a.unfixed refl)) e
-by_fixed ms (suc n) e a = a.fixed (λ z. omega arith) ∙ has_none ms (λ z. omega arith)
+pub by_fixed : (ms : List ℕ) (rule : Option Rule) {t : Bool} → fixed_test ms ≡ rule_or_none rule → ByRule (rests_in ms) rule t → t ≡ not (is_none (first_lawful ms))
+by_fixed ms None e a = has_it ms (readable ms a) e
+by_fixed ms (Some r) e a = a ∙ has_none ms (λ z. is_rule r (sym e ∙ z))
 
 -- ---- the long rests of a recording in front of three slices
 module _ {ws : List ℕ} {r : Rests} {starts ends nets : List ℕ} (q : InFront ws r starts ends nets) where

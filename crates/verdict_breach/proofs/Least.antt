@@ -19,9 +19,8 @@ use Rattle.rules.specs.Verdict.{prefix, breach_minute}
 use Rattle.rules.proofs.Breach.{shorter_lawful, only_breach}
 use Rattle.rules_nets.specs.Nets.{nets_of}
 use Rattle.rules_fixed.proofs.NetLaws.{first_nets}
-use Rattle.rules_reading.proofs.LaterLaws.{nowhere, map_at}
-use Rattle.verdict_completion.specs.Completable.{Course, at}
-use Rattle.verdict_choosing.specs.First.{rests_only}
+use Rattle.rules_items.proofs.SpanLaws.{nowhere, map_at}
+use Rattle.verdict_completion.specs.Completable.{Course, at, rests_only}
 use Rattle.verdict_breach.specs.Verdicts.{HasKept, HasReading, Bound, AllRests, first_rests, day_start, LastDay, DayTop, FirstWithout, NextActive}
 use Rattle.verdict_breach.proofs.JudgedEnds.{has_too, sooner}
 use Rattle.verdict_breach.proofs.Lawfulness.{neighbours, has_kept, kept_has, to_has, from_has}

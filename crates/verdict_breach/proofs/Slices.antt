@@ -1,18 +1,21 @@
 -- The long rests that a survey leaves in three slices. Assumes nothing.
 use mathlib.Core.Path.{◌≡◌, sym, ap, ◌∙◌}
-use mathlib.Core.List.{List, ◌∷◌, map}
+use mathlib.Core.List.{List, map}
 use Prim.Native.Nat.{ℕ, ◌≤◌}
 use native.Mathlib.Omega.{arith}
 use lib.ListN.{length, take, replicate, length-map, length-take, length-replicate}
 use Rattle.recording.specs.Words.{minutes_of}
-use Rattle.recording.specs.Rests.{long_rests, long_rests_at_most}
+use Rattle.recording.specs.Rests.{long_rests}
 use Rattle.recording.specs.Operations.{total_at_most}
-use Rattle.recording.specs.Scan.{origin, written_from, short_total, short_rests}
+use Rattle.recording.specs.Scan.{origin, written_from}
 use Rattle.recording.specs.declared.Place.{Place}
 use Rattle.recording.specs.declared.Span.{Span}
-use Rattle.recording.proofs.LongRests.{few_rests, few_short}
+use Rattle.recording.proofs.LongRests.{few_rests}
 use Rattle.recording.proofs.Scanning.{scan_end, scan_count, scan_written}
+use Rattle.std.proofs.Common.{Option}
 use Rattle.rules.specs.Fixed.{smallest_rule}
+use Rattle.rules.specs.Numbers.{rule_or_none}
+use Rattle.rules.specs.declared.Rule.{Rule}
 use Rattle.rules_fixed.specs.Walk.{Surveyed}
 use Rattle.rules_limits.specs.declared.Account.{Account}
 use Rattle.rules_fixed.specs.declared.Survey.{Survey}
@@ -32,7 +35,7 @@ module _ {ws starts ends nets starts' ends' nets' : List ℕ} {r : Survey} (v : 
       ap (λ (n : ℕ). take n out') (count_is ∙ sym size) ∙ ap (take (length (map f (long_rests (minutes_of ws))))) (e ∙ scan_written f ws out)
       ∙ front (map f (long_rests (minutes_of ws))) out (omega arith)
 
-  pub in_front : {k rule : ℕ} → k ≡ r.place.count → rule ≡ smallest_rule r.account.broken → Roomy ws starts ends nets
+  pub in_front : {k : ℕ} {rule : Option Rule} → k ≡ r.place.count → rule_or_none rule ≡ smallest_rule r.account.broken → Roomy ws starts ends nets
       → InFront ws (record { count = k; judged = r.place.from; rule = rule; first = r.account.first }) starts' ends' nets'
   in_front q p room = record {
     count = q ∙ count_is;
@@ -49,21 +52,9 @@ module _ {ws starts ends nets starts' ends' nets' : List ℕ} {r : Survey} (v : 
     };
   }
 
--- ---- arrays with room for the long rests of a short recording, and of any
-module _ (ws : List ℕ) where
-  roomy : (room : ℕ) → length (long_rests (minutes_of ws)) ≤ room → Roomy ws (replicate room 0) (replicate room 0) (replicate room 0)
-  roomy room h = record { begun = rw length-replicate h; ended = rw length-replicate h; numbered = rw length-replicate h }
-
-  pub roomy_short : length (minutes_of ws) ≤ short_total → Roomy ws (replicate short_rests 0) (replicate short_rests 0) (replicate short_rests 0)
-  roomy_short h = roomy short_rests (few_short (minutes_of ws) h)
-
-  pub roomy_long : length (minutes_of ws) ≤ total_at_most → Roomy ws (replicate long_rests_at_most 0) (replicate long_rests_at_most 0) (replicate long_rests_at_most 0)
-  roomy_long h = roomy long_rests_at_most (few_rests (minutes_of ws) h)
-
--- where a word of no minutes stands before them
-pub roomy_with : {ws starts ends nets : List ℕ} → Roomy ws starts ends nets → Roomy (0 ∷ ws) starts ends nets
-unfolding minutes_of
-roomy_with r = record { begun = r.begun; ended = r.ended; numbered = r.numbered }
+-- arrays with room for the long rests
+pub roomy : (ws : List ℕ) (room : ℕ) → length (long_rests (minutes_of ws)) ≤ room → Roomy ws (replicate room 0) (replicate room 0) (replicate room 0)
+roomy ws room h = record { begun = rw length-replicate h; ended = rw length-replicate h; numbered = rw length-replicate h }
 
 -- so many lie in front of a list
 pub fits_in : {n : ℕ} (xs : List ℕ) → n ≡ length (take n xs) → n ≤ length xs

@@ -1,39 +1,40 @@
 -- Inner: what the functions of this layer answer. Nobody has to believe it: no public contract cites it.
 -- Assumes nothing.
-use Rattle.std.specs.Prelude.{◌≡◌, ◌⊎◌, Bool, true, false, List, map, ℕ, zero, suc, ◌+◌, ◌-◌, ◌≤◌, ◌<◌, ltb, length, get_or, take}
+use Rattle.std.specs.Prelude.{◌≡◌, ◌⊎◌, Bool, true, false, List, map, ℕ, zero, suc, ◌+◌, ◌≤◌, ◌<◌, ltb, max, length, get_or, take, Option, None, Some}
 use Rattle.recording.specs.Tests.{pick}
 use Rattle.recording.specs.Words.{rest, minutes_of}
 use Rattle.recording.specs.Rests.{judged_end, long_rests, long_rests_at_most}
 use Rattle.recording.specs.Weeks.{week_start, week_of}
 use Rattle.recording.specs.declared.Span.{Span}
 use Rattle.rules.specs.Fixed.{fixed_test}
+use Rattle.rules.specs.Numbers.{rule_or_none}
+use Rattle.rules.specs.declared.Rule.{Rule}
 use Rattle.rules_limits.specs.Account.{account_from, opening}
 use Rattle.rules.specs.Verdict.{lawful_fields, prefix}
 use Rattle.rules.specs.Order.{Fields}
-use Rattle.rules.specs.Reading.{bytes_of}
 use Rattle.rules.specs.ReadingRules.{weekly_gap}
-use Rattle.verdict_completion.specs.Completable.{Course, at, count}
+use Rattle.verdict_completion.specs.declared.course.LongRests.{LongRests}
+use Rattle.verdict_completion.specs.Completable.{Course, at, count, rests_only}
 use Rattle.rules_nets.specs.Nets.{nets_of}
-use Rattle.verdict_choosing.specs.First.{KeptBy, Least, rests_only}
+use Rattle.verdict_completion.specs.First.{KeptBy}
 use Rattle.verdict_breach.specs.declared.Rests.{Rests}
 
--- where it is wanted the first reading of these rests that keeps rules 6 to 11 is written, and only there
-pub record WrittenIf (wanted : Bool) (c : Course) (old new : List ℕ) : Type 0 where
-  pub written : wanted ≡ true → (f : List ℕ) → Least c f → new ≡ bytes_of f
-  pub left : wanted ≡ false → new ≡ old
+-- ---- long rests without a compensation
+abbrev pub course_in : LongRests → Course
+course_in r = rests_only r.starts.now r.ends.now r.nets.now r.judged
 
 -- ---- a reading of long rests, by its fields, that keeps rules 6 to 11, and whether there is one
 abbrev pub HasKept : Course → Type 0
 HasKept c = (fields : List ℕ) × Fields (count c) fields × KeptBy c fields
 
-pub record Some (c : Course) (r : Bool) : Type 0 where
+pub record SaysWhether (c : Course) (r : Bool) : Type 0 where
   pub yes : r ≡ true → HasKept c
   pub no : r ≡ false → (fields : List ℕ) → KeptBy c fields → ⊥
 
 -- the same, where the fixed rules hold; where one is broken the answer is no
-pub record ByRule (c : Course) (rule : ℕ) (r : Bool) : Type 0 where
-  pub unfixed : rule ≡ 0 → Some c r
-  pub fixed : (rule ≡ 0 → ⊥) → r ≡ false
+abbrev pub ByRule : Course → Option Rule → Bool → Type 0
+ByRule c None r = SaysWhether c r
+ByRule c (Some rule) r = r ≡ false
 
 -- a lawful reading; and whether there is one, where the fixed rules hold
 abbrev pub HasReading : List ℕ → Type 0
@@ -74,11 +75,14 @@ pub record AllRests (ms starts ends nets : List ℕ) : Type 0 where
   pub ended : ends ≡ map (λ (r : Span). r.end) (long_rests ms)
   pub numbered : nets ≡ nets_of ms
 
--- with S, the smallest fixed rule that is broken, or 0, and the first such breach
+abbrev pub AreAllRests : List ℕ → LongRests → Type 0
+AreAllRests ms r = AllRests ms r.starts.now r.ends.now r.nets.now
+
+-- with S, the smallest fixed rule that is broken, and the first such breach
 pub record Whole (ms starts ends nets : List ℕ) (r : Rests) : Type 0 where
   pub rests : AllRests ms starts ends nets
   pub judged : r.judged ≡ judged_end ms
-  pub fixed : r.rule ≡ fixed_test ms
+  pub fixed : rule_or_none r.rule ≡ fixed_test ms
   pub first : r.first ≡ (account_from opening ms).first
 
 -- three slices have room for them
@@ -107,12 +111,18 @@ pub record DayReadable (starts ends nets : List ℕ) (bound n : ℕ) (r : Bool) 
   pub yes : r ≡ true → (day_start ends n < bound) × HasKept (first_rests starts ends nets n (day_start ends n))
   pub no : r ≡ false → day_start ends n < bound → HasKept (first_rests starts ends nets n (day_start ends n)) → ⊥
 
+abbrev pub IsDayReadable : LongRests → ℕ → ℕ → Bool → Type 0
+IsDayReadable r = DayReadable r.starts.now r.ends.now r.nets.now
+
 -- it does, and the next such stretch does not
 pub record LastDay (starts ends nets : List ℕ) (bound n : ℕ) : Type 0 where
   pub within : n ≤ length starts
   pub below : day_start ends n < bound
   pub kept : HasKept (first_rests starts ends nets n (day_start ends n))
   pub next : n < length starts → day_start ends (suc n) < bound → HasKept (first_rests starts ends nets (suc n) (day_start ends (suc n))) → ⊥
+
+abbrev pub IsLastDay : LongRests → ℕ → ℕ → Type 0
+IsLastDay r = LastDay r.starts.now r.ends.now r.nets.now
 
 -- the stretch at which the next rest starts, or the last below the bound
 pub record DayTop (starts : List ℕ) (n bound r : ℕ) : Type 0 where
@@ -127,14 +137,13 @@ pub record FirstWithout (starts ends nets : List ℕ) (from top r : ℕ) : Type 
   pub before : HasKept (rests_only starts ends nets from) → (t : ℕ) → suc t ≡ r → HasKept (rests_only starts ends nets t)
   pub there : r ≤ top → HasKept (rests_only starts ends nets r) → ⊥
 
--- the later of two minutes
-abbrev pub later_of : ℕ → ℕ → ℕ
-later_of a b = a + (b - a)
+abbrev pub IsFirstWithout : LongRests → ℕ → ℕ → Type 0
+IsFirstWithout r = FirstWithout r.starts.now r.ends.now r.nets.now r.judged
 
--- of the stretches from x on, the first that ends in a run of an activity, which has the minutes from one to another; or 0
-abbrev pub active_in : ℕ → ℕ → ℕ → ℕ → ℕ
-active_in zero from to x = 0
-active_in (suc a) from to x = pick (ltb to (later_of (from + 1) x)) 0 (later_of (from + 1) x)
+-- of the stretches from x on, the first that ends in a run of an activity, which has the minutes from one to another
+abbrev pub active_in : ℕ → ℕ → ℕ → ℕ → Option ℕ
+active_in zero from to x = None
+active_in (suc a) from to x = pick (ltb to (max x (from + 1))) None (Some (max x (from + 1)))
 
 -- of the stretches from x on, the first whose last minute is not rest, or the bound
 pub record NextActive (ms : List ℕ) (x bound r : ℕ) : Type 0 where

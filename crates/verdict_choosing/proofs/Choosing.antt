@@ -21,8 +21,7 @@ use Rattle.rules.specs.declared.Kind.TheVariants.{Daily, Weekly}
 use Rattle.rules.specs.declared.Standing.TheVariants.{Regular}
 use Rattle.rules_items.specs.Items.{end_before, span_at, spans_from, added_to, Zeros}
 use Rattle.verdict_completion.specs.declared.State.{State}
-use Rattle.verdict_completion.specs.declared.Brought.{Brought}
-use Rattle.verdict_completion.specs.declared.Brought.TheVariants.{Broken, To}
+use Rattle.std.specs.Prelude.{Option, None, Some}
 use Rattle.verdict_completion.specs.States.{advance, After, after_daily, after_weekly}
 use Rattle.verdict_completion.specs.Runs.{Kept}
 use Rattle.verdict_completion.specs.Completable.{Course, at, count, spans_of, rest_week, counts, length_at, shortens, Tries, Completable, Lies}
@@ -152,7 +151,7 @@ module _ (c : Course) (n j : ℕ) (st : State) (past : List Entry) where
     upto : week_start w < at c.ends j
     carried : CarriedBy c j w x
     there : State
-    counted : advance (rest_week c) (w - here.week) here ≡ To there
+    counted : advance (rest_week c) (w - here.week) here ≡ Some there
     then : KeepsFrom c n (suc j) (after_counted c j w there) (weekly c j past w x ∷ past) rest
 
   -- the first entry of fields that keep the rules
@@ -206,7 +205,7 @@ module _ (c : Course) (n j : ℕ) (st : State) (past : List Entry) where
           ∙ ap (λ (m : ℕ). pick (eqb x (suc i)) (reduction_at c j) 0 + m) (compensations i (omega arith))
           ∙ ap (λ (m : ℕ). pick (eqb x (suc i)) m 0 + compensation_of (suc i) past) (sym weekly_reduction)
 
-    module _ (here : State) (reached : advance (rest_week c) (week_of (at c.starts j) - st.week) st ≡ To here) where
+    module _ (here : State) (reached : advance (rest_week c) (week_of (at c.starts j) - st.week) st ≡ Some here) where
       daily_keeps : (rest : List ℕ) → DailyFirst here rest → KeepsFrom c (suc n) j st past (daily_kind ∷ 0 ∷ 0 ∷ rest)
       daily_keeps rest h =
           keeps_in daily_kind 0 0 rest
@@ -241,7 +240,7 @@ module _ (c : Course) (n j : ℕ) (st : State) (past : List Entry) where
                 (sym (weekly_regular w x)) h.then;
           }))
 
-      same_here : {there : State} → advance (rest_week c) (week_of (at c.starts j) - st.week) st ≡ To there → there ≡ here
+      same_here : {there : State} → advance (rest_week c) (week_of (at c.starts j) - st.week) st ≡ Some there → there ≡ here
       same_here {there} e = cc
 
       daily_begins : (rest : List ℕ) → DailyStep (rest_week c) (counts c) c.judged (spans_of c) st (daily c j past) (after_it (daily c j past) rest)
@@ -268,7 +267,7 @@ module _ (c : Course) (n j : ℕ) (st : State) (past : List Entry) where
         upto = d.head.upto;
         carried = carried_out w x d.head.carried;
         there = d.there;
-        counted = subst (λ (s : State). advance (rest_week c) (w - s.week) s ≡ To d.there) (same_here d.reached) d.counted;
+        counted = subst (λ (s : State). advance (rest_week c) (w - s.week) s ≡ Some d.there) (same_here d.reached) d.counted;
         then =
             subst (λ (b : Bool). KeepsFrom c n (suc j) (after_weekly (rest_week c w) b (at c.ends j) d.there) (weekly c j past w x ∷ past) rest)
             (weekly_regular w x) d.then;
@@ -304,14 +303,13 @@ pub record NextDaily (c : Course) (j : ℕ) (past : List Entry) (here : State) (
 pub record NextWeekly (c : Course) (j : ℕ) (past : List Entry) (here : State) (w x : ℕ) (r : List ℕ) : Type 0 where
   pub rest : List ℕ
   pub begins : r ≡ weekly_kind ∷ w ∷ x ∷ rest
-  pub found : x ≤ count c
   pub there : State
-  pub counted : advance (rest_week c) (w - here.week) here ≡ To there
+  pub counted : advance (rest_week c) (w - here.week) here ≡ Some there
   pub ahead : Ahead (carrying c j x) (suc j) (after_counted c j w there) (weekly c j past w x ∷ past) rest
 
 module _ (c : Course) (lies : Lies c) (few : count c < carrier_values) (bound : c.judged ≤ total_at_most) (long : length c.compensations ≡ count c)
     (n j : ℕ) (k : suc n + j ≡ count c) (st : State) (past : List Entry) (compensations : (i : ℕ) → j ≤ i → at c.compensations i ≡ compensation_of (suc i) past)
-    (here : State) (reached : advance (rest_week c) (week_of (at c.starts j) - st.week) st ≡ To here) where
+    (here : State) (reached : advance (rest_week c) (week_of (at c.starts j) - st.week) st ≡ Some here) where
   module _ (outstanding : List ℕ) (size : length outstanding ≡ count c) (zeros : Zeros outstanding) where
     goes_daily : (rest : List ℕ) → DailyFirst c n j st past here rest → CanBeDaily c j here outstanding
     goes_daily rest h = record {
@@ -440,8 +438,7 @@ module _ (c : Course) (lies : Lies c) (few : count c < carrier_values) (bound : 
     is_weekly r w x l nay can f (daily_first rest h) = absurd (nay (goes_daily outstanding size zeros rest h))
     is_weekly r w x l nay can f (weekly_first w' x' rest h) =
         let mine = goes_weekly outstanding size zeros w' x' rest h in
-        let low : x ≤ count c = f.found w' x' mine in
-        let g = f.goes low can in
+        let g = f.goes can in
         let t = weekly_goes outstanding size zeros w x h.gap g in
         let o = entry_order weekly_kind w' x' weekly_kind w x rest t.rest
         (l.first (weekly_kind ∷ w ∷ x ∷ t.rest)
@@ -450,30 +447,34 @@ module _ (c : Course) (lies : Lies c) (few : count c < carrier_values) (bound : 
         let m = both (f.first w' x' mine) (o.second refl) (o.third refl) in
         subst (λ (y : ℕ). NextWeekly c j past here w y (weekly_kind ∷ w' ∷ x' ∷ rest)) m.1
         (subst (λ (v : ℕ). NextWeekly c j past here v x' (weekly_kind ∷ w' ∷ x' ∷ rest)) m.0
-        (record { rest = rest; begins = refl; found = carrier_low c j w' x' h.carried; there = h.there; counted = h.counted; ahead = ahead_weekly w' x' rest l h }))
+        (record { rest = rest; begins = refl; there = h.there; counted = h.counted; ahead = ahead_weekly w' x' rest l h }))
       where
         both : NotPast w x w' x' → w' ≤ w → (w' ≡ w → x' ≤ x) → (w' ≡ w) × (x' ≡ x)
         both (NotPast.sooner s) a b = absurd (omega arith)
         both (NotPast.same e s) a b = (sym e, omega (arith, b (sym e)))
 
+    never_begins : {r : List ℕ} → (CanBeDaily c j here outstanding → ⊥) → ((w x : ℕ) → CanBeWeekly c j here outstanding w x → ⊥) → Begins c n j st past here r → ⊥
+    never_begins nay none (daily_first rest h) = nay (goes_daily outstanding size zeros rest h)
+    never_begins nay none (weekly_first w x rest h) = none w x (goes_weekly outstanding size zeros w x rest h)
+
 -- ---- the step: before the rest of index j, in a state brought on to the week in which it starts
 module _ (c : Course) (lies : Lies c) (few : count c < carrier_values) (bound : c.judged ≤ total_at_most) (long : length c.compensations ≡ count c)
     (j : ℕ) (inside : j < count c) (st : State) (past : List Entry) (r : List ℕ) where
-  abbrev Brought-to : State → Type 0
-  Brought-to here = advance (rest_week c) (week_of (at c.starts j) - st.week) st ≡ To here
+  abbrev BroughtTo : State → Type 0
+  BroughtTo here = advance (rest_week c) (week_of (at c.starts j) - st.week) st ≡ Some here
 
   step_short : (n : ℕ) → n + j ≡ count c → LeastFrom c n j st past r → ((i : ℕ) → j ≤ i → at c.compensations i ≡ compensation_of (suc i) past)
-      → (here : State) → Brought-to here → length_at c j < least_net (Weekly Regular) + compensation_at c j → NextDaily c j past here r
+      → (here : State) → BroughtTo here → length_at c j < least_net (Weekly Regular) + compensation_at c j → NextDaily c j past here r
   step_short zero k l compensations here reached s = absurd (omega arith)
   step_short (suc n) k l compensations here reached s =
       must_be_daily c lies few bound long n j k st past compensations here reached r l s (how_begins c lies few bound long n j k st past compensations here reached r l)
 
-  pub too_short_for_weekly : Ahead c j st past r → (here : State) → Brought-to here → length_at c j < least_net (Weekly Regular) + compensation_at c j
+  pub too_short_for_weekly : Ahead c j st past r → (here : State) → BroughtTo here → length_at c j < least_net (Weekly Regular) + compensation_at c j
       → NextDaily c j past here r
   too_short_for_weekly a here reached s = step_short a.left a.counts a.least a.compensations here reached s
 
   step_broken : (n : ℕ) → n + j ≡ count c → LeastFrom c n j st past r
-      → advance (rest_week c) (week_of (at c.starts j) - st.week) st ≡ Broken → ⊥
+      → advance (rest_week c) (week_of (at c.starts j) - st.week) st ≡ None → ⊥
   step_broken zero k l e = omega arith
   step_broken (suc n) k l e =
       let t = entered n r l.bounded in
@@ -481,7 +482,7 @@ module _ (c : Course) (lies : Lies c) (few : count c < carrier_values) (bound : 
       (kept_head (rest_week c) (counts c) c.judged (spans_of c) st _ _
       (keeps_out c n j st past t.kind t.week t.carrier t.rest (subst (KeepsFrom c (suc n) j st past) t.begins l.keeps)))
     where
-      differ : (here : State) → Brought-to here → ⊥
+      differ : (here : State) → BroughtTo here → ⊥
       differ here q = let z : ◌≡◌ {A = ℕ} 0 1 = cc in omega arith
 
       go : (a b d : ℕ) (xs : List Entry) → DailyStep (rest_week c) (counts c) c.judged (spans_of c) st (entry c j past a b d) xs
@@ -489,39 +490,51 @@ module _ (c : Course) (lies : Lies c) (few : count c < carrier_values) (bound : 
       go a b d xs (inl s) = differ s.here s.reached
       go a b d xs (inr s) = differ s.here s.reached
 
-  pub never_broken : Ahead c j st past r → advance (rest_week c) (week_of (at c.starts j) - st.week) st ≡ Broken → ⊥
+  pub never_broken : Ahead c j st past r → advance (rest_week c) (week_of (at c.starts j) - st.week) st ≡ None → ⊥
   never_broken a e = step_broken a.left a.counts a.least e
 
   module _ (outstanding : List ℕ) (size : length outstanding ≡ count c) (zeros : Zeros outstanding) where
     -- where there is a first reading, the rests can be read
     can_be_read : (n : ℕ) → n + j ≡ count c → LeastFrom c n j st past r → ((i : ℕ) → j ≤ i → at c.compensations i ≡ compensation_of (suc i) past)
-        → (here : State) → Brought-to here → CanBeRead c j here outstanding
+        → (here : State) → BroughtTo here → CanBeRead c j here outstanding
     unfolding Completable
     can_be_read zero k l compensations here reached = absurd (omega arith)
     can_be_read (suc n) k l compensations here reached =
         let a : n ≡ count c - (j + 1) = omega arith in
         let b : suc j ≡ j + 1 = omega arith in
         let g = extended c lies few bound (suc n) j st outstanding past k size zeros compensations r l.keeps in
-        let t = subst (λ (x : Brought). After x (λ y. Tries c (Completable c n (suc j)) j y outstanding)) reached g.2 in
+        let t = subst (λ (x : Option State). After x (λ y. Tries c (Completable c n (suc j)) j y outstanding)) reached g.2 in
         subst (λ (i : ℕ). Tries c (Completable c (count c - (j + 1)) i) j here outstanding) b (subst (λ (m : ℕ). Tries c (Completable c m (suc j)) j here outstanding) a t)
 
     step_daily : (n : ℕ) → n + j ≡ count c → LeastFrom c n j st past r → ((i : ℕ) → j ≤ i → at c.compensations i ≡ compensation_of (suc i) past)
-        → (here : State) → Brought-to here → (CanBeRead c j here outstanding → CanBeDaily c j here outstanding) → NextDaily c j past here r
+        → (here : State) → BroughtTo here → (CanBeRead c j here outstanding → CanBeDaily c j here outstanding) → NextDaily c j past here r
     step_daily zero k l compensations here reached g = absurd (omega arith)
     step_daily (suc n) k l compensations here reached g =
         is_daily c lies few bound long n j k st past compensations here reached outstanding size zeros r l (g (can_be_read (suc n) k l compensations here reached))
         (how_begins c lies few bound long n j k st past compensations here reached r l)
 
-    pub goes_as_daily : Ahead c j st past r → (here : State) → Brought-to here → (CanBeRead c j here outstanding → CanBeDaily c j here outstanding) → NextDaily c j past here r
+    pub goes_as_daily : Ahead c j st past r → (here : State) → BroughtTo here → (CanBeRead c j here outstanding → CanBeDaily c j here outstanding) → NextDaily c j past here r
     goes_as_daily a here reached g = step_daily a.left a.counts a.least a.compensations here reached g
 
     step_weekly : (n : ℕ) → n + j ≡ count c → LeastFrom c n j st past r → ((i : ℕ) → j ≤ i → at c.compensations i ≡ compensation_of (suc i) past)
-        → (here : State) → Brought-to here → (CanBeDaily c j here outstanding → ⊥) → (w x : ℕ) → FirstWeekly c j here outstanding w x → NextWeekly c j past here w x r
+        → (here : State) → BroughtTo here → (CanBeDaily c j here outstanding → ⊥) → (w x : ℕ) → FirstWeekly c j here outstanding w x → NextWeekly c j past here w x r
     step_weekly zero k l compensations here reached nay w x f = absurd (omega arith)
     step_weekly (suc n) k l compensations here reached nay w x f =
         is_weekly c lies few bound long n j k st past compensations here reached outstanding size zeros r w x l nay (can_be_read (suc n) k l compensations here reached) f
         (how_begins c lies few bound long n j k st past compensations here reached r l)
 
-    pub goes_as_weekly : Ahead c j st past r → (here : State) → Brought-to here → (CanBeDaily c j here outstanding → ⊥) → (w x : ℕ)
+    pub goes_as_weekly : Ahead c j st past r → (here : State) → BroughtTo here → (CanBeDaily c j here outstanding → ⊥) → (w x : ℕ)
         → FirstWeekly c j here outstanding w x → NextWeekly c j past here w x r
     goes_as_weekly a here reached nay w x f = step_weekly a.left a.counts a.least a.compensations here reached nay w x f
+
+    step_never : (n : ℕ) → n + j ≡ count c → LeastFrom c n j st past r → ((i : ℕ) → j ≤ i → at c.compensations i ≡ compensation_of (suc i) past)
+        → (here : State) → BroughtTo here → (CanBeDaily c j here outstanding → ⊥) → ((w x : ℕ) → CanBeWeekly c j here outstanding w x → ⊥) → ⊥
+    step_never zero k l compensations here reached nay none = omega arith
+    step_never (suc n) k l compensations here reached nay none =
+        never_begins c lies few bound long n j k st past compensations here reached outstanding size zeros nay none
+        (how_begins c lies few bound long n j k st past compensations here reached r l)
+
+    -- where it can be neither there is no first reading
+    pub goes_nowhere : Ahead c j st past r → (here : State) → BroughtTo here → (CanBeDaily c j here outstanding → ⊥)
+        → ((w x : ℕ) → CanBeWeekly c j here outstanding w x → ⊥) → ⊥
+    goes_nowhere a here reached nay none = step_never a.left a.counts a.least a.compensations here reached nay none

@@ -12,7 +12,6 @@ use lib.ListN.{length, set, length-set, length-append}
 use lib.Seq.{get_or-set_same}
 use borrow.Author.Tests.{leb-true, leb-false, ltb-true, ltb-false}
 use Rattle.recording.specs.Weeks.{week_start, week_of}
-use Rattle.recording.specs.Rests.{long_rests_at_most}
 use Rattle.recording.specs.Operations.{total_at_most}
 use Rattle.recording.proofs.TestLaws.{less_or_not}
 use Rattle.rules.specs.Reading.{Entry, regular_minutes, compensation_of, entry_fields, entry_bytes, byte_values, bytes_of, entries}
@@ -23,8 +22,7 @@ use Rattle.rules.proofs.FirstLaws.{fields_length}
 use Rattle.rules.proofs.FieldLaws.{bytes_size}
 use Rattle.rules_items.specs.Items.{added_to, Zeros}
 use Rattle.verdict_completion.specs.declared.State.{State}
-use Rattle.verdict_completion.specs.declared.Brought.{Brought}
-use Rattle.verdict_completion.specs.declared.Brought.TheVariants.{Broken, To}
+use Rattle.std.specs.Prelude.{Option, None, Some}
 use Rattle.verdict_completion.specs.States.{start_state, advance, After, after_daily, after_weekly}
 use Rattle.verdict_completion.specs.Completable.{Course, at, count, rest_week, length_at, amount_of, outstanding_of, Compensates, shortens, Reads, Tries, Completable, Lies, Stands}
 use Rattle.verdict_completion.specs.Better.{AtRest, best_state}
@@ -32,16 +30,16 @@ use Rattle.verdict_completion.proofs.Heads.{arrives, after}
 use Rattle.verdict_completion.proofs.Monotone.{daily_stands}
 use Rattle.verdict_completion.proofs.Compensations.{set_other}
 use Rattle.verdict_steps.specs.Steps.{Says}
-use Rattle.verdict_search.specs.Search.{course_of, Later, Sound, Lent, Before, with_compensations}
-use Rattle.verdict_merging.specs.Merging.{FoundIf}
+use Rattle.verdict_search.specs.Search.{Later, Before, with_compensations}
+use Rattle.verdict_merging.specs.Merging.{ToldIf, Trial}
+use Rattle.verdict_merging.proofs.Merging.{added_to-some, added_to-later}
 use Rattle.verdict_search.proofs.Leading.{Equal}
-use Rattle.verdict_search.proofs.Slots.{sized_too, reached_at}
-use Rattle.verdict_sweep.proofs.Sweeps.{none_of, none_size, none_zeros}
+use Rattle.verdict_search.proofs.Slots.{reached_at}
 use Rattle.rules_entries.specs.Entries.{with_entry}
 use Rattle.verdict_choosing.specs.First.{Least, rests_only}
-use Rattle.verdict_choosing.proofs.Choosing.{lies_with, carrier_low}
-use Rattle.verdict_choosing.specs.Choices.{compensation_at, reduction_at, carrying, CanBeRead, CarriedBy, after_counted, CanBeWeekly, Room, NotPast, FirstWeekly}
-use Rattle.verdict_choosing.specs.Choices.{LeastFrom, Ahead, Placed, FirstOf, Limited, Carries, CanHave}
+use Rattle.verdict_choosing.proofs.Choosing.{carrier_low}
+use Rattle.verdict_choosing.specs.Choices.{compensation_at, reduction_at, carrying, CanBeRead, CarriedBy, after_counted, CanBeWeekly, CanHold, NotPast, FirstWeekly}
+use Rattle.verdict_choosing.specs.Choices.{LeastFrom, Ahead, Placed, IsFirst, FirstOf, Limited, Carries, CanHave}
 
 -- ---- each rest that is left is long enough for its compensation
 record Compensating (F : ℕ → List ℕ → Type 0) (compensation : ℕ) : Type 0 where
@@ -98,55 +96,12 @@ pub added_to-length : (p : List ℕ) (x d : ℕ) → length (added_to p x d) ≡
 added_to-length p zero d = refl
 added_to-length p (suc i) d = length-set p i _
 
-pub limited : {c : Course} {o : List ℕ} → Lent c o → Limited c
-limited {c} h = sized_too c h.sized.lies h.sized (h.sized.compensations_too ∙ sym h.sized.outstanding_too)
-
-pub lent_of : {c d : Course} {o o' : List ℕ} → Limited d → count d ≡ count c → Lent c o → o' ≡ o → Lent d o'
-lent_of {c} {d} s k h e = record {
-  sized = sized_too d s.lies s (ap length e ∙ h.sized.outstanding_too ∙ sym k ∙ sym s.compensations_too);
-  below = zero-le;
-  unused = λ x l. ap (λ (q : List ℕ). at q x) e ∙ h.unused x l;
-}
-
--- slices that are as they were
-module _ {c : Course} {p : List ℕ} (q : p ≡ c.compensations) where
-  pub lent_same : {o o' : List ℕ} → o' ≡ o → Lent c o → Lent (with_compensations c p) o'
-  lent_same {o} {o'} e h = subst (λ (x : List ℕ). Lent (with_compensations c x) o') (sym q) (lent_of (limited h) refl h e)
-
-  pub sound_with : {t : List ℕ} → Sound c t → Sound (with_compensations c p) t
-  sound_with {t} h = subst (λ (x : List ℕ). Sound (with_compensations c x) t) (sym q) h
-
-  pub with_sound : {t : List ℕ} → Sound (with_compensations c p) t → Sound c t
-  with_sound {t} h = subst (λ (x : List ℕ). Sound (with_compensations c x) t) q h
-
-  -- what was asked of them
-  pub found_same : (here : State) {j w x : ℕ} {next : State} {r : Bool} {o o' o'' t : List ℕ} → o' ≡ o
-      → FoundIf (CanBeRead (with_compensations c p) j here o') (CanHave (with_compensations c p) j w next o' x) r o' o'' (Sound (with_compensations c p) t)
-      → FoundIf (CanBeRead c j here o) (CanHave c j w next o x) r o o'' (Sound c t)
-  found_same here {j} {w} {x} {next} {r} {o} {o'} {o''} {t} e f =
-      subst (λ (l : List ℕ). FoundIf (CanBeRead c j here l) (CanHave c j w next l x) r l o'' (Sound c t)) e
-      (subst (λ (l : List ℕ). FoundIf (CanBeRead (with_compensations c l) j here o') (CanHave (with_compensations c l) j w next o' x) r o' o'' (Sound (with_compensations c l) t)) q f)
-
-  pub room_same : {j x : ℕ} → Room (with_compensations c p) j x → Room c j x
-  room_same {j} {x} f = subst (λ (l : List ℕ). Room (with_compensations c l) j x) q f
-
-  pub first_same : {j w x : ℕ} {here : State} {o o' : List ℕ} → o' ≡ o
-      → FirstOf (CanBeRead (with_compensations c p) j here o') (CanBeWeekly (with_compensations c p) j here o' w) (Room (with_compensations c p) j) (count c) x
-      → FirstOf (CanBeRead c j here o) (CanBeWeekly c j here o w) (Room c j) (count c) x
-  first_same {j} {w} {x} {here} {o} {o'} e f =
-      subst (λ (l : List ℕ). FirstOf (CanBeRead c j here l) (CanBeWeekly c j here l w) (Room c j) (count c) x) e
-      (subst (λ (l : List ℕ). FirstOf (CanBeRead (with_compensations c l) j here o') (CanBeWeekly (with_compensations c l) j here o' w) (Room (with_compensations c l) j) (count c) x) q f)
-
-  pub weekly_same : {j w x : ℕ} {here : State} {o o' : List ℕ} → o' ≡ o → FirstWeekly (with_compensations c p) j here o' w x → FirstWeekly c j here o w x
-  weekly_same {j} {w} {x} {here} {o} {o'} e f =
-      subst (λ (l : List ℕ). FirstWeekly c j here l w x) e (subst (λ (l : List ℕ). FirstWeekly (with_compensations c l) j here o' w x) q f)
-
 -- ---- answers
-pub if_no : {R P S : Type 0} {o o' : List ℕ} → (P → ⊥) → o' ≡ o → S → FoundIf R P false o o' S
-if_no n e s = record { yes = λ h. absurd (false≢true h); no = λ _ p. n p; same = e; sound = s }
+pub if_no : {R P S : Type 0} → (P → ⊥) → S → ToldIf R P false S
+if_no n s = record { yes = λ h. absurd (false≢true h); no = λ _. n; ready = s }
 
-pub if_carry : {R P Q S : Type 0} {r : Bool} {o o' : List ℕ} → Equal P Q → FoundIf R P r o o' S → FoundIf R Q r o o' S
-if_carry i h = record { yes = λ e a. i.to (h.yes e a); no = λ e q. h.no e (i.from q); same = h.same; sound = h.sound }
+pub if_carry : {R P Q S : Type 0} {r : Bool} → Equal P Q → ToldIf R P r S → ToldIf R Q r S
+if_carry i h = record { yes = λ e a. i.to (h.yes e a); no = λ e q. h.no e (i.from q); ready = h.ready }
 
 -- ---- a state that is left as it is
 pub before_here : (c : Course) (lies : Lies c) (j : ℕ) (here : State) → AtRest c j here → Before c (j + 1) here
@@ -172,21 +127,21 @@ before_best c lies j {st} inside e =
     }))
 
 module _ (c : Course) (j : ℕ) where
-  added_to-low : Limited c → (x : ℕ) → x ≤ count c → Room c j x → (i : ℕ) → at (added_to c.compensations x (reduction_at c j)) i ≤ total_at_most
-  added_to-low s zero l r i = s.compensations_low i
-  added_to-low s (suc y) l r i = by (less_or_not y i)
+  added_to-low : Lies c → c.judged ≤ total_at_most → Limited c → (x : ℕ) → CanHold c j x → (i : ℕ) → at (added_to c.compensations x (reduction_at c j)) i ≤ total_at_most
+  added_to-low lies judged s zero r i = s.low i
+  added_to-low lies judged s (suc y) r i = by (less_or_not y i)
     where
       v : ℕ
       v = at c.compensations y + reduction_at c j
 
       other : (i ≡ y → ⊥) → at (set c.compensations y (at c.compensations y + reduction_at c j)) i ≤ total_at_most
-      other n = subst (λ (m : ℕ). m ≤ total_at_most) (sym (set_other c.compensations y i _ n)) (s.compensations_low i)
+      other n = subst (λ (m : ℕ). m ≤ total_at_most) (sym (set_other c.compensations y i _ n)) (s.low i)
 
       same : at (set c.compensations y (at c.compensations y + reduction_at c j)) y ≤ total_at_most
       same =
           let e : at (set c.compensations y (at c.compensations y + reduction_at c j)) y ≡ at c.compensations y + reduction_at c j =
-          get_or-set_same c.compensations y (at c.compensations y + reduction_at c j) 0 (omega (arith, s.compensations_too)) in
-          omega (arith, e, r.room y refl, s.lies.judged y (omega arith), s.judged)
+          get_or-set_same c.compensations y (at c.compensations y + reduction_at c j) 0 (omega (arith, s.one_each, r.low)) in
+          omega (arith, e, r.room y refl, lies.judged y (omega (arith, r.low)), judged)
 
       by : (y < i) ⊎ (i ≤ y) → at (set c.compensations y (at c.compensations y + reduction_at c j)) i ≤ total_at_most
       by (inl h) = other (λ q. omega arith)
@@ -195,20 +150,16 @@ module _ (c : Course) (j : ℕ) where
           (λ k. let e : y ≡ i = omega arith in subst (λ (m : ℕ). at (set c.compensations y (at c.compensations y + reduction_at c j)) m ≤ total_at_most) e same)
           (less_or_not i y)
 
-  pub limited_with : Limited c → (x : ℕ) → x ≤ count c → Room c j x → Limited (carrying c j x)
-  limited_with s x l r = record {
-    lies = lies_with c _ s.lies;
-    compensations_too = added_to-length c.compensations x (reduction_at c j) ∙ s.compensations_too;
-    outstanding_too = added_to-length c.compensations x (reduction_at c j) ∙ s.compensations_too;
-    few = s.few;
-    judged = s.judged;
-    compensations_low = added_to-low s x l r;
+  pub limited_with : Lies c → c.judged ≤ total_at_most → Limited c → (x : ℕ) → CanHold c j x → Limited (carrying c j x)
+  limited_with lies judged s x r = record {
+    one_each = added_to-length c.compensations x (reduction_at c j) ∙ s.one_each;
+    low = added_to-low lies judged s x r;
   }
 
   -- what can be gone on with has room
   room_by : (w : ℕ) (next : State) (outstanding : List ℕ) (x : ℕ) → length c.compensations ≡ count c → CarriedBy c j w x → Later (carrying c j x) j next outstanding
-      → Room c j x
-  room_by w next outstanding x long (CarriedBy.alone z h) g = record { room = λ i q. absurd (omega (arith, z, q)) }
+      → CanHold c j x
+  room_by w next outstanding x long (CarriedBy.alone z h) g = record { low = omega arith; room = λ i q. absurd (omega (arith, z, q)) }
   room_by w next outstanding x long (CarriedBy.later i z l m u d) g =
       let e : at (carrying c j x).compensations i ≡ at c.compensations i + reduction_at c j =
       ap (λ (y : ℕ). at (added_to c.compensations y (reduction_at c j)) i) z ∙ get_or-set_same c.compensations i _ 0 (omega (arith, long)) in
@@ -216,12 +167,13 @@ module _ (c : Course) (j : ℕ) where
       long_enough (carrying c j x) (count c - (j + 1)) (j + 1) next outstanding i (omega arith) (omega arith) g in
       let r : least_net Daily + (at c.compensations i + reduction_at c j) ≤ length_at c i = omega (arith, h, e) in
       record {
+        low = omega arith;
         room = λ i' q.
             let k : i ≡ i' = omega (arith, z, q) in
             subst (λ (y : ℕ). least_net Daily + (at c.compensations y + reduction_at c j) ≤ length_at c y) k r;
       }
 
-  pub room_with : (w : ℕ) (next : State) (outstanding : List ℕ) (x : ℕ) → length c.compensations ≡ count c → CanHave c j w next outstanding x → Room c j x
+  pub room_with : (w : ℕ) (next : State) (outstanding : List ℕ) (x : ℕ) → length c.compensations ≡ count c → CanHave c j w next outstanding x → CanHold c j x
   room_with w next outstanding x long g = room_by w next outstanding x long g.carried g.then
 
   -- ---- carriers in order
@@ -229,20 +181,25 @@ module _ (c : Course) (j : ℕ) where
   carrier_past (CarriedBy.alone z h) p = absurd (omega arith)
   carrier_past (CarriedBy.later i z l m u d) p = omega arith
 
-  pub none_below : {w : ℕ} {next : State} {outstanding : List ℕ} (x r : ℕ) → ((x ≡ 0) × (r ≡ j + 2)) ⊎ ((0 < x) × (r ≡ x + 1))
-      → (CanHave c j w next outstanding x → ⊥) → ((y : ℕ) → y < x → CanHave c j w next outstanding y → ⊥) → (y : ℕ) → y < r → CanHave c j w next outstanding y → ⊥
-  none_below {w} {next} {outstanding} x r q nay old y l g = by q (less_or_not y x)
-    where
-      at_x : y ≡ x → ⊥
-      at_x e = nay (subst (λ (v : ℕ). CanHave c j w next outstanding v) e g)
+  module _ {w : ℕ} {next : State} {outstanding : List ℕ} where
+    -- where it can be gone on without a carrier, that is the first; else there is none up to the second rest after it
+    pub none_after : (CanHave c j w next outstanding 0 → ⊥) → (y : ℕ) → y < j + 2 → CanHave c j w next outstanding y → ⊥
+    none_after nay y l g = ⊎_elim (λ p. let v = carrier_past g.carried p in omega (arith, v)) (λ p. let e : y ≡ 0 = omega arith in nay (subst (CanHave c j w next outstanding) e g)) (less_or_not 0 y)
 
-      by : ((x ≡ 0) × (r ≡ j + 2)) ⊎ ((0 < x) × (r ≡ x + 1)) → (y < x) ⊎ (x ≤ y) → ⊥
-      by q (inl h) = old y h g
-      by (inr q) (inr h) = at_x (omega (arith, q.0, q.1))
-      by (inl q) (inr h) = ⊎_elim (λ p. let v = carrier_past g.carried p in omega (arith, v, q.1)) (λ p. at_x (omega (arith, q.0))) (less_or_not 0 y)
+    pub none_below : (x : ℕ) → (CanHave c j w next outstanding x → ⊥) → ((y : ℕ) → y < x → CanHave c j w next outstanding y → ⊥)
+        → (y : ℕ) → y < x + 1 → CanHave c j w next outstanding y → ⊥
+    none_below x nay old y l g = ⊎_elim (λ h. old y h g) (λ h. let e : y ≡ x = omega arith in nay (subst (CanHave c j w next outstanding) e g)) (less_or_not y x)
+
+    -- no carrier is past the rests
+    pub none_at_last : (x : ℕ) → count c < x → ((y : ℕ) → y < x → CanHave c j w next outstanding y → ⊥) → (y : ℕ) → CanHave c j w next outstanding y → ⊥
+    none_at_last x past old y g = old y (omega (arith, carrier_low c j w y g.carried)) g
+
+    pub is_first : {R : Type 0} {Q : ℕ → Type 0} (x : ℕ) → (R → CanHave c j w next outstanding x) → Q x → ((y : ℕ) → y < x → CanHave c j w next outstanding y → ⊥)
+        → IsFirst R (CanHave c j w next outstanding) Q x
+    is_first x goes fits old = record { goes = goes; fits = fits; first = λ y h. ⊎_elim (λ l. absurd (old y l h)) (λ l. l) (less_or_not y x) }
 
   -- the state after the rest, by its week
-  module _ (w : ℕ) (here there next : State) (outstanding : List ℕ) (counted : advance (rest_week c) (w - here.week) here ≡ To there)
+  module _ (w : ℕ) (here there next : State) (outstanding : List ℕ) (counted : advance (rest_week c) (w - here.week) here ≡ Some there)
       (e : next ≡ after_counted c j w there) where
     pub from_with : (x : ℕ) → least_net (Weekly Regular) + compensation_at c j ≤ length_at c j → at c.starts j < week_start (w + 1) → week_start w < at c.ends j
         → CanHave c j w next outstanding x → CanBeWeekly c j here outstanding w x
@@ -259,46 +216,44 @@ module _ (c : Course) (j : ℕ) where
       carried = g.carried;
       then =
           subst (λ (st : State). Later (carrying c j x) j st outstanding) (sym e)
-          (subst (λ (b : Brought). After b (λ y. Later (carrying c j x) j (after_counted c j w y) outstanding)) counted g.then);
+          (subst (λ (b : Option State). After b (λ y. Later (carrying c j x) j (after_counted c j w y) outstanding)) counted g.then);
     }
 
-  pub not_counted : (w : ℕ) (here : State) (outstanding : List ℕ) (x : ℕ) → advance (rest_week c) (w - here.week) here ≡ Broken → CanBeWeekly c j here outstanding w x → ⊥
-  not_counted w here outstanding x e g = subst (λ (b : Brought). After b (λ y. Later (carrying c j x) j (after_counted c j w y) outstanding)) e g.then
+  pub not_counted : (w : ℕ) (here : State) (outstanding : List ℕ) (x : ℕ) → advance (rest_week c) (w - here.week) here ≡ None → CanBeWeekly c j here outstanding w x → ⊥
+  not_counted w here outstanding x e g = subst (λ (b : Option State). After b (λ y. Later (carrying c j x) j (after_counted c j w y) outstanding)) e g.then
+
+  -- the first carrier, by the week
+  pub first_with : (R : Type 0) (P P' Q : ℕ → Type 0) (found : Option ℕ) → ((x : ℕ) → P x → P' x) → ((x : ℕ) → P' x → P x) → FirstOf R P Q found → FirstOf R P' Q found
+  first_with R P P' Q None to from f = λ y g. f y (from y g)
+  first_with R P P' Q (Some x) to from f = record { goes = λ r. to x (f.goes r); fits = f.fits; first = λ y g. f.first y (from y g) }
 
   -- ---- weeks in order
-  pub none_before : {here : State} {outstanding : List ℕ} (w x : ℕ) → FirstOf (CanBeRead c j here outstanding) (CanBeWeekly c j here outstanding w) (Room c j) (count c) x → count c < x
-      → ((v y : ℕ) → v < w → CanBeWeekly c j here outstanding v y → ⊥) → (v y : ℕ) → v < w + 1 → CanBeWeekly c j here outstanding v y → ⊥
-  none_before {here} {outstanding} w x f past old v y l g =
-      ⊎_elim (λ h. old v y h g)
-      (λ h. let e : v ≡ w = omega arith in
-      let k = f.first y (subst (λ (u : ℕ). CanBeWeekly c j here outstanding u y) e g) in
-      omega (arith, k, carrier_low c j v y g.carried))
-      (less_or_not v w)
+  module _ {here : State} {outstanding : List ℕ} (w : ℕ) (old : (v y : ℕ) → v < w → CanBeWeekly c j here outstanding v y → ⊥) where
+    pub none_before : {found : Option ℕ} → found ≡ None → FirstOf (CanBeRead c j here outstanding) (CanBeWeekly c j here outstanding w) (CanHold c j) found
+        → (v y : ℕ) → v < w + 1 → CanBeWeekly c j here outstanding v y → ⊥
+    none_before {found} e f v y l g =
+        ⊎_elim (λ h. old v y h g)
+        (λ h. let k : v ≡ w = omega arith in
+        subst (FirstOf (CanBeRead c j here outstanding) (CanBeWeekly c j here outstanding w) (CanHold c j)) e f y (subst (λ (u : ℕ). CanBeWeekly c j here outstanding u y) k g))
+        (less_or_not v w)
 
-  pub first_here : {here : State} {outstanding : List ℕ} (w x : ℕ) → FirstOf (CanBeRead c j here outstanding) (CanBeWeekly c j here outstanding w) (Room c j) (count c) x → x ≤ count c
-      → at c.starts j < week_start (w + 1) → week_start w < at c.ends j → ((v y : ℕ) → v < w → CanBeWeekly c j here outstanding v y → ⊥) → FirstWeekly c j here outstanding w x
-  first_here {here} {outstanding} w x f l from upto old = record {
-    goes = f.goes;
-    fits = λ h. record { from = from; upto = upto; room = f.fits h };
-    found = λ v y g. l;
-    first = λ v y g.
-        ⊎_elim (λ h. absurd (old v y h g))
-        (λ h. ⊎_elim NotPast.sooner
-        (λ k. let e : v ≡ w = omega arith in NotPast.same (sym e) (f.first y (subst (λ (u : ℕ). CanBeWeekly c j here outstanding u y) e g))) (less_or_not w v))
-        (less_or_not v w);
-  }
+    pub first_here : {found : Option ℕ} {x : ℕ} → found ≡ Some x → FirstOf (CanBeRead c j here outstanding) (CanBeWeekly c j here outstanding w) (CanHold c j) found
+        → at c.starts j < week_start (w + 1) → week_start w < at c.ends j → FirstWeekly c j here outstanding w x
+    first_here {found} {x} e g from upto =
+        let f : IsFirst (CanBeRead c j here outstanding) (CanBeWeekly c j here outstanding w) (CanHold c j) x =
+        subst (FirstOf (CanBeRead c j here outstanding) (CanBeWeekly c j here outstanding w) (CanHold c j)) e g in
+        record {
+          goes = f.goes;
+          fits = record { from = from; upto = upto; holds = f.fits };
+          first = λ v y h.
+              ⊎_elim (λ l. absurd (old v y l h))
+              (λ l. ⊎_elim NotPast.sooner
+              (λ k. let q : v ≡ w = omega arith in NotPast.same (sym q) (f.first y (subst (λ (u : ℕ). CanBeWeekly c j here outstanding u y) q h))) (less_or_not w v))
+              (less_or_not v w);
+        }
 
-  pub none_at_all : {here : State} {outstanding : List ℕ} (w : ℕ) → at c.ends j ≤ week_start w → ((v y : ℕ) → v < w → CanBeWeekly c j here outstanding v y → ⊥)
-      → FirstWeekly c j here outstanding w (count c + 1)
-  none_at_all {here} {outstanding} w past old = record {
-    goes = λ h. absurd (omega arith);
-    fits = λ h. absurd (omega arith);
-    found = λ v y g. absurd (none v y g);
-    first = λ v y g. absurd (none v y g);
-  }
-    where
-      none : (v y : ℕ) → CanBeWeekly c j here outstanding v y → ⊥
-      none v y g = old v y (omega (arith, g.upto)) g
+    pub none_at_all : at c.ends j ≤ week_start w → (v y : ℕ) → CanBeWeekly c j here outstanding v y → ⊥
+    none_at_all past v y g = old v y (omega (arith, g.upto)) g
 
 -- ---- whether a rest can be the carrier
 module _ (c : Course) (j w x : ℕ) where
@@ -307,13 +262,13 @@ module _ (c : Course) (j w x : ℕ) where
 
   pub carries_none : x ≡ 0 → reduction_at c j ≡ 0 → Says (Carries c j w x) true
   carries_none z r = record {
-    yes = λ _. record { carried = CarriedBy.alone z (inl (omega (arith, r))); fits = record { room = λ i q. absurd (omega (arith, z, q)) } };
+    yes = λ _. record { carried = CarriedBy.alone z (inl (omega (arith, r))); holds = record { low = omega arith; room = λ i q. absurd (omega (arith, z, q)) } };
     no = λ h. absurd (true≢false h);
   }
 
   pub carries_late : x ≡ 0 → (reduction_at c j ≡ 0 → ⊥) → Says (Carries c j w x) (ltb c.judged deadline)
   carries_late z r = record {
-    yes = λ h. record { carried = CarriedBy.alone z (inr (ltb-true c.judged deadline h)); fits = record { room = λ i q. absurd (omega (arith, z, q)) } };
+    yes = λ h. record { carried = CarriedBy.alone z (inr (ltb-true c.judged deadline h)); holds = record { low = omega arith; room = λ i q. absurd (omega (arith, z, q)) } };
     no = λ h k. by h k.carried;
   }
     where
@@ -341,7 +296,8 @@ module _ (c : Course) (j w x : ℕ) where
   carries_fits n r l m d less e = record {
     yes = λ h. record {
       carried = CarriedBy.later (x - 1) (omega (arith, l)) (omega (arith, l)) (omega (arith, l, m)) (omega arith) d;
-      fits = record {
+      holds = record {
+        low = m;
         room = λ i q.
             let v : x - 1 ≡ i = omega (arith, q) in
             let g = leb-true (least_net Daily + (at c.compensations (x - 1) + less)) (at c.ends (x - 1) - at c.starts (x - 1)) h in
@@ -350,17 +306,34 @@ module _ (c : Course) (j w x : ℕ) where
     };
     no = λ h k.
         let g = leb-false (least_net Daily + (at c.compensations (x - 1) + less)) (at c.ends (x - 1) - at c.starts (x - 1)) h in
-        let v = k.fits.room (x - 1) (omega (arith, l)) in
+        let v = k.holds.room (x - 1) (omega (arith, l)) in
         omega (arith, g, v, e);
   }
 
 -- with a carrier that is one, the later rests are what is left to ask
-pub with_carrier : (c : Course) (j w : ℕ) (next : State) (o : List ℕ) (x : ℕ) {less : ℕ} → less ≡ reduction_at c j → CarriedBy c j w x
-    → Equal (Later (with_compensations c (added_to c.compensations x less)) j next o) (CanHave c j w next o x)
-with_carrier c j w next o x {less} e k = record {
-  to = λ p. record { carried = k; then = subst (λ (d : ℕ). Later (with_compensations c (added_to c.compensations x d)) j next o) e p };
-  from = λ g. subst (λ (d : ℕ). Later (with_compensations c (added_to c.compensations x d)) j next o) (sym e) g.then;
+pub with_carrier : (c : Course) (j w : ℕ) (next : State) (o : List ℕ) (x : ℕ) {d : Course} → d ≡ carrying c j x → CarriedBy c j w x
+    → Equal (Later d j next o) (CanHave c j w next o x)
+with_carrier c j w next o x {d} e k = record {
+  to = λ p. record { carried = k; then = subst (λ (a : Course). Later a j next o) e p };
+  from = λ g. subst (λ (a : Course). Later a j next o) (sym e) g.then;
 }
+
+-- a course is a trial of itself; and so is the one in which a carrier has the reduction of the rest of index j
+pub trial_same : (c : Course) {x : ℕ} → Trial c c x
+trial_same c = record { same_rests = refl; later = λ i l. refl; same = λ z. refl }
+
+pub trial_carrying : (c : Course) (j x : ℕ) {d : Course} → (x ≡ 0 → ⊥) → d ≡ carrying c j x → Trial c d x
+trial_carrying c j x {d} n e = record {
+  same_rests = subst (λ (a : Course). a ≡ with_compensations c a.compensations) (sym e) refl;
+  later = λ i l. subst (λ (a : Course). at a.compensations i ≡ at c.compensations i) (sym e) (added_to-later c.compensations x (reduction_at c j) i l);
+  same = λ z. absurd (n z);
+}
+
+-- the compensations with the reduction of the rest of index j
+pub carried_on : (c : Course) (j x : ℕ) {less : ℕ} {p : List ℕ} → (x ≡ 0 → ⊥) → less ≡ reduction_at c j → p ≡ set c.compensations (x - 1) (at c.compensations (x - 1) + less)
+    → p ≡ added_to c.compensations x (reduction_at c j)
+carried_on c j x {less} {p} n e q =
+    q ∙ sym (added_to-some c.compensations x less n) ∙ ap (added_to c.compensations x) e
 
 -- ---- the bytes written so far
 -- the bytes of the entries in front, then those of the others
@@ -471,10 +444,10 @@ progress_end c f reading j st size all p =
     ∙ sym (bytes_append j p.front [] p.long) ∙ ap (λ (x : List ℕ). bytes_of (p.front ++ x)) (sym l) ∙ ap bytes_of (sym p.whole)
 
 -- ---- a state brought on, or not
-pub broken_not_to : {b a : Brought} {there : State} → b ≡ a → b ≡ Broken → a ≡ To there → ⊥
-broken_not_to {b} {a} {there} e f g = let z : ◌≡◌ {A = ℕ} 0 1 = cc in omega arith
+pub none_not_some : {b a : Option State} {there : State} → b ≡ a → b ≡ None → a ≡ Some there → ⊥
+none_not_some {b} {a} {there} e f g = let z : ◌≡◌ {A = ℕ} 0 1 = cc in omega arith
 
-pub to_same : {b a : Brought} {here there : State} → b ≡ a → b ≡ To here → a ≡ To there → here ≡ there
+pub to_same : {b a : Option State} {here there : State} → b ≡ a → b ≡ Some here → a ≡ Some there → here ≡ there
 to_same e f g = cc
 
 pub counted_state : (c : Course) (j w : ℕ) (rest : Bool) (there next : State)
@@ -484,19 +457,3 @@ counted_state c j w rest there next e r =
 
 pub at_rest_with : (c : Course) (p : List ℕ) {j : ℕ} {here : State} → AtRest c j here → AtRest (with_compensations c p) j here
 at_rest_with c p h = record { within = h.within; small = h.small; week = h.week; ended = h.ended }
-
--- ---- before a rest has a compensation or anything is outstanding
-pub lent_start : (room : ℕ) (starts ends nets : List ℕ) (s : ℕ) → Lies (rests_only starts ends nets s) → length starts ≤ room → length starts ≤ long_rests_at_most → s ≤ total_at_most
-    → Lent (course_of starts ends nets (none_of room (length starts)) s) (none_of room (length starts))
-lent_start room starts ends nets s l fits few judged = record {
-  sized = record {
-    lies = lies_with (rests_only starts ends nets s) (none_of room (length starts)) l;
-    compensations_too = none_size room (length starts) fits;
-    outstanding_too = none_size room (length starts) fits;
-    few = few;
-    judged = judged;
-    compensations_low = λ i. omega (arith, none_zeros room (length starts) i);
-  };
-  below = zero-le;
-  unused = λ x _. none_zeros room (length starts) x;
-}

@@ -1,9 +1,10 @@
 -- Inner: the first reading, entry by entry: which entries of a rest can be gone on with, and what is left to read after a first part.
 -- Nobody has to believe it: no public contract cites it.
 -- Assumes nothing.
-use Rattle.std.specs.Prelude.{◌≡◌, ◌⊎◌, List, ◌∷◌, ℕ, suc, ◌+◌, ◌-◌, ◌≤◌, ◌<◌, leb}
+use Rattle.std.specs.Prelude.{◌≡◌, ◌⊎◌, List, ◌∷◌, ℕ, suc, ◌+◌, ◌-◌, ◌≤◌, ◌<◌, leb, length, Option, None, Some}
 use Rattle.recording.specs.Tests.{one}
 use Rattle.recording.specs.Weeks.{week_start}
+use Rattle.recording.specs.Operations.{total_at_most}
 use Rattle.rules.specs.Reading.{Entry, daily_kind, weekly_kind, regular_minutes, compensation_of, entries_from}
 use Rattle.rules.specs.ReadingRules.{least_net, shortened_at_most, weeks_to_compensate}
 use Rattle.rules.specs.Order.{Fields, NotAfter}
@@ -12,12 +13,13 @@ use Rattle.rules.specs.declared.Standing.TheVariants.{Regular}
 use Rattle.rules_entries.specs.Entries.{with_entry}
 use Rattle.rules_items.specs.Items.{end_before, spans_from, added_to}
 use Rattle.verdict_completion.specs.declared.State.{State}
-use Rattle.verdict_completion.specs.declared.Brought.TheVariants.{To}
 use Rattle.verdict_completion.specs.States.{advance, After, after_daily, after_weekly}
 use Rattle.verdict_completion.specs.Runs.{Kept}
 use Rattle.verdict_completion.specs.Completable.{Course, at, count, spans_of, rest_week, counts, length_at, shortens, ReadDaily, Tries}
-use Rattle.verdict_nogoods.specs.Table.{Empty}
-use Rattle.verdict_search.specs.Search.{Later, Sound, Sized, Lent, Before}
+use Rattle.verdict_search.specs.Search.{with_compensations, Later, Before}
+use Rattle.verdict_merging.specs.Merging.{Ready}
+use Rattle.verdict_merging.specs.declared.Room.{Room}
+use Rattle.verdict_choosing.specs.declared.Choice.{Choice}
 
 module _ (c : Course) where
   -- the compensation of the rest of index j, and by how many minutes it is reduced as a weekly rest
@@ -29,7 +31,7 @@ module _ (c : Course) where
 
   -- the reduction of the rest of index j adds to the compensation of the rest of number x, if that is one
   abbrev pub carrying : ℕ → ℕ → Course
-  carrying j x = record { starts = c.starts; ends = c.ends; nets = c.nets; compensations = added_to c.compensations x (reduction_at j); judged = c.judged }
+  carrying j x = with_compensations c (added_to c.compensations x (reduction_at j))
 
   -- the rests from that of index j on can be read, from a state in the week in which it starts
   abbrev pub CanBeRead : ℕ → State → List ℕ → Type 0
@@ -57,28 +59,32 @@ module _ (c : Course) where
     pub carried : CarriedBy j w x
     pub then : After (advance (rest_week c) (w - here.week) here) (λ there. Later (carrying j x) j (after_counted j w there) outstanding)
 
-  -- the reduction of the rest of index j fits into the rest of number x, if that is one, beside its compensation and what it needs itself
-  pub record Room (j x : ℕ) : Type 0 where
+  -- x is 0 or the number of a rest, and the reduction of the rest of index j fits into that rest, beside its compensation and what it needs itself
+  pub record CanHold (j x : ℕ) : Type 0 where
+    pub low : x ≤ count c
     pub room : (i : ℕ) → x ≡ suc i → least_net Daily + (compensation_at i + reduction_at j) ≤ length_at c i
 
   -- the rest of index j has a minute in week w, and its reduction fits
   pub record Fits (j w x : ℕ) : Type 0 where
     pub from : at c.starts j < week_start (w + 1)
     pub upto : week_start w < at c.ends j
-    pub room : Room j x
+    pub holds : CanHold j x
 
 -- a week and a carrier that do not stand after others
 pub data NotPast (w x w' x' : ℕ) : Type 0 where
   sooner : w < w' → NotPast w x w' x'
   same : w ≡ w' → x ≤ x' → NotPast w x w' x'
 
--- the first week and carrier with which the rest of index j can be gone on with, if the rests can be read at all; the carrier is past the rests where
--- there are none
+-- w and x are the first week and carrier with which the rest of index j can be gone on with, if the rests can be read at all
 pub record FirstWeekly (c : Course) (j : ℕ) (here : State) (outstanding : List ℕ) (w x : ℕ) : Type 0 where
-  pub goes : x ≤ count c → CanBeRead c j here outstanding → CanBeWeekly c j here outstanding w x
-  pub fits : x ≤ count c → Fits c j w x
-  pub found : (w' x' : ℕ) → CanBeWeekly c j here outstanding w' x' → x ≤ count c
+  pub goes : CanBeRead c j here outstanding → CanBeWeekly c j here outstanding w x
+  pub fits : Fits c j w x
   pub first : (w' x' : ℕ) → CanBeWeekly c j here outstanding w' x' → NotPast w x w' x'
+
+-- the same of an answer; where there is none it can be gone on with none
+abbrev pub FirstChoice : Course → ℕ → State → List ℕ → Option Choice → Type 0
+FirstChoice c j here outstanding None = (w x : ℕ) → CanBeWeekly c j here outstanding w x → ⊥
+FirstChoice c j here outstanding (Some choice) = FirstWeekly c j here outstanding choice.week choice.carrier
 
 -- ---- what is left to read
 module _ (c : Course) where
@@ -112,20 +118,26 @@ pub record Placed (c : Course) (j : ℕ) (st : State) (past : List Entry) (r rea
   pub ahead : Ahead c (suc j) st (entry ∷ past) rest
 
 -- ---- what the functions answer
--- x is the first number of which P holds, where R does, or past the most; Q holds of it at any rate
-pub record FirstOf (R : Type 0) (P Q : ℕ → Type 0) (most x : ℕ) : Type 0 where
-  pub goes : x ≤ most → R → P x
-  pub fits : x ≤ most → Q x
+-- x is the first number of which P holds, where R does; Q holds of it at any rate
+pub record IsFirst (R : Type 0) (P Q : ℕ → Type 0) (x : ℕ) : Type 0 where
+  pub goes : R → P x
+  pub fits : Q x
   pub first : (y : ℕ) → P y → x ≤ y
 
+-- the same of an answer; where there is none P holds of none
+abbrev pub FirstOf : Type 0 → (ℕ → Type 0) → (ℕ → Type 0) → Option ℕ → Type 0
+FirstOf R P Q None = (y : ℕ) → P y → ⊥
+FirstOf R P Q (Some x) = IsFirst R P Q x
+
 module _ (c : Course) where
-  -- the long rests lie in order within the limits, and so do their compensations
-  abbrev pub Limited : Type 0
-  Limited = Sized c c.compensations
+  -- each long rest has a compensation, within the limits
+  pub record Limited : Type 0 where
+    pub one_each : length c.compensations ≡ count c
+    pub low : (i : ℕ) → at c.compensations i ≤ total_at_most
 
   pub record Carries (j w x : ℕ) : Type 0 where
     pub carried : CarriedBy c j w x
-    pub fits : Room c j x
+    pub holds : CanHold c j x
 
   -- the rest of index j is weekly, counted in week w, and leads to the state next: it can be gone on with carrier x
   pub record CanHave (j w : ℕ) (next : State) (outstanding : List ℕ) (x : ℕ) : Type 0 where
@@ -148,17 +160,11 @@ pub record PutWeekly (c c' : Course) (j : ℕ) (here : State) (w x : ℕ) (readi
   pub limited : Limited c'
   pub before : Before c' (j + 1) r
   pub kept : x ≡ 0 → c'.compensations ≡ c.compensations
-  pub done : (there : State) → x ≤ count c → advance (rest_week c) (w - here.week) here ≡ To there → DoneWeekly c c' j there w x reading reading' r
-
--- the nogoods of k rests are as they were, or none where x is the number of a rest
-pub record Renewed (k x : ℕ) (nogoods nogoods' : List ℕ) : Type 0 where
-  pub kept : x ≡ 0 → nogoods' ≡ nogoods
-  pub empty : (x ≡ 0 → ⊥) → Empty nogoods' k
+  pub done : (there : State) → advance (rest_week c) (w - here.week) here ≡ Some there → DoneWeekly c c' j there w x reading reading' r
 
 -- the rest of index j was read: wherever there is a first reading, its entry was written
-pub record Stepped (c c' : Course) (j : ℕ) (st : State) (outstanding outstanding' nogoods' reading reading' : List ℕ) (r : State) : Type 0 where
-  pub lent : Lent c' outstanding'
-  pub sound : Sound c' nogoods'
-  pub same : outstanding' ≡ outstanding
+pub record Stepped (c c' : Course) (j : ℕ) (st : State) (room' : Room) (reading reading' : List ℕ) (r : State) : Type 0 where
+  pub limited : Limited c'
+  pub ready : Ready c' room'
   pub before : Before c' (j + 1) r
   pub placed : (past : List Entry) (left : List ℕ) → Ahead c j st past left → Placed c' j r past left reading reading'

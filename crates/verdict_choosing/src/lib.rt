@@ -1,7 +1,7 @@
 // The first reading, entry by entry: which entry of a rest is the first that can be gone on with.
 #![tactic(auto)]
 
-ghost use Rattle.std.specs.Prelude.{◌≡◌, true, ◌⊎◌, ◌+◌, ◌-◌, ◌<◌, ◌≤◌};
+ghost use Rattle.std.specs.Prelude.{◌≡◌, ◌+◌, ◌-◌, ◌<◌, ◌≤◌, length, true};
 ghost use Rattle.recording.specs.Weeks.{week_start};
 ghost use Rattle.rules.specs.Reading.{regular_minutes};
 ghost use Rattle.rules.specs.ReadingRules.{least_net};
@@ -9,17 +9,19 @@ ghost use Rattle.rules.specs.declared.Kind.TheVariants.{Daily, Weekly};
 ghost use Rattle.rules.specs.declared.Standing.TheVariants.{Regular};
 ghost use Rattle.rules_items.specs.Items.{compensation_at_most};
 ghost use Rattle.verdict_completion.specs.Completable.{at, count, length_at};
+ghost use Rattle.verdict_completion.specs.Courses.{course_of};
 ghost use Rattle.verdict_completion.specs.Better.{AtRest};
 ghost use Rattle.verdict_steps.specs.Steps.{Says};
-ghost use Rattle.verdict_search.specs.Search.{course_of, Sound, Lent, Before};
-ghost use Rattle.verdict_merging.specs.Merging.{FindsIf};
-ghost use Rattle.verdict_choosing.specs.Choices.{CanBeRead, CanBeDaily, CanBeWeekly, FirstWeekly, FirstOf, Limited, Room, Carries, CanHave};
+ghost use Rattle.verdict_search.specs.Search.{Before};
+ghost use Rattle.verdict_merging.specs.Merging.{nothing, Ready, ToldIf};
+ghost use Rattle.verdict_choosing.specs.Choices.{CanBeRead, CanBeDaily, CanBeWeekly, FirstChoice, FirstOf, CanHold, Carries, CanHave};
 
 use rules::Kind;
-use verdict_completion::{Brought, State};
+use verdict_completion::{Course, State};
+use verdict_merging::Room;
 
-// A week in which a weekly rest is counted, and the number of its carrier: 0, or a later rest, or past all rests where there is no choice.
-#[derive(Clone, Copy)]
+// A week in which a weekly rest is counted, and the number of its carrier, or 0.
+#[derive(Clone, Copy, Debug, PartialEq, Eq)]
 pub struct Choice {
     pub week: u32,
     pub carrier: usize,
@@ -35,293 +37,169 @@ pub fn lacking(minutes: u32, compensation: u32) -> u32
 }
 
 // Whether the rest of index j can be daily.
-pub fn can_be_daily(
-    starts: &[u32],
-    ends: &[u32],
-    nets: &[u32],
-    compensations: &mut [u32],
-    s: u32,
-    outstanding: &mut [u32],
-    nogoods: &mut [u32],
-    front: &mut [u32],
-    other: &mut [u32],
-    known: &mut [u32],
-    beside: &mut [u32],
-    j: usize,
-    here: State,
-) -> bool
-    requires { let c = course_of starts.now ends.now nets.now compensations.old s in
-        Lent c outstanding.old × AtRest c j here × (least_net Daily + at compensations.old j ≤ length_at c j) × Sound c nogoods.old }
-    ensures { let c = course_of starts.now ends.now nets.now compensations.old s in FindsIf c (CanBeRead c j here outstanding.old)
-        (CanBeDaily c j here outstanding.old) result outstanding.old outstanding.new nogoods.new
-        × (compensations.new ≡ compensations.old) }
+pub fn can_be_daily(course: &Course, room: &mut Room, j: usize, here: State) -> bool
+    requires ready { Ready (course_of course.now) room.old }
+    requires rest { AtRest (course_of course.now) j here }
+    requires net { let c = course_of course.now in least_net Daily + at c.compensations j ≤ length_at c j }
+    ensures { let c = course_of course.now in ToldIf (CanBeRead c j here (nothing c)) (CanBeDaily c j here (nothing c)) result (Ready c room.new) }
 {
-    let short = verdict_steps::is_short(ends[j] - starts[j], nets[j], compensations[j]);
-    let next = verdict_steps::after_daily(here, short);
+    let rests = course.rests;
+    let short = verdict_steps::is_short(
+        rests.ends[j] - rests.starts[j],
+        rests.nets[j],
+        course.compensations[j],
+    );
+    let next = here.after_daily(short);
     if rules_items::SHORTENED_AT_MOST < next.short {
         return false;
     }
-    verdict_merging::completes_beside(
-        starts,
-        ends,
-        nets,
-        compensations,
-        s,
-        outstanding,
-        nogoods,
-        front,
-        other,
-        known,
-        beside,
-        j,
-        here,
-        next,
-        0,
-        0,
-    )
+    verdict_merging::completes_beside(course, course, room, j, here, next, 0)
 }
 
 // Whether x can be the carrier of the rest of index j, weekly and counted in week w, and has room for its reduction.
-fn carries(
-    starts: &[u32],
-    ends: &[u32],
-    nets: &[u32],
-    compensations: &[u32],
-    s: u32,
-    j: usize,
-    w: u32,
-    x: usize,
-) -> bool
-    requires { let c = course_of starts.now ends.now nets.now compensations.now s in Limited c × (j < count c) × (week_start w < at ends.now j) × (x ≤ count c) × (0 < x → j + 1 < x) }
-    ensures { let c = course_of starts.now ends.now nets.now compensations.now s in Says (Carries c j w x) result }
+fn carries(course: &Course, j: usize, w: u32, x: usize) -> bool
+    requires within { j < count (course_of course.now) }
+    requires week { week_start w < at course.now.rests.ends.now j }
+    requires number { x ≤ count (course_of course.now) }
+    requires later { 0 < x → j + 1 < x }
+    ensures { Says (Carries (course_of course.now) j w x) result }
 {
+    let rests = course.rests;
     let deadline = recording::WEEK_MINUTES * (w + rules_items::WEEKS_TO_COMPENSATE);
-    let less = lacking(ends[j] - starts[j], compensations[j]);
+    let less = lacking(rests.ends[j] - rests.starts[j], course.compensations[j]);
     if x == 0 {
         if less == 0 {
             return true;
         }
-        return s < deadline;
+        return rests.judged < deadline;
     }
     if less == 0 {
         return false;
     }
     let i = x - 1;
-    if deadline < ends[i] {
+    if deadline < rests.ends[i] {
         return false;
     }
-    rules_items::DAILY_NET + (compensations[i] + less) <= ends[i] - starts[i]
+    rules_items::DAILY_NET + (course.compensations[i] + less) <= rests.ends[i] - rests.starts[i]
 }
 
-// Whether the rest of index j, weekly and counted in week w, can have the carrier x; the state after it is next.
+// Whether the rest of index j, weekly and counted in week w, can have the carrier x; the state after it is next. `spare` is room for the compensations that
+// the rests have then.
 fn can_have(
-    starts: &[u32],
-    ends: &[u32],
-    nets: &[u32],
-    compensations: &mut [u32],
-    s: u32,
-    outstanding: &mut [u32],
-    nogoods: &mut [u32],
-    front: &mut [u32],
-    other: &mut [u32],
-    known: &mut [u32],
-    beside: &mut [u32],
+    course: &Course,
+    room: &mut Room,
+    spare: &mut [u32],
     j: usize,
     here: State,
     w: u32,
     next: State,
     x: usize,
 ) -> bool
-    requires { let c = course_of starts.now ends.now nets.now compensations.old s in Lent c outstanding.old × AtRest c j here × Before c (j + 1) next × (week_start w < at ends.now j)
-        × (x ≤ count c) × (0 < x → j + 1 < x) × Sound c nogoods.old }
-    ensures { let c = course_of starts.now ends.now nets.now compensations.old s in FindsIf c (CanBeRead c j here outstanding.old)
-        (CanHave c j w next outstanding.old x) result outstanding.old outstanding.new nogoods.new
-        × (result ≡ true → Room c j x) × (compensations.new ≡ compensations.old) }
+    requires ready { Ready (course_of course.now) room.old }
+    requires spare { length spare.old ≡ count (course_of course.now) }
+    requires rest { AtRest (course_of course.now) j here }
+    requires next { Before (course_of course.now) (j + 1) next }
+    requires week { week_start w < at course.now.rests.ends.now j }
+    requires number { x ≤ count (course_of course.now) }
+    requires later { 0 < x → j + 1 < x }
+    ensures told { let c = course_of course.now in ToldIf (CanBeRead c j here (nothing c)) (CanHave c j w next (nothing c) x) result (Ready c room.new) }
+    ensures holds { result ≡ true → CanHold (course_of course.now) j x }
 {
-    if !carries(starts, ends, nets, compensations, s, j, w, x) {
+    if !carries(course, j, w, x) {
         return false;
     }
-    let less = lacking(ends[j] - starts[j], compensations[j]);
-    verdict_merging::completes_beside(
-        starts,
-        ends,
-        nets,
-        compensations,
-        s,
-        outstanding,
-        nogoods,
-        front,
-        other,
-        known,
-        beside,
-        j,
-        here,
-        next,
-        x,
-        less,
-    )
-}
-
-// The carrier to try after x for the rest of index j.
-fn next_carrier(x: usize, j: usize) -> usize
-    requires { (x < 1000) × (j < 1000) }
-    ensures { ((x ≡ 0) × (result ≡ j + 2)) ⊎ ((0 < x) × (result ≡ x + 1)) }
-{
     if x == 0 {
-        return j + 2;
+        return verdict_merging::completes_beside(course, course, room, j, here, next, 0);
     }
-    x + 1
+    let rests = course.rests;
+    let less = lacking(rests.ends[j] - rests.starts[j], course.compensations[j]);
+    spare.copy_from_slice(course.compensations);
+    spare[x - 1] += less;
+    let trial = Course {
+        rests: course.rests,
+        compensations: spare,
+    };
+    verdict_merging::completes_beside(course, &trial, room, j, here, next, x)
 }
 
-// The first carrier that the rest of index j, weekly and counted in week w, can have, or a number past all rests.
+// The first carrier that the rest of index j, weekly and counted in week w, can have.
 fn first_carrier(
-    starts: &[u32],
-    ends: &[u32],
-    nets: &[u32],
-    compensations: &mut [u32],
-    s: u32,
-    outstanding: &mut [u32],
-    nogoods: &mut [u32],
-    front: &mut [u32],
-    other: &mut [u32],
-    known: &mut [u32],
-    beside: &mut [u32],
+    course: &Course,
+    room: &mut Room,
+    spare: &mut [u32],
     j: usize,
     here: State,
     w: u32,
     next: State,
-) -> usize
-    requires { let c = course_of starts.now ends.now nets.now compensations.old s in
-        Lent c outstanding.old × AtRest c j here × Before c (j + 1) next × (week_start w < at ends.now j) × Sound c nogoods.old }
-    ensures { let c = course_of starts.now ends.now nets.now compensations.old s in FirstOf (CanBeRead c j here outstanding.old) (CanHave c j w next outstanding.old) (Room c j)
-        (count c) result
-        × (outstanding.new ≡ outstanding.old) × (compensations.new ≡ compensations.old) × Sound c nogoods.new }
+) -> Option<usize>
+    requires ready { Ready (course_of course.now) room.old }
+    requires spare { length spare.old ≡ count (course_of course.now) }
+    requires rest { AtRest (course_of course.now) j here }
+    requires next { Before (course_of course.now) (j + 1) next }
+    requires week { week_start w < at course.now.rests.ends.now j }
+    ensures first { let c = course_of course.now in FirstOf (CanBeRead c j here (nothing c)) (CanHave c j w next (nothing c)) (CanHold c j) result }
+    ensures ready { Ready (course_of course.now) room.new }
 {
-    let mut x = 0;
-    while x <= starts.len() {
-        if can_have(
-            starts,
-            ends,
-            nets,
-            compensations,
-            s,
-            outstanding,
-            nogoods,
-            front,
-            other,
-            known,
-            beside,
-            j,
-            here,
-            w,
-            next,
-            x,
-        ) {
-            return x;
-        }
-        x = next_carrier(x, j);
+    if can_have(course, room, spare, j, here, w, next, 0) {
+        return Some(0);
     }
-    x
+    for x in j + 2..course.rests.starts.len() + 1 {
+        if can_have(course, room, spare, j, here, w, next, x) {
+            return Some(x);
+        }
+    }
+    None
 }
 
 // The same, from the state in the week in which the rest starts.
 fn carrier_in(
-    starts: &[u32],
-    ends: &[u32],
-    nets: &[u32],
-    compensations: &mut [u32],
-    s: u32,
-    outstanding: &mut [u32],
-    nogoods: &mut [u32],
-    front: &mut [u32],
-    other: &mut [u32],
-    known: &mut [u32],
-    beside: &mut [u32],
+    course: &Course,
+    room: &mut Room,
+    spare: &mut [u32],
     j: usize,
     here: State,
     w: u32,
-) -> usize
-    requires { let c = course_of starts.now ends.now nets.now compensations.old s in Lent c outstanding.old × AtRest c j here × (least_net (Weekly Regular) + at compensations.old j ≤ length_at c j)
-        × (at starts.now j < week_start (w + 1)) × (week_start w < at ends.now j) × Sound c nogoods.old }
-    ensures { let c = course_of starts.now ends.now nets.now compensations.old s in
-        FirstOf (CanBeRead c j here outstanding.old) (CanBeWeekly c j here outstanding.old w) (Room c j) (count c) result
-        × (outstanding.new ≡ outstanding.old) × (compensations.new ≡ compensations.old) × Sound c nogoods.new }
+) -> Option<usize>
+    requires ready { Ready (course_of course.now) room.old }
+    requires spare { length spare.old ≡ count (course_of course.now) }
+    requires rest { AtRest (course_of course.now) j here }
+    requires net { let c = course_of course.now in least_net (Weekly Regular) + at c.compensations j ≤ length_at c j }
+    requires from { at course.now.rests.starts.now j < week_start (w + 1) }
+    requires week { week_start w < at course.now.rests.ends.now j }
+    ensures first { let c = course_of course.now in FirstOf (CanBeRead c j here (nothing c)) (CanBeWeekly c j here (nothing c) w) (CanHold c j) result }
+    ensures ready { Ready (course_of course.now) room.new }
 {
-    let Brought::To(there) = verdict_steps::advance(starts, ends, j + 1, here, w) else {
-        return starts.len() + 1;
+    let rests = course.rests;
+    let Some(there) = verdict_steps::advance(&rests, j + 1, here, w) else {
+        return None;
     };
-    let rest = rules_items::rest_week(starts, ends, starts.len(), w);
-    let regular = rules_items::REGULAR + compensations[j] <= ends[j] - starts[j];
-    let next = verdict_steps::after_weekly(there, rest, regular, ends[j]);
-    first_carrier(
-        starts,
-        ends,
-        nets,
-        compensations,
-        s,
-        outstanding,
-        nogoods,
-        front,
-        other,
-        known,
-        beside,
-        j,
-        here,
-        w,
-        next,
-    )
+    let rest = rules_items::rest_week(rests.starts, rests.ends, rests.starts.len(), w);
+    let regular = rules_items::REGULAR + course.compensations[j] <= rests.ends[j] - rests.starts[j];
+    let next = there.after_weekly(rest, regular, rests.ends[j]);
+    first_carrier(course, room, spare, j, here, w, next)
 }
 
 // The first week and carrier with which the rest of index j can be weekly.
 pub fn first_weekly(
-    starts: &[u32],
-    ends: &[u32],
-    nets: &[u32],
-    compensations: &mut [u32],
-    s: u32,
-    outstanding: &mut [u32],
-    nogoods: &mut [u32],
-    front: &mut [u32],
-    other: &mut [u32],
-    known: &mut [u32],
-    beside: &mut [u32],
+    course: &Course,
+    room: &mut Room,
+    spare: &mut [u32],
     j: usize,
     here: State,
-) -> Choice
-    requires { let c = course_of starts.now ends.now nets.now compensations.old s in
-        Lent c outstanding.old × AtRest c j here × (least_net (Weekly Regular) + at compensations.old j ≤ length_at c j) × Sound c nogoods.old }
-    ensures { let c = course_of starts.now ends.now nets.now compensations.old s in FirstWeekly c j here outstanding.old result.week result.carrier
-        × (outstanding.new ≡ outstanding.old) × (compensations.new ≡ compensations.old) × Sound c nogoods.new }
+) -> Option<Choice>
+    requires ready { Ready (course_of course.now) room.old }
+    requires spare { length spare.old ≡ count (course_of course.now) }
+    requires rest { AtRest (course_of course.now) j here }
+    requires net { let c = course_of course.now in least_net (Weekly Regular) + at c.compensations j ≤ length_at c j }
+    ensures first { let c = course_of course.now in FirstChoice c j here (nothing c) result }
+    ensures ready { Ready (course_of course.now) room.new }
 {
-    let end = ends[j];
-    let mut w = starts[j] / recording::WEEK_MINUTES;
-    while recording::WEEK_MINUTES * w < end {
-        let x = carrier_in(
-            starts,
-            ends,
-            nets,
-            compensations,
-            s,
-            outstanding,
-            nogoods,
-            front,
-            other,
-            known,
-            beside,
-            j,
-            here,
-            w,
-        );
-        if x <= starts.len() {
-            return Choice {
-                week: w,
-                carrier: x,
-            };
+    let first = course.rests.starts[j] / recording::WEEK_MINUTES;
+    let last = (course.rests.ends[j] - 1) / recording::WEEK_MINUTES;
+    for week in first..last + 1 {
+        if let Some(carrier) = carrier_in(course, room, spare, j, here, week) {
+            return Some(Choice { week, carrier });
         }
-        w += 1;
     }
-    Choice {
-        week: w,
-        carrier: starts.len() + 1,
-    }
+    None
 }

@@ -23,9 +23,9 @@ use Rattle.rules.specs.declared.Standing.TheVariants.{Regular}
 use Rattle.rules_nets.specs.Nets.{counts_by}
 use Rattle.rules_items.specs.Items.{end_before, span_at, spans_from, Zeros}
 use Rattle.rules_items.proofs.TallyLaws.{end_of_spans}
-use Rattle.rules_reading.proofs.LaterLaws.{spans_length}
+use Rattle.rules_items.proofs.SpanLaws.{spans_length}
 use Rattle.verdict_completion.specs.declared.State.{State}
-use Rattle.verdict_completion.specs.declared.Brought.TheVariants.{To}
+use Rattle.std.specs.Prelude.{Some}
 use Rattle.verdict_completion.specs.States.{advance, after_daily, after_weekly}
 use Rattle.verdict_completion.specs.Runs.{Runs, Kept}
 use Rattle.verdict_completion.specs.Completable.{Course, at, count, spans_of, rest_week, counts, length_at, amount_of, deadline_of}
@@ -245,7 +245,7 @@ module _ (c : Course) where
         h j (le_refl _) ∙ sym (p.sum (suc j) a.carrier (λ x _ r s. not_now s (way_left x (omega arith))))
 
     module _ (few : count c < carrier_values) {st here : State} (gap : at c.starts j ≤ st.ended + weekly_gap)
-        (reached : advance (rest_week c) (week_of (at c.starts j) - st.week) st ≡ To here) where
+        (reached : advance (rest_week c) (week_of (at c.starts j) - st.week) st ≡ Some here) where
       answer_daily : least_net Daily + p.total ≤ length_at c j → here.short + one (shortens c j p.total) ≤ shortened_at_most
           → st' ≡ after_daily (shortens c j p.total) here → at next j ≡ 0 → Answer (suc n) j st outstanding
       unfolding entries_from spans_from
@@ -277,7 +277,7 @@ module _ (c : Course) where
       }
 
       answer_weekly : (w : ℕ) {there : State} → w < byte_values → least_net (Weekly Regular) + p.total ≤ length_at c j
-          → at c.starts j < week_start (w + 1) → week_start w < at c.ends j → advance (rest_week c) (w - here.week) here ≡ To there
+          → at c.starts j < week_start (w + 1) → week_start w < at c.ends j → advance (rest_week c) (w - here.week) here ≡ Some there
           → st' ≡ after_weekly (rest_week c w) (leb (regular_minutes + p.total) (length_at c j)) (at c.ends j) there
           → at next j ≡ outstanding_of (length_at c j) p.total w → Answer (suc n) j st outstanding
       unfolding entries_from spans_from
@@ -325,7 +325,7 @@ module _ (c : Course) where
   module _ (lies : Lies c) (few : count c < carrier_values) (bound : c.judged ≤ total_at_most) where
     module _ (n j : ℕ) (st here : State) (outstanding : List ℕ) (inside : j < count c) (size : length outstanding ≡ count c) (fresh : (x : ℕ) → j ≤ x → at outstanding x ≡ 0)
         (gap : at c.starts j ≤ st.ended + weekly_gap) (on-time : Overdue outstanding (at c.ends j) → ⊥)
-        (reached : advance (rest_week c) (week_of (at c.starts j) - st.week) st ≡ To here)
+        (reached : advance (rest_week c) (week_of (at c.starts j) - st.week) st ≡ Some here)
         (ih : (st' : State) (next : List ℕ) → length next ≡ count c → ((x : ℕ) → suc j ≤ x → at next x ≡ 0) → Completable c n (suc j) st' next → Answer n (suc j) st' next)
         (p : Compensated (Reads c (Completable c n (suc j)) j here) j 0 (at c.compensations j) outstanding) where
       beyond : (x : ℕ) → j ≤ x → at p.left x ≡ 0

@@ -21,23 +21,22 @@ use Rattle.rules.specs.declared.Kind.TheVariants.{Daily, Weekly}
 use Rattle.rules.specs.declared.Standing.{Standing}
 use Rattle.rules.specs.declared.Standing.TheVariants.{Regular}
 use Rattle.verdict_completion.specs.declared.State.{State}
-use Rattle.verdict_completion.specs.declared.Brought.{Brought}
-use Rattle.verdict_completion.specs.declared.Brought.TheVariants.{Broken, To}
+use Rattle.std.specs.Prelude.{Option, None, Some}
 use Rattle.verdict_completion.specs.States.{advance, After, after_daily, after_weekly}
 use Rattle.verdict_completion.specs.Runs.{Takes, Runs, Kept}
 
 -- ---- a state brought on
-pub record Arrives (b : Brought) (P : State → Type 0) : Type 0 where
+pub record Arrives (b : Option State) (P : State → Type 0) : Type 0 where
   pub state : State
-  pub reached : b ≡ To state
+  pub reached : b ≡ Some state
   pub holds : P state
 
-pub arrives : (b : Brought) (P : State → Type 0) → After b P → Arrives b P
-arrives Broken P h = absurd h
-arrives (To st) P h = record { state = st; reached = refl; holds = h }
+pub arrives : (b : Option State) (P : State → Type 0) → After b P → Arrives b P
+arrives None P h = absurd h
+arrives (Some st) P h = record { state = st; reached = refl; holds = h }
 
-pub after : {b : Brought} (P : State → Type 0) {st : State} → b ≡ To st → P st → After b P
-after P e h = subst (λ (x : Brought). After x P) (sym e) h
+pub after : {b : Option State} (P : State → Type 0) {st : State} → b ≡ Some st → P st → After b P
+after P e h = subst (λ (x : Option State). After x P) (sym e) h
 
 -- ---- an entry as it is read
 pub as_daily : (e : Entry) → e.kind ≡ daily_kind → as_read e ≡ Daily
@@ -97,7 +96,7 @@ module _ (rest_week : ℕ → Bool) (counts : Entry → Bool) (s : ℕ) (rs : Li
     pub here : State
     pub head : DailyHead counts here e
     pub gap : e.span.start ≤ st.ended + weekly_gap
-    pub reached : advance rest_week (week_of e.span.start - st.week) st ≡ To here
+    pub reached : advance rest_week (week_of e.span.start - st.week) st ≡ Some here
     pub then : Kept rest_week counts s rs (after_daily (counts e) here) es
 
   pub record WeeklyStep : Type 0 where
@@ -105,8 +104,8 @@ module _ (rest_week : ℕ → Bool) (counts : Entry → Bool) (s : ℕ) (rs : Li
     pub there : State
     pub head : WeeklyHead s rs e
     pub gap : e.span.start ≤ st.ended + weekly_gap
-    pub reached : advance rest_week (week_of e.span.start - st.week) st ≡ To here
-    pub counted : advance rest_week (e.week - here.week) here ≡ To there
+    pub reached : advance rest_week (week_of e.span.start - st.week) st ≡ Some here
+    pub counted : advance rest_week (e.week - here.week) here ≡ Some there
     pub then : Kept rest_week counts s rs (after_weekly (rest_week e.week) (is_regular (as_read e)) e.span.end there) es
 
   -- ---- a daily rest

@@ -5,3 +5,4 @@ pub mod Matching
 pub mod Monotone
 pub mod Windows
 pub mod RunLaws
+pub mod Courses

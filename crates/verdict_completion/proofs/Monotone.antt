@@ -20,8 +20,7 @@ use Rattle.rules.specs.ReadingRules.{least_net, weeks_to_compensate, shortened_a
 use Rattle.rules.specs.declared.Kind.TheVariants.{Weekly}
 use Rattle.rules.specs.declared.Standing.TheVariants.{Regular}
 use Rattle.verdict_completion.specs.declared.State.{State}
-use Rattle.verdict_completion.specs.declared.Brought.{Brought}
-use Rattle.verdict_completion.specs.declared.Brought.TheVariants.{Broken}
+use Rattle.std.specs.Prelude.{Option, None}
 use Rattle.verdict_completion.specs.States.{pair_kept, next_week, advance, After, after_daily, after_weekly}
 use Rattle.verdict_completion.specs.Completable.{Course, at, count, rest_week, length_at, reduction_unit, amount_of, deadline_of}
 use Rattle.verdict_completion.specs.Completable.{outstanding_of, Overdue, Compensates, shortens, ReadDaily, ReadWeekly, Reads, Tries}
@@ -149,8 +148,8 @@ module _ (rest_week : ℕ → Bool) where
         regular = omega (arith, e);
       }
 
-  after_pick : (P Q : State → Type 0) (s t : Bool) (u v : Brought) → (t ≡ true → s ≡ true) → (After v Q → After u P) → After (pick t v Broken) Q
-      → After (pick s u Broken) P
+  after_pick : (P Q : State → Type 0) (s t : Bool) (u v : Option State) → (t ≡ true → s ≡ true) → (After v Q → After u P) → After (pick t v None) Q
+      → After (pick s u None) P
   after_pick P Q true true u v f g h = g h
   after_pick P Q false true u v f g h = absurd (false≢true (f refl))
   after_pick P Q s false u v f g h = absurd h
@@ -181,7 +180,7 @@ module _ (rest_week : ℕ → Bool) where
   carried_on : (n : ℕ) (b : Bool) (st there : State) → Carried n (next_week b st) there → Carried (suc n) st there
   carried_on n b st there h = record { week = omega (arith, h.week); ended = h.ended; short = h.short; small = h.small }
 
-  after_if : (P Q : State → Type 0) (t : Bool) (u : Brought) → (After u Q → After u P) → After (pick t u Broken) Q → After (pick t u Broken) P
+  after_if : (P Q : State → Type 0) (t : Bool) (u : Option State) → (After u Q → After u P) → After (pick t u None) Q → After (pick t u None) P
   after_if P Q true u f h = f h
   after_if P Q false u f h = absurd h
 

@@ -17,7 +17,7 @@ use Rattle.rules.specs.declared.Kind.{Kind}
 use Rattle.rules.proofs.ReadingPrefix.{regular_weekly}
 use Rattle.verdict_completion.specs.declared.Counts.{Counts}
 use Rattle.verdict_completion.specs.declared.State.{State}
-use Rattle.verdict_completion.specs.declared.Brought.TheVariants.{Broken}
+use Rattle.std.specs.Prelude.{None}
 use Rattle.verdict_completion.specs.States.{fresh_counts, counted_more, start_state, pair_kept, next_week, advance, After, after_daily, after_weekly}
 
 -- ---- entries that are counted alike in a week, whatever weekly rests are asked for
@@ -194,7 +194,7 @@ module _ (rest_week : ℕ → Bool) where
   advanced zero st P seen p = record { there = st; reached = record { seen = seen; week = omega arith; ended = refl; short = refl }; then = p }
   advanced {past} (suc n) st P seen p = at (pair_kept st) refl p (λ t q. advanced n (week_on st) P (seen_next seen t) q)
     where
-      at : (b : Bool) → pair_kept st ≡ b → After (pick b (advance rest_week n (week_on st)) Broken) P
+      at : (b : Bool) → pair_kept st ≡ b → After (pick b (advance rest_week n (week_on st)) None) P
           → (pair_kept st ≡ true → After (advance rest_week n (week_on st)) P → Advanced past n (week_on st) P) → Advanced past (suc n) st P
       at true t q ih = let a = ih t q in record { there = a.there; reached = reached_next a.reached; then = a.then }
       at false t q ih = absurd q

@@ -1,7 +1,7 @@
 -- Inner: whether the long rests from one on can be read so that rules 6 to 11 hold, with the carrier of a reduced rest left open until a later
 -- rest compensates for it. Nobody has to believe it: proofs/ shows that it says whether a lawful reading exists.
 -- Assumes nothing.
-use Rattle.std.specs.Prelude.{◌≡◌, ◌⊎◌, Bool, List, ℕ, zero, suc, ◌+◌, ◌-◌, ◌*◌, ◌/◌, ◌%◌, ◌≤◌, ◌<◌, leb, ltb, length, get_or, set}
+use Rattle.std.specs.Prelude.{◌≡◌, ◌⊎◌, Bool, List, [], ℕ, zero, suc, ◌+◌, ◌-◌, ◌*◌, ◌/◌, ◌%◌, ◌≤◌, ◌<◌, leb, ltb, length, get_or, set}
 use Rattle.recording.specs.Tests.{pick, one}
 use Rattle.recording.specs.Weeks.{week_start, week_of}
 use Rattle.recording.specs.declared.Span.{Span}
@@ -23,6 +23,10 @@ pub record Course : Type 0 where
   pub nets : List ℕ
   pub compensations : List ℕ
   pub judged : ℕ
+
+-- long rests that have no compensation yet
+abbrev pub rests_only : List ℕ → List ℕ → List ℕ → ℕ → Course
+rests_only starts ends nets s = record { starts = starts; ends = ends; nets = nets; compensations = []; judged = s }
 
 abbrev pub at : List ℕ → ℕ → ℕ
 at xs i = get_or xs i 0

@@ -1,13 +1,11 @@
 -- Inner: what the long rests before a point leave to the later ones, and how it changes from rest to rest and from week to week.
 -- Nobody has to believe it: proofs/ shows that rules 6 to 11 come to this.
 -- Assumes nothing.
-use Rattle.std.specs.Prelude.{Bool, true, false, ℕ, zero, suc, ◌+◌, min, leb, eqb}
+use Rattle.std.specs.Prelude.{Bool, true, false, ℕ, zero, suc, ◌+◌, min, leb, eqb, Option, None, Some}
 use Rattle.recording.specs.Tests.{◌and◌, ◌or◌, pick, one}
 use Rattle.rules.specs.ReadingRules.{weekly_at_least, regular_at_least}
 use Rattle.verdict_completion.specs.declared.Counts.{Counts}
 use Rattle.verdict_completion.specs.declared.State.{State}
-use Rattle.verdict_completion.specs.declared.Brought.{Brought}
-use Rattle.verdict_completion.specs.declared.Brought.TheVariants.{Broken, To}
 
 -- a week before any rest is counted in it: one of rest minutes only holds exactly one regular weekly rest
 abbrev pub fresh_counts : Bool → Counts
@@ -39,13 +37,13 @@ next_week rest_week st =
     record { ended = st.ended; short = st.short; week = st.week + 1; before = st.current; current = fresh_counts rest_week }
 
 -- n weeks on, by which weeks are of rest minutes only
-unfoldable pub advance : (ℕ → Bool) → ℕ → State → Brought
-advance rest_week zero st = To st
-advance rest_week (suc n) st = pick (pair_kept st) (advance rest_week n (next_week (rest_week (st.week + 1)) st)) Broken
+unfoldable pub advance : (ℕ → Bool) → ℕ → State → Option State
+advance rest_week zero st = Some st
+advance rest_week (suc n) st = pick (pair_kept st) (advance rest_week n (next_week (rest_week (st.week + 1)) st)) None
 
-abbrev pub After : Brought → (State → Type 0) → Type 0
-After Broken P = ⊥
-After (To st) P = P st
+abbrev pub After : Option State → (State → Type 0) → Type 0
+After None P = ⊥
+After (Some st) P = P st
 
 -- after a daily rest, and after a weekly rest that ends at `end` and is counted in the week reached
 abbrev pub after_daily : Bool → State → State

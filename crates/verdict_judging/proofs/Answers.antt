@@ -1,11 +1,11 @@
 -- What the verdict and the first reading answer at each return. Assumes nothing.
-use mathlib.Core.Path.{◌≡◌, refl, sym, ap, ◌∙◌}
+use mathlib.Core.Path.{◌≡◌, refl, sym, ap, subst, ◌∙◌}
 use mathlib.Core.Bool.{Bool, true, false, not}
 use mathlib.Core.List.{List, ◌∷◌, ◌++◌}
 use mathlib.Core.Option.{Option, none, some}
 use Prim.Native.Nat.{ℕ, ◌*◌, ◌≤◌, ◌<◌}
 use native.Mathlib.Omega.{arith}
-use lib.ListN.{length, take, drop, take-append-drop}
+use lib.ListN.{length, take, drop}
 use lib.Seq.{length-take-le}
 use borrow.Author.Tests.{lt-ltb, le-ltb}
 use Rattle.recording.specs.Answers.{Answer, refused, answered, counted, filled}
@@ -21,9 +21,9 @@ use Rattle.rules.specs.Verdict.{prefix, is_none, first_fields, first_lawful, bre
 use Rattle.rules.specs.Operations.{Finding, passed, finding_of, verdict_given, reading_of, first_reading_given}
 use Rattle.rules.proofs.Breach.{verdict-pass, some_first, found_fields}
 use Rattle.rules.proofs.EntryLaws.{first_size}
-use Rattle.verdict_completion.specs.Completable.{Course, Lies}
-use Rattle.verdict_choosing.specs.First.{Least, rests_only}
-use Rattle.verdict_breach.specs.Verdicts.{ByRule, InFront, HasReading, WrittenIf}
+use Rattle.verdict_completion.specs.Completable.{Lies, rests_only}
+use Rattle.verdict_completion.specs.First.{Least}
+use Rattle.verdict_breach.specs.Verdicts.{ByRule, InFront, Whole, HasReading}
 use Rattle.verdict_breach.specs.declared.Rests.{Rests}
 use Rattle.verdict_breach.proofs.Lawfulness.{to_has, whole_rests, whole_lawful, whole_least}
 
@@ -77,10 +77,23 @@ module _ (ws : List ℕ) where
     unfolding verdict_given
     verdict_found e = e ∙ rw q refl
 
--- a word of no minutes stands for none
-pub alone : {ws : List ℕ} {r : Rests} {starts ends nets : List ℕ} → InFront (0 ∷ ws) r starts ends nets → InFront ws r starts ends nets
+-- the recording of words alone: its first word has no minutes
+pub from_words : (ws : List ℕ) → minutes_of (0 ∷ ws) ≡ minutes_of ws
 unfolding minutes_of
-alone rests = record { count = rests.count; few = rests.few; whole = rests.whole }
+from_words ws = refl
+
+pub within_alone : (ws : List ℕ) {k : Measure} → measured ws ≡ answered k → length (minutes_of (0 ∷ ws)) ≤ total_at_most
+within_alone ws q = omega (arith, ap length (from_words ws), within ws q)
+
+pub fits_alone : (ws : List ℕ) {room : ℕ} → length (long_rests (minutes_of ws)) ≤ room → length (long_rests (minutes_of (0 ∷ ws))) ≤ room
+fits_alone ws h = omega (arith, ap (λ (ms : List ℕ). length (long_rests ms)) (from_words ws), h)
+
+pub alone : {ws : List ℕ} {r : Rests} {starts ends nets : List ℕ} → InFront (0 ∷ ws) r starts ends nets → InFront ws r starts ends nets
+alone {ws} {r} {starts} {ends} {nets} rests = record {
+  count = rests.count ∙ ap (λ (ms : List ℕ). length (long_rests ms)) (from_words ws);
+  few = rests.few;
+  whole = subst (λ (ms : List ℕ). Whole ms (take r.count starts) (take r.count ends) (take r.count nets) r) (from_words ws) rests.whole;
+}
 
 -- the long rests of the whole in front of three slices
 module _ {ws : List ℕ} {k : Measure} {r : Rests} {starts ends nets : List ℕ} (rests : InFront ws r starts ends nets) (q : measured ws ≡ answered k) where
@@ -128,11 +141,8 @@ module _ (ws old : List ℕ) where
       pub front_reading : length (take (entry_bytes * k.count) old) ≡ reading_size (minutes_of ws)
       front_reading = sym front_size ∙ size_is
 
-      pub told_none : {new : List ℕ} → false ≡ not (is_none (first_lawful (minutes_of ws))) → new ≡ take (entry_bytes * k.count) old
-          → Told (refused 13) (new ++ drop (entry_bytes * k.count) old)
-      told_none e left =
-          told (reading_is (verdict_none (minutes_of ws) e)) refl
-          (ap (λ (l : List ℕ). l ++ drop (entry_bytes * k.count) old) left ∙ take-append-drop (entry_bytes * k.count) old)
+      pub told_none : false ≡ not (is_none (first_lawful (minutes_of ws))) → Told (refused 13) old
+      told_none e = told (reading_is (verdict_none (minutes_of ws) e)) refl refl
 
       pub told_pass : {new : List ℕ} → true ≡ not (is_none (first_lawful (minutes_of ws)))
           → ((f : List ℕ) → first_fields (minutes_of ws) ≡ some f → new ≡ bytes_of f)
@@ -145,11 +155,3 @@ module _ (ws old : List ℕ) where
           told (reading_is (verdict-pass (minutes_of ws) f.0 f.1))
           (ap answered (sym n))
           (ap (λ (l : List ℕ). l ++ drop (entry_bytes * k.count) old) same ∙ ap (λ (x : ℕ). f.0 ++ drop x old) (sym n))
-
--- ---- the reading is written where it is wanted, and only there
-module _ {wanted : Bool} {c : Course} {old new : List ℕ} where
-  pub wrote : wanted ≡ true → ((f : List ℕ) → Least c f → new ≡ bytes_of f) → WrittenIf wanted c old new
-  wrote t w = record { written = λ _. w; left = λ f. clash wanted t f }
-
-  pub let_be : wanted ≡ false → new ≡ old → WrittenIf wanted c old new
-  let_be f e = record { written = λ t. clash wanted t f; left = λ _. e }

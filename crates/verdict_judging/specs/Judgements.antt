@@ -1,12 +1,19 @@
--- Public: what the enum of the verdict's answers says; the verdict itself is in rules/specs.
+-- Public: what the code's verdict says; the verdict itself is in rules/specs.
 -- Assumes nothing.
-use Rattle.recording.specs.Answers.{Answer, refused, answered}
+use Rattle.std.specs.Prelude.{Result, Ok, Err}
+use Rattle.recording.specs.Answers.{Answer, refused, answered, number_of}
+use Rattle.recording.specs.declared.Refusal.{Refusal}
+use Rattle.rules.specs.Numbers.{number_of_article}
 use Rattle.rules.specs.Operations.{Finding, passed, breached}
-use Rattle.verdict_judging.specs.declared.Judgement.{Judgement}
-use Rattle.verdict_judging.specs.declared.Judgement.TheVariants as judgement
+use Rattle.verdict_judging.specs.declared.Verdict.{Verdict}
+use Rattle.verdict_judging.specs.declared.Verdict.TheVariants.{Pass, Breach}
 
--- the paper's number and values of each case
-abbrev pub finding_by : Judgement → Answer Finding
-finding_by (judgement.Refused n) = refused n
-finding_by judgement.Passed = answered passed
-finding_by (judgement.Breached b) = answered (breached b.minute b.article)
+-- A pass, or a breach with its minute and its article's number.
+abbrev pub finding : Verdict → Finding
+finding Pass = passed
+finding (Breach b) = breached b.minute (number_of_article b.article)
+
+-- The number of a refusal, or what the verdict found.
+abbrev pub finding_by : Result Verdict Refusal → Answer Finding
+finding_by (Ok v) = answered (finding v)
+finding_by (Err r) = refused (number_of r)

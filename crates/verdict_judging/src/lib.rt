@@ -1,91 +1,61 @@
-// The verdict on a recording from its long rests, with room for them that the caller lends.
+// The verdict on a recording from its long rests.
 #![tactic(auto)]
 
-ghost use Rattle.std.specs.Prelude.{◌≡◌, ◌∷◌, ◌≤◌, length};
+ghost use Rattle.std.specs.Prelude.{◌≡◌, ◌≤◌, length};
 ghost use Rattle.recording.specs.Words.{minutes_of};
+ghost use Rattle.recording.specs.Scan.{words_in};
 ghost use Rattle.recording.specs.Answers.{answered};
-ghost use Rattle.recording.specs.Operations.{total_at_most};
+ghost use Rattle.recording.specs.Rests.{long_rests, long_rests_at_most};
 ghost use Rattle.rules.specs.Verdict.{verdict};
 ghost use Rattle.rules.specs.Operations.{finding_of};
 ghost use Rattle.verdict_judging.specs.Judgements.{finding_by};
-ghost use Rattle.verdict_breach.specs.Verdicts.{Roomy, Whole};
 
-use verdict_breach::{Breach, Rests};
+use recording::{Recording, Refusal};
+use verdict_breach::Breach;
+use verdict_completion::LongRests;
+use verdict_sweep::Fronts;
 
-// What the verdict answers.
-#[derive(Clone, Copy)]
-pub enum Judgement {
-    Refused(u32),
-    Passed,
-    Breached(Breach),
+/// The verdict on a recording: a pass where it has a lawful reading, else its breach.
+#[derive(Clone, Copy, Debug, PartialEq, Eq)]
+pub enum Verdict {
+    Pass,
+    Breach(Breach),
 }
 
-// The verdict on a recording, from its long rests: a pass where they have a lawful reading, else its breach.
-fn judged_by(
-    head: u32,
-    words: &[u32],
-    starts: &[u32],
-    ends: &[u32],
-    nets: &[u32],
+/// The verdict on a recording of so many minutes, with arrays that have room for its long rests. The nogoods and the fronts are room for the search, of any
+/// length.
+pub fn verdict_among<const RESTS: usize>(
+    recording: Recording,
     total: u32,
-    rests: Rests,
     nogoods: &mut [u32],
-    front: &mut [u32],
-    other: &mut [u32],
-) -> Judgement
-    requires { (length (minutes_of (head ∷ words.now)) ≤ total_at_most) × (total ≡ length (minutes_of (head ∷ words.now)))
-        × (Whole (minutes_of (head ∷ words.now)) starts.now ends.now nets.now rests) }
-    ensures { finding_by result ≡ answered (finding_of (verdict (minutes_of (head ∷ words.now)))) }
+    fronts: &mut Fronts,
+) -> Result<Verdict, Refusal>
+    requires { (total ≡ length (minutes_of (words_in recording))) × (length (long_rests (minutes_of (words_in recording))) ≤ RESTS)
+        × (RESTS ≤ long_rests_at_most) }
+    ensures { finding_by result ≡ answered (finding_of (verdict (minutes_of (words_in recording.entry)))) }
 {
-    let asked = verdict_breach::lawful_by(
-        starts,
-        ends,
-        nets,
-        rests.judged,
-        rests.rule,
-        nogoods,
-        front,
-        other,
-    );
+    let mut starts = [0u32; RESTS];
+    let mut ends = [0u32; RESTS];
+    let mut nets = [0u32; RESTS];
+    let found = verdict_breach::rests_of(recording, &mut starts, &mut ends, &mut nets);
+    let rests = LongRests {
+        starts: &starts[..found.count],
+        ends: &ends[..found.count],
+        nets: &nets[..found.count],
+        judged: found.judged,
+    };
+    let asked = verdict_breach::lawful_by(&rests, found.rule, nogoods, fronts);
     if asked.yes {
-        return Judgement::Passed;
+        return Ok(Verdict::Pass);
     }
-    let first = rests.first;
     let breach = verdict_breach::breach_of(
-        head, words, starts, ends, nets, total, first, asked.at, nogoods, front, other,
-    );
-    Judgement::Breached(breach)
-}
-
-// The verdict on a recording of so many minutes, no more than there may be, with room for its long rests. The nogoods and the fronts are room for the search,
-// of any length.
-pub fn verdict_among(
-    head: u32,
-    words: &[u32],
-    total: u32,
-    starts: &mut [u32],
-    ends: &mut [u32],
-    nets: &mut [u32],
-    nogoods: &mut [u32],
-    front: &mut [u32],
-    other: &mut [u32],
-) -> Judgement
-    requires { (length (minutes_of (head ∷ words.now)) ≤ total_at_most) × (total ≡ length (minutes_of (head ∷ words.now)))
-        × Roomy (head ∷ words.now) starts.old ends.old nets.old }
-    ensures { finding_by result ≡ answered (finding_of (verdict (minutes_of (head ∷ words.now)))) }
-{
-    let whole = verdict_breach::rests_of(head, words, starts, ends, nets);
-    let k = whole.count;
-    judged_by(
-        head,
-        words,
-        &starts[..k],
-        &ends[..k],
-        &nets[..k],
+        recording,
+        &rests,
         total,
-        whole,
+        found.first,
+        asked.at,
         nogoods,
-        front,
-        other,
-    )
+        fronts,
+    );
+    Ok(Verdict::Breach(breach))
 }

@@ -1,29 +1,30 @@
 -- Laws of a question that ends by merging: two courses with the same compensations from a rest on, and fronts side by side. Assumes nothing.
-use mathlib.Core.Path.{◌≡◌, refl, sym, ap, subst, ◌∙◌}
-use mathlib.Core.Logic.{inl, inr}
+use mathlib.Core.Path.{◌≡◌, refl, sym, ap, subst}
+use mathlib.Core.Logic.{◌⊎◌, inl, inr}
 use mathlib.Core.Bool.{Bool, true, false, false≢true, true≢false}
 use mathlib.Core.List.{List}
 use Prim.Native.Nat.{ℕ, zero, suc, ◌+◌, ◌-◌, ◌≤◌, ◌<◌}
+use native.Mathlib.Nat.{eq-zero-or-pos}
 use native.Mathlib.Omega.{arith}
 use lib.Dec.{leb}
-use lib.ListN.{length, set}
-use lib.Seq.{set-set, set-get_or, get_or-set_same, get_or-set_other}
+use lib.ListN.{set}
+use lib.Seq.{get_or-set_other}
+use Rattle.std.specs.Prelude.{Option, None, Some}
 use Rattle.recording.specs.Weeks.{week_of}
 use Rattle.rules.specs.Reading.{regular_minutes}
 use Rattle.rules_items.specs.Items.{added_to}
 use Rattle.verdict_completion.specs.declared.State.{State}
-use Rattle.verdict_completion.specs.declared.Brought.{Brought}
-use Rattle.verdict_completion.specs.declared.Brought.TheVariants.{Broken, To}
 use Rattle.verdict_completion.specs.States.{advance, After, after_daily, after_weekly}
 use Rattle.verdict_completion.specs.Completable.{Course, at, count, rest_week, length_at, outstanding_of, shortens, Compensates, Reads, Tries, Completable, Lies}
 use Rattle.verdict_completion.specs.Better.{AtRest}
+use Rattle.verdict_nogoods.specs.Table.{Empty}
 use Rattle.verdict_fronts.specs.Front.{entry_at, state_in, outstanding_in, AllDominated}
-use Rattle.verdict_search.specs.Search.{course_of, with_compensations, Later, Sound}
-use Rattle.verdict_search.specs.Leading.{Any, Front, Led}
-use Rattle.verdict_sweep.specs.Sweep.{Passed}
-use Rattle.verdict_merging.specs.Merging.{ToldIf, Beside, Trusted, Knows, Reached}
+use Rattle.verdict_search.specs.Search.{with_compensations, Later, Sound}
+use Rattle.verdict_search.specs.Leading.{Any, Front}
 use Rattle.verdict_search.proofs.Fronts.{can_by}
-use Rattle.verdict_sweep.proofs.Sweeps.{passed_no, passed_then}
+use Rattle.verdict_search.proofs.Memory.{empty_sound}
+use Rattle.verdict_sweep.specs.Sweep.{Passed}
+use Rattle.verdict_merging.specs.Merging.{Beside, Trial, Renewed}
 
 -- ---- two courses with the same compensations from the rest of index x on
 compensates_map : (F G : ℕ → List ℕ → Type 0) (minutes : ℕ) → ((compensation : ℕ) (o : List ℕ) → F compensation o → G compensation o)
@@ -33,9 +34,9 @@ compensates_map F G minutes f zero i compensation o h = f compensation o h
 compensates_map F G minutes f (suc m) i compensation o (inl h) = inl (h.0, h.1, compensates_map F G minutes f m (i + 1) _ _ h.2)
 compensates_map F G minutes f (suc m) i compensation o (inr h) = inr (compensates_map F G minutes f m (i + 1) compensation o h)
 
-after_map : (P Q : State → Type 0) (b : Brought) → ((st : State) → P st → Q st) → After b P → After b Q
-after_map P Q Broken f h = h
-after_map P Q (To st) f h = f st h
+after_map : (P Q : State → Type 0) (b : Option State) → ((st : State) → P st → Q st) → After b P → After b Q
+after_map P Q None f h = h
+after_map P Q (Some st) f h = f st h
 
 module _ (c : Course) (compensations : List ℕ) where
   module _ (K K' : State → List ℕ → Type 0) (f : (st : State) (o : List ℕ) → K st o → K' st o) where
@@ -81,9 +82,6 @@ module _ (c : Course) (compensations : List ℕ) where
           (state_in t (entry_at a.entry) (week_of (at c.starts i))) (outstanding_in t (entry_at a.entry) (count c)) l a.can;
     }
 
-    pub trusted_map : {i g : ℕ} {t : List ℕ} → x ≤ i → Trusted c i t g → Trusted (with_compensations c compensations) i t g
-    trusted_map l h p = any_map l (h p)
-
   rest_map : {j : ℕ} {here : State} → AtRest c j here → AtRest (with_compensations c compensations) j here
   rest_map h = record { within = h.within; small = h.small; week = h.week; ended = h.ended }
 
@@ -93,6 +91,25 @@ module _ (c : Course) (compensations : List ℕ) where
     each = λ e l. let w = h.each e l in record { few = w.few; below = w.below; rest = rest_map w.rest };
   }
 
+-- ---- a trial of a course
+module _ {c d : Course} {x : ℕ} (t : Trial c d x) where
+  pub as_many : count d ≡ count c
+  as_many = ap (λ (k : Course). count k) t.same_rests
+
+  pub front_in : {i n : ℕ} {f : List ℕ} → Front c i f n → Front d i f n
+  front_in {i} {n} {f} h = subst (λ (k : Course). Front k i f n) (sym t.same_rests) (front_map c d.compensations h)
+
+  pub trusted_in : {i n : ℕ} {f : List ℕ} → x ≤ i → (0 < n → Any c i f n) → 0 < n → Any d i f n
+  trusted_in {i} {n} {f} l h p = subst (λ (k : Course). Any k i f n) (sym t.same_rests) (any_map c d.compensations x t.later l (h p))
+
+-- the nogoods of one course become those of another
+pub sound_renewed : {c d : Course} {k x : ℕ} {n n' : List ℕ} → Lies d → k ≡ count d → (x ≡ 0 → d ≡ c) → Sound c n → Renewed k x n n' → Sound d n'
+sound_renewed {c} {d} {k} {x} {n} {n'} lies e same sound r = go (eq-zero-or-pos x)
+  where
+    go : (x ≡ 0) ⊎ (0 < x) → Sound d n'
+    go (inl z) = subst (λ (a : Course). Sound a n') (sym (same z)) (subst (Sound c) (sym (r.kept z)) sound)
+    go (inr l) = empty_sound d lies (subst (λ (m : ℕ). Empty n' m) e (r.empty (λ z. omega arith)))
+
 -- ---- a compensation tried
 pub added_to-none : (p : List ℕ) (x d : ℕ) → x ≡ 0 → added_to p x d ≡ p
 added_to-none p x d e = ap (λ (y : ℕ). added_to p y d) e
@@ -101,138 +118,48 @@ pub added_to-some : (p : List ℕ) (x d : ℕ) → (x ≡ 0 → ⊥) → added_t
 added_to-some p zero d n = absurd (n refl)
 added_to-some p (suc i) d n = let e : i ≡ suc i - 1 = omega arith in ap (λ (y : ℕ). set p y (at p y + d)) e
 
-pub added_to-fits : (p : List ℕ) (x d most : ℕ) → (x ≡ 0 → ⊥) → x ≤ length p → ((i : ℕ) → at (added_to p x d) i ≤ most) → at p (x - 1) + d ≤ most
-added_to-fits p zero d most n l h = absurd (n refl)
-added_to-fits p (suc i) d most n l h =
-    let e : i ≡ suc i - 1 = omega arith in
-    subst (λ (y : ℕ). at p y + d ≤ most) e (omega (arith, h i, get_or-set_same p i (at p i + d) 0 (omega arith)))
-
 -- the compensations of the rests from that of index x on are as they were
 pub added_to-later : (p : List ℕ) (x d i : ℕ) → x ≤ i → at (added_to p x d) i ≡ at p i
 added_to-later p zero d i l = refl
 added_to-later p (suc x) d i l = get_or-set_other p x i (at p x + d) 0 (λ e. omega arith)
 
--- the word is put back
-pub put_back : {p q : List ℕ} (i a : ℕ) → q ≡ set p i a → set q i (at p i) ≡ p
-put_back {p} {q} i a e = ap (λ (l : List ℕ). set l i (at p i)) e ∙ set-set p i a (at p i) ∙ set-get_or p i 0
-
 -- ---- fronts side by side
--- each known entry is matched: what one of them can do one of the front can
+-- each known state is matched: what one of them can do one of the question's can
 pub merged : (c : Course) (lies : Lies c) (i : ℕ) {known front : List ℕ} {g n : ℕ}
     → Front c i known g → Front c i front n → AllDominated known g front n → Any c i known g → Any c i front n
 merged c lies i k f h a =
     let b = h.each a.entry a.below in
     record { entry = b.entry; below = b.below; can = can_by c lies i (f.each b.entry b.below) (k.each a.entry a.below) b.dominates a.can }
 
-pub beside_yes : {P H A H' S W Y : Type 0} → (H → P) → S → W → Y → Beside P H A H' true S W Y
-beside_yes p s w v = record {
-  yes = λ _. p;
+pub beside_yes : {P H A H' S W : Type 0} → P → S → W → Beside P H A H' true S W
+beside_yes p s w = record {
+  yes = λ _ _. p;
   leads = λ e. absurd (true≢false e);
   from = λ e. absurd (true≢false e);
   trusts = λ e. absurd (true≢false e);
-  sound = s;
-  well = w;
-  beside = v;
+  ready = s;
+  abreast = w;
 }
 
 -- nothing is known any more
-pub beside_alone : {P H A X S S' W Y : Type 0} {r : Bool} → r ≡ false → Passed P A r S W → S' → Y → Beside P H A (0 < 0 → X) false S' W Y
-beside_alone e h s v = record {
+pub beside_alone : {P H A X N S V W : Type 0} {r : Bool} → r ≡ false → Passed P A r N V → S → W → Beside P H A (0 < 0 → X) false S W
+beside_alone e h s w = record {
   yes = λ y. absurd (false≢true y);
   leads = λ _. h.leads e;
   from = λ _. h.from e;
   trusts = λ _ _ l. absurd (omega arith);
-  sound = s;
-  well = h.well;
-  beside = v;
+  ready = s;
+  abreast = w;
 }
 
-pub beside_both : {P K A B S S' W Y : Type 0} {r r' : Bool} {g m : ℕ} → r ≡ false → Passed P A r S W → r' ≡ false → Passed K B r' S' Y → 0 < g
-    → Beside P (0 < g → K) A (0 < m → B) false S' W Y
-beside_both e h e' h' l = record {
-  yes = λ y. absurd (false≢true y);
+-- both fronts go on, and may merge
+pub beside_both : {P K A B N N' S V V' W : Type 0} {r r' b : Bool} {g m : ℕ} → r ≡ false → Passed P A r N V → r' ≡ false → Passed K B r' N' V' → 0 < g
+    → (b ≡ true → B → A) → S → W → Beside P (0 < g → K) A (0 < m → B) b S W
+beside_both e h e' h' l merge s w = record {
+  yes = λ y k. h.from e (merge y (h'.leads e' (k l)));
   leads = λ _. h.leads e;
   from = λ _. h.from e;
   trusts = λ _ k _. h'.leads e' (k l);
-  sound = h'.sound;
-  well = h.well;
-  beside = h'.well;
+  ready = s;
+  abreast = w;
 }
-
-pub beside_then : {P H A H' B H'' S S' W W' Y Y' : Type 0} {r r' : Bool}
-    → r ≡ false → Beside P H A H' r S W Y → Beside A H' B H'' r' S' W' Y' → Beside P H B H'' r' S' W' Y'
-beside_then e f g = record {
-  yes = λ y h. f.from e (g.yes y (f.trusts e h));
-  leads = λ n p. g.leads n (f.leads e p);
-  from = λ n b. f.from e (g.from n b);
-  trusts = λ n h. g.trusts n (f.trusts e h);
-  sound = g.sound;
-  well = g.well;
-  beside = g.beside;
-}
-
--- no entry is left
-pub beside_out : {P H A H' B X S S' W W' Y Y' : Type 0} {r : Bool}
-    → r ≡ false → (A → ⊥) → (B → ⊥) → S' → W' → Y' → Beside P H A H' r S W Y → Beside P H B (0 < 0 → X) false S' W' Y'
-beside_out e none none' s w v f = record {
-  yes = λ h. absurd (false≢true h);
-  leads = λ _ p. absurd (none (f.leads e p));
-  from = λ _ b. absurd (none' b);
-  trusts = λ _ _ l. absurd (omega arith);
-  sound = s;
-  well = w;
-  beside = v;
-}
-
-pub two_beside : (c : Course) {P H S : Type 0} {r : Bool} {t k : List ℕ} {n g : ℕ} (j : ℕ)
-    → Beside P H (Any c (j + 1 + 1) t n) (Trusted c (j + 1 + 1) k g) r S (Front c (j + 1 + 1) t n) (Front c (j + 1 + 1) k g)
-    → Beside P H (Any c (j + 2) t n) (Trusted c (j + 2) k g) r S (Front c (j + 2) t n) (Front c (j + 2) k g)
-two_beside c {P} {H} {S} {r} {t} {k} {n} {g} j h =
-    let e : j + 1 + 1 ≡ j + 2 = omega arith in
-    subst (λ (i : ℕ). Beside P H (Any c i t n) (Trusted c i k g) r S (Front c i t n) (Front c i k g)) e h
-
--- ---- led to a front
-pub reached_yes : {P A S W : Type 0} {r : Bool} {o o' : List ℕ} → r ≡ true → P → o' ≡ o → S → W → Reached P A r o o' S W
-reached_yes e p q s w = record {
-  passed = record { yes = λ _. p; leads = λ f. absurd (true≢false (sym e ∙ f)); from = λ f. absurd (true≢false (sym e ∙ f)); sound = s; well = w };
-  same = q;
-}
-
--- a question that was put into an empty front, and then led on
-pub reached_on : {P N A B S S' W W' : Type 0} {r r' : Bool} {o o' : List ℕ}
-    → r ≡ false → (N → ⊥) → Led P N A r o o' S W → Passed A B r' S' W' → Reached P B r' o o' S' W'
-reached_on {P} {N} {A} {B} {S} {S'} {W} {W'} {r} {r'} {o} {o'} e none f g = record {
-  passed = passed_then refl (passed_no none (subst (λ (b : Bool). Led P N A b o o' S W) e f)) g;
-  same = f.same;
-}
-
-pub knows_none : {R X S W : Type 0} {o o' : List ℕ} → o' ≡ o → S → W → Knows R (0 < 0 → X) o o' S W
-knows_none q s w = record { trusts = λ _ l. absurd (omega arith); same = q; sound = s; well = w }
-
--- ---- the same of other compensations that are equal
-module _ (starts ends nets : List ℕ) (s : ℕ) where
-  abbrev by : List ℕ → Course
-  by l = course_of starts ends nets l s
-
-  pub reached_same : {l l' o o' o'' t : List ℕ} {i n : ℕ} {S S' : Type 0} {r : Bool} (j : ℕ) (st : State) → l ≡ l' → o ≡ o'' → S'
-      → Reached (Completable (by l) (count (by l) - j) j st o) (Any (by l) i t n) r o o' S (Front (by l) i t n)
-      → Reached (Completable (by l') (count (by l') - j) j st o'') (Any (by l') i t n) r o'' o' S' (Front (by l') i t n)
-  reached_same {l} {l'} {o} {o'} {o''} {t} {i} {n} {S} {S'} {r} j st e q s h =
-      subst (λ (x : List ℕ). Reached (Completable (by x) (count (by x) - j) j st o'') (Any (by x) i t n) r o'' o' S' (Front (by x) i t n)) e
-      (subst (λ (p : List ℕ). Reached (Completable (by l) (count (by l) - j) j st p) (Any (by l) i t n) r p o' S' (Front (by l) i t n)) q
-      (record {
-        passed = record { yes = h.passed.yes; leads = h.passed.leads; from = h.passed.from; sound = s; well = h.passed.well };
-        same = h.same;
-      }))
-
-  pub told_same : {l l' t k : List ℕ} {i n g : ℕ} {S S' : Type 0} {r : Bool} → l ≡ l' → S' → ToldIf (Trusted (by l) i k g) (Any (by l) i t n) r S
-      → ToldIf (Trusted (by l') i k g) (Any (by l') i t n) r S'
-  told_same {l} {l'} {t} {k} {i} {n} {g} {S} {S'} {r} e s h =
-      subst (λ (x : List ℕ). ToldIf (Trusted (by x) i k g) (Any (by x) i t n) r S') e (record { yes = h.yes; no = h.no; sound = s })
-
-  pub knows_same : {l l' o o' o'' t z : List ℕ} {i g : ℕ} (j : ℕ) (here : State) → l ≡ l' → o ≡ o''
-      → Knows (Tries (by l) (Later (by l) j) j here o) (Trusted (by l) i t g) o o' (Sound (by l) z) (Front (by l) i t g)
-      → Knows (Tries (by l') (Later (by l') j) j here o'') (Trusted (by l') i t g) o'' o' (Sound (by l') z) (Front (by l') i t g)
-  knows_same {l} {l'} {o} {o'} {o''} {t} {z} {i} {g} j here e q h =
-      subst (λ (x : List ℕ). Knows (Tries (by x) (Later (by x) j) j here o'') (Trusted (by x) i t g) o'' o' (Sound (by x) z) (Front (by x) i t g)) e
-      (subst (λ (p : List ℕ). Knows (Tries (by l) (Later (by l) j) j here p) (Trusted (by l) i t g) p o' (Sound (by l) z) (Front (by l) i t g)) q h)

@@ -2,773 +2,225 @@
 // the question's.
 #![tactic(auto)]
 
-ghost use Rattle.std.specs.Prelude.{◌≡◌, true, ◌+◌, ◌-◌, ◌*◌, ◌<◌, ◌≤◌, length};
-ghost use Rattle.recording.specs.Scan.{short_rests};
-ghost use Rattle.verdict_completion.specs.Completable.{count, Tries};
+ghost use Rattle.std.specs.Prelude.{◌≡◌, ◌+◌, ◌-◌, ◌<◌, ◌≤◌, length};
+ghost use Rattle.verdict_completion.specs.Completable.{count, Completable, Tries};
+ghost use Rattle.verdict_completion.specs.Courses.{course_of};
 ghost use Rattle.verdict_completion.specs.Better.{AtRest};
-ghost use Rattle.verdict_search.specs.Search.{course_of, compensating, Later, Sound, Sized, Lent, Before};
-ghost use Rattle.verdict_search.specs.Leading.{Any, Front};
-ghost use Rattle.verdict_merging.specs.Merging.{FindsIf, ToldIf, Trusted, Besides, Knows, Reaches};
+ghost use Rattle.verdict_fronts.specs.Front.{entry_at};
+ghost use Rattle.verdict_search.specs.Search.{Later, Sound, Free, Before};
+ghost use Rattle.verdict_sweep.specs.Sweep.{OpensTo};
+ghost use Rattle.verdict_merging.specs.Merging.{nothing, Ready, Abreast, AnyAsked, Trusted, ToldIf, Besides, Reaches, Knows, Trial, Renewed, Matched};
 
-use verdict_completion::State;
-use verdict_search::Went;
+use verdict_completion::{Course, State};
+use verdict_search::Search;
+use verdict_sweep::Fronts;
 
-// Whether a question was answered yes; how many states its next front has; and how many the known one has, 0 where nothing is known of that.
-#[derive(Clone, Copy)]
-pub struct Both {
-    pub yes: bool,
-    pub n: usize,
-    pub g: usize,
+// What a question is lent to find its answer in: a slot for each long rest, the nogoods, the question's two fronts and the two known ones.
+#[derive(Drop)]
+pub struct Room<'a> {
+    pub slots: &'a mut [u32],
+    pub nogoods: &'a mut [u32],
+    pub asked: Fronts<'a>,
+    pub known: Fronts<'a>,
 }
 
-// From two fronts before the rest of index j, the question's and the known one, to the next two.
-fn beside_rest(
-    starts: &[u32],
-    ends: &[u32],
-    nets: &[u32],
-    compensations: &[u32],
-    s: u32,
-    outstanding: &mut [u32],
-    nogoods: &mut [u32],
-    next: &mut [u32],
-    front: &[u32],
-    beside: &mut [u32],
-    known: &[u32],
-    j: usize,
-    f: usize,
-    g: usize,
-) -> Both
-    requires { let c = course_of starts.now ends.now nets.now compensations.now s in Sized c outstanding.old × Sound c nogoods.old × (j < count c) × Front c j front.now f × Front c j known.now g }
-    ensures { let c = course_of starts.now ends.now nets.now compensations.now s in Besides c j front.now f known.now g (j + 1) next.new beside.new nogoods.new result }
+// The nogoods of k rests are emptied for a course in which the rest of number x, if that is one, has another compensation.
+pub fn renew(nogoods: &mut [u32], k: usize, x: usize)
+    ensures { Renewed k x nogoods.old nogoods.new }
 {
-    let went = verdict_sweep::sweep_rest(
-        starts,
-        ends,
-        nets,
-        compensations,
-        s,
-        outstanding,
-        nogoods,
-        next,
-        front,
-        j,
-        f,
-    );
-    if went.yes {
-        return Both {
-            yes: true,
-            n: 0,
-            g: 0,
-        };
-    }
-    if went.n == 0 {
-        return Both {
-            yes: false,
-            n: went.n,
-            g: 0,
-        };
-    }
-    if g == 0 {
-        return Both {
-            yes: false,
-            n: went.n,
-            g: 0,
-        };
-    }
-    let left = verdict_sweep::sweep_rest(
-        starts,
-        ends,
-        nets,
-        compensations,
-        s,
-        outstanding,
-        nogoods,
-        beside,
-        known,
-        j,
-        g,
-    );
-    if left.yes {
-        return Both {
-            yes: false,
-            n: went.n,
-            g: 0,
-        };
-    }
-    if verdict_fronts::all_matched(beside, left.n, next, went.n) {
-        return Both {
-            yes: true,
-            n: 0,
-            g: 0,
-        };
-    }
-    Both {
-        yes: false,
-        n: went.n,
-        g: left.n,
+    if x != 0 {
+        verdict_nogoods::clear(nogoods, k);
     }
 }
 
-// From two fronts before the rest of index j to the next two and from there back to two before the rest after that.
-fn beside_two(
-    starts: &[u32],
-    ends: &[u32],
-    nets: &[u32],
-    compensations: &[u32],
-    s: u32,
-    outstanding: &mut [u32],
-    nogoods: &mut [u32],
-    front: &mut [u32],
-    other: &mut [u32],
-    known: &mut [u32],
-    beside: &mut [u32],
-    j: usize,
-    f: usize,
-    g: usize,
-) -> Both
-    requires { let c = course_of starts.now ends.now nets.now compensations.now s in Sized c outstanding.old × Sound c nogoods.old × (j < count c) × Front c j front.old f × Front c j known.old g }
-    ensures { let c = course_of starts.now ends.now nets.now compensations.now s in Besides c j front.old f known.old g (j + 2) front.new known.new nogoods.new result }
+// Whether something is known, and each known state is matched by one of the question's.
+fn all_matched(room: &Room) -> bool
+    requires known { entry_at room.now.known.states ≤ length room.now.known.front.now }
+    requires asked { entry_at room.now.asked.states ≤ length room.now.asked.front.now }
+    ensures { Matched room.now result }
 {
-    let there = beside_rest(
-        starts,
-        ends,
-        nets,
-        compensations,
-        s,
-        outstanding,
-        nogoods,
-        other,
-        front,
-        beside,
-        known,
-        j,
-        f,
-        g,
-    );
-    if there.yes {
-        return Both {
-            yes: true,
-            n: 0,
-            g: 0,
-        };
+    let known = &*room.known.front;
+    let asked = &*room.asked.front;
+    let g = room.known.states;
+    let n = room.asked.states;
+    verdict_fronts::all_matched(known, g, asked, n)
+}
+
+// From two fronts before the rest of index j, the question's and the known one, to the next two: whether the question is answered yes.
+fn beside_rest(course: &Course, room: &mut Room, j: usize) -> bool
+    requires ready { Ready (course_of course.now) room.old }
+    requires within { j < count (course_of course.now) }
+    requires abreast { Abreast (course_of course.now) j room.old }
+    ensures { Besides (course_of course.now) j room.old (j + 1) room.new result }
+{
+    let slots = &mut *room.slots;
+    let nogoods = &mut *room.nogoods;
+    let asked = &mut room.asked;
+    if verdict_sweep::sweep_rest(course, slots, nogoods, asked, j) {
+        room.known.states = 0;
+        return true;
     }
-    if j + 1 == starts.len() {
-        return Both {
-            yes: false,
-            n: 0,
-            g: 0,
-        };
+    if room.asked.states == 0 || room.known.states == 0 {
+        room.known.states = 0;
+        return false;
     }
-    beside_rest(
-        starts,
-        ends,
-        nets,
-        compensations,
-        s,
-        outstanding,
-        nogoods,
-        front,
-        other,
-        known,
-        beside,
-        j + 1,
-        there.n,
-        there.g,
-    )
+    let slots = &mut *room.slots;
+    let nogoods = &mut *room.nogoods;
+    let known = &mut room.known;
+    if verdict_sweep::sweep_rest(course, slots, nogoods, known, j) {
+        room.known.states = 0;
+        return false;
+    }
+    all_matched(room)
 }
 
 // So many rests a question goes beside the known front: those that merge mostly do so soon, and the known front costs as much as the question's.
 const BESIDE: usize = 16;
 
-// So many rests after that of index j, or all k.
-fn beside_end(j: usize, k: usize) -> usize
-    ensures { result ≤ k }
-{
-    if k <= j {
-        return k;
-    }
-    if k - j <= BESIDE {
-        return k;
-    }
-    j + BESIDE
-}
-
 // From two fronts before the rest of index j to the first rest at which they merge; past so many rests the question goes on alone, to the end.
-fn merge_on(
-    starts: &[u32],
-    ends: &[u32],
-    nets: &[u32],
-    compensations: &[u32],
-    s: u32,
-    outstanding: &mut [u32],
-    nogoods: &mut [u32],
-    front: &mut [u32],
-    other: &mut [u32],
-    known: &mut [u32],
-    beside: &mut [u32],
-    j: usize,
-    f: usize,
-    g: usize,
-) -> bool
-    requires { let c = course_of starts.now ends.now nets.now compensations.now s in
-        Sized c outstanding.old × Sound c nogoods.old × (j ≤ count c + 1) × Front c j front.old f × Front c j known.old g }
-    ensures { let c = course_of starts.now ends.now nets.now compensations.now s in
-        ToldIf (Trusted c j known.old g) (Any c j front.old f) result (Sound c nogoods.new) }
+fn merge_on(course: &Course, room: &mut Room, j: usize) -> bool
+    requires ready { Ready (course_of course.now) room.old }
+    requires within { j ≤ count (course_of course.now) }
+    requires abreast { Abreast (course_of course.now) j room.old }
+    ensures { let c = course_of course.now in ToldIf (Trusted c j room.old) (AnyAsked c j room.old) result (Ready c room.new) }
 {
-    if verdict_fronts::all_matched(known, g, front, f) {
+    if all_matched(room) {
         return true;
     }
-    let last = beside_end(j, starts.len());
-    let mut i = j;
-    let mut n = f;
-    let mut m = g;
-    while i < last {
-        let went = beside_two(
-            starts,
-            ends,
-            nets,
-            compensations,
-            s,
-            outstanding,
-            nogoods,
-            front,
-            other,
-            known,
-            beside,
-            i,
-            n,
-            m,
-        );
-        if went.yes {
+    let last = course.rests.starts.len().min(j + BESIDE);
+    for i in j..last {
+        if beside_rest(course, room, i) {
             return true;
         }
-        if went.n == 0 {
+        if room.asked.states == 0 {
             return false;
         }
-        n = went.n;
-        m = went.g;
-        i += 2;
     }
-    let swept = verdict_sweep::sweep_on(
-        starts,
-        ends,
-        nets,
-        compensations,
-        s,
-        outstanding,
-        nogoods,
-        front,
-        other,
-        i,
-        n,
-    );
-    swept.yes
+    let slots = &mut *room.slots;
+    let nogoods = &mut *room.nogoods;
+    let asked = &mut room.asked;
+    let ending = verdict_sweep::sweep_on(course, slots, nogoods, asked, last);
+    ending.yes
 }
 
-// From a state before the rest of index j, where nothing is outstanding, p times two rests on.
+// From a state before the rest of index j, where nothing is outstanding, to the front before that of index `to`: whether it is answered yes on the way.
 fn ask_to(
-    starts: &[u32],
-    ends: &[u32],
-    nets: &[u32],
-    compensations: &[u32],
-    s: u32,
-    outstanding: &mut [u32],
+    course: &Course,
+    slots: &mut [u32],
+    nogoods: &mut [u32],
+    fronts: &mut Fronts,
+    j: usize,
+    st: State,
+    to: usize,
+) -> bool
+    requires slots { length slots.old ≡ count (course_of course.now) }
+    requires sound { Sound (course_of course.now) nogoods.old }
+    requires before { Before (course_of course.now) j st }
+    requires on { j ≤ to }
+    requires within { to ≤ count (course_of course.now) }
+    ensures { let c = course_of course.now in Reaches c (Completable c (count c - j) j st (nothing c)) to fronts.new nogoods.new result }
+{
+    slots.fill(0);
+    verdict_sweep::begin(course, slots, nogoods, fronts, j, st)
+        || verdict_sweep::sweep_to(course, slots, nogoods, fronts, j, to)
+}
+
+// From a state at the rest of index j to a first front, with slots where nothing is outstanding: how many states it has, or none where one was found good.
+fn first_known(
+    course: &Course,
     slots: &mut [u32],
     nogoods: &mut [u32],
     front: &mut [u32],
-    other: &mut [u32],
-    j: usize,
-    st: State,
-    p: usize,
-) -> Went
-    requires { let c = course_of starts.now ends.now nets.now compensations.now s in Lent c outstanding.old × Sized c slots.old × Sound c nogoods.old × Before c j st × (j + 2 * p ≤ count c + 1) }
-    ensures { let c = course_of starts.now ends.now nets.now compensations.now s in Reaches c c j st (j + 2 * p) front.new outstanding.old outstanding.new nogoods.new result }
-{
-    let went = verdict_search::step(
-        starts,
-        ends,
-        nets,
-        compensations,
-        s,
-        outstanding,
-        nogoods,
-        front,
-        j,
-        st,
-        0,
-        0,
-    );
-    if went.yes {
-        return Went { yes: true, n: 0 };
-    }
-    verdict_sweep::sweep_pairs(
-        starts,
-        ends,
-        nets,
-        compensations,
-        s,
-        slots,
-        nogoods,
-        front,
-        other,
-        j,
-        went.n,
-        p,
-    )
-}
-
-// From a state at the rest of index j, where nothing is outstanding, to the rest after it and then p times two rests on: how many states the known front has
-// there. 0 where a state was found good on the way: nothing is known of the front then.
-fn known_to(
-    starts: &[u32],
-    ends: &[u32],
-    nets: &[u32],
-    compensations: &[u32],
-    s: u32,
-    outstanding: &mut [u32],
-    slots: &mut [u32],
-    nogoods: &mut [u32],
-    known: &mut [u32],
-    beside: &mut [u32],
     j: usize,
     here: State,
-    p: usize,
-) -> usize
-    requires { let c = course_of starts.now ends.now nets.now compensations.now s in
-        Lent c outstanding.old × Sized c slots.old × Sound c nogoods.old × AtRest c j here × (j + 1 + 2 * p ≤ count c + 1) }
-    ensures { let c = course_of starts.now ends.now nets.now compensations.now s in Knows (Tries c (Later c j) j here outstanding.old) (Trusted c (j + 1 + 2 * p) known.new result)
-        outstanding.old outstanding.new (Sound c nogoods.new) (Front c (j + 1 + 2 * p) known.new result) }
+) -> Option<usize>
+    requires free { Free (course_of course.now) slots.old }
+    requires sound { Sound (course_of course.now) nogoods.old }
+    requires rest { AtRest (course_of course.now) j here }
+    ensures { let c = course_of course.now in OpensTo c (Tries c (Later c j) j here slots.old) j front.new nogoods.new result }
 {
-    let first = verdict_search::place(
-        starts,
-        ends,
-        nets,
-        compensations,
-        s,
-        outstanding,
-        nogoods,
-        beside,
-        j,
-        here,
-        0,
-        0,
-    );
-    if first.yes {
-        return 0;
+    let mut search = Search {
+        slots: &mut *slots,
+        used: 0,
+        nogoods: &mut *nogoods,
+        next: &mut *front,
+        states: 0,
+    };
+    if verdict_search::place(course, &mut search, j, here) {
+        return None;
     }
-    let went = verdict_sweep::sweep_rest(
-        starts,
-        ends,
-        nets,
-        compensations,
-        s,
-        slots,
-        nogoods,
-        known,
-        beside,
-        j,
-        first.n,
-    );
-    if went.yes {
-        return 0;
-    }
-    let last = verdict_sweep::sweep_pairs(
-        starts,
-        ends,
-        nets,
-        compensations,
-        s,
-        slots,
-        nogoods,
-        known,
-        beside,
-        j + 1,
-        went.n,
-        p,
-    );
-    if last.yes {
-        return 0;
-    }
-    last.n
+    Some(search.states)
 }
 
-// The same as `ask_to`, where the rest of number x has some minutes more compensation.
-fn try_to(
-    starts: &[u32],
-    ends: &[u32],
-    nets: &[u32],
-    compensations: &mut [u32],
-    s: u32,
-    outstanding: &mut [u32],
+// From a state at the rest of index j, where nothing is outstanding, to the front before that of index `to`. It has no state where one was found good on the
+// way: nothing is known of the front then.
+fn know_to(
+    course: &Course,
     slots: &mut [u32],
     nogoods: &mut [u32],
-    front: &mut [u32],
-    other: &mut [u32],
+    fronts: &mut Fronts,
     j: usize,
-    st: State,
-    p: usize,
-    x: usize,
-    less: u32,
-) -> Went
-    requires { let c = course_of starts.now ends.now nets.now compensations.old s in let d = compensating c x less in
-        Sized c slots.old × Lent d outstanding.old × Sized d slots.old × Sound c nogoods.old × Before d j st × (j + 2 * p ≤ count c + 1) × (x ≤ count c) }
-    ensures { let c = course_of starts.now ends.now nets.now compensations.old s in let d = compensating c x less in
-        Reaches c d j st (j + 2 * p) front.new outstanding.old outstanding.new nogoods.new result
-        × (compensations.new ≡ compensations.old) }
+    here: State,
+    to: usize,
+)
+    requires slots { length slots.old ≡ count (course_of course.now) }
+    requires sound { Sound (course_of course.now) nogoods.old }
+    requires rest { AtRest (course_of course.now) j here }
+    requires on { j ≤ to }
+    requires within { to ≤ count (course_of course.now) }
+    ensures { let c = course_of course.now in Knows c (Tries c (Later c j) j here (nothing c)) to fronts.new nogoods.new }
 {
-    if x == 0 {
-        return ask_to(
-            starts,
-            ends,
-            nets,
-            compensations,
-            s,
-            outstanding,
-            slots,
-            nogoods,
-            front,
-            other,
-            j,
-            st,
-            p,
-        );
+    slots.fill(0);
+    let front = &mut *fronts.front;
+    let Some(states) = first_known(course, slots, nogoods, front, j, here) else {
+        fronts.states = 0;
+        return;
+    };
+    fronts.states = states;
+    if verdict_sweep::sweep_to(course, slots, nogoods, fronts, j, to) {
+        fronts.states = 0;
     }
-    verdict_nogoods::clear(nogoods, starts.len());
-    let i = x - 1;
-    let compensation = compensations[i];
-    compensations[i] = compensation + less;
-    let went = ask_to(
-        starts,
-        ends,
-        nets,
-        compensations,
-        s,
-        outstanding,
-        slots,
-        nogoods,
-        front,
-        other,
-        j,
-        st,
-        p,
-    );
-    compensations[i] = compensation;
-    verdict_nogoods::clear(nogoods, starts.len());
-    went
 }
 
-// The same as `merge_on`, where the rest of number x has some minutes more compensation.
-fn try_on(
-    starts: &[u32],
-    ends: &[u32],
-    nets: &[u32],
-    compensations: &mut [u32],
-    s: u32,
-    slots: &mut [u32],
-    nogoods: &mut [u32],
-    front: &mut [u32],
-    other: &mut [u32],
-    known: &mut [u32],
-    beside: &mut [u32],
-    j: usize,
-    f: usize,
-    g: usize,
-    x: usize,
-    less: u32,
-) -> bool
-    requires { let c = course_of starts.now ends.now nets.now compensations.old s in let d = compensating c x less in
-        Sized c slots.old × Sized d slots.old × Sound c nogoods.old × (j ≤ count c + 1) × (x ≤ count c) × Front d j front.old f × Front d j known.old g }
-    ensures { let c = course_of starts.now ends.now nets.now compensations.old s in let d = compensating c x less in
-        ToldIf (Trusted d j known.old g) (Any d j front.old f) result (Sound c nogoods.new)
-        × (compensations.new ≡ compensations.old) }
-{
-    if x == 0 {
-        return merge_on(
-            starts,
-            ends,
-            nets,
-            compensations,
-            s,
-            slots,
-            nogoods,
-            front,
-            other,
-            known,
-            beside,
-            j,
-            f,
-            g,
-        );
-    }
-    verdict_nogoods::clear(nogoods, starts.len());
-    let i = x - 1;
-    let compensation = compensations[i];
-    compensations[i] = compensation + less;
-    let yes = merge_on(
-        starts,
-        ends,
-        nets,
-        compensations,
-        s,
-        slots,
-        nogoods,
-        front,
-        other,
-        known,
-        beside,
-        j,
-        f,
-        g,
-    );
-    compensations[i] = compensation;
-    verdict_nogoods::clear(nogoods, starts.len());
-    yes
-}
-
-// The same as `completes_beside`, with slots for the sweeps.
-fn asks_beside(
-    starts: &[u32],
-    ends: &[u32],
-    nets: &[u32],
-    compensations: &mut [u32],
-    s: u32,
-    outstanding: &mut [u32],
-    slots: &mut [u32],
-    nogoods: &mut [u32],
-    front: &mut [u32],
-    other: &mut [u32],
-    known: &mut [u32],
-    beside: &mut [u32],
+// Whether the rests from that of index j + 1 on can be read from the state `next` in a trial of the course, in which the rest of number x has another
+// compensation (0 is none), where nothing is outstanding. A yes may rest on that the rests from that of index j on can be read from the state `here` at that
+// rest in the course itself: past the rest of number x, where each state that this can lead to is matched by one that `next` leads to, the answer is yes.
+pub fn completes_beside<'a>(
+    course: &Course<'a>,
+    trial: &Course<'a>,
+    room: &mut Room,
     j: usize,
     here: State,
     next: State,
     x: usize,
-    less: u32,
 ) -> bool
-    requires { let c = course_of starts.now ends.now nets.now compensations.old s in let d = compensating c x less in
-        Lent c outstanding.old × Lent d outstanding.old × Sized c slots.old × Sized d slots.old × AtRest c j here × Before d (j + 1) next × (x ≤ count c) × Sound c nogoods.old }
-    ensures { let c = course_of starts.now ends.now nets.now compensations.old s in let d = compensating c x less in
-        FindsIf c (Tries c (Later c j) j here outstanding.old) (Later d j next outstanding.old) result outstanding.old outstanding.new nogoods.new
-        × (compensations.new ≡ compensations.old) }
+    requires ready { Ready (course_of course.now) room.old }
+    requires trial { Trial (course_of course.now) (course_of trial.now) x }
+    requires rest { AtRest (course_of course.now) j here }
+    requires next { Before (course_of trial.now) (j + 1) next }
+    requires number { x ≤ count (course_of course.now) }
+    ensures { let c = course_of course.now in let d = course_of trial.now in
+        ToldIf (Tries c (Later c j) j here (nothing c)) (Later d j next (nothing d)) result (Ready c room.new) }
 {
-    let p = verdict_sweep::pairs_to(j, x);
-    let went = try_to(
-        starts,
-        ends,
-        nets,
-        compensations,
-        s,
-        outstanding,
-        slots,
-        nogoods,
-        front,
-        other,
-        j + 1,
-        next,
-        p,
-        x,
-        less,
-    );
-    if went.yes {
+    let k = course.rests.starts.len();
+    let to = verdict_sweep::past_carrier(j + 1, x);
+    let slots = &mut *room.slots;
+    let nogoods = &mut *room.nogoods;
+    let asked = &mut room.asked;
+    renew(nogoods, k, x);
+    let good = ask_to(trial, slots, nogoods, asked, j + 1, next, to);
+    renew(nogoods, k, x);
+    if good {
         return true;
     }
-    if went.n == 0 {
+    if asked.states == 0 {
         return false;
     }
-    let g = known_to(
-        starts,
-        ends,
-        nets,
-        compensations,
-        s,
-        outstanding,
-        slots,
-        nogoods,
-        known,
-        beside,
-        j,
-        here,
-        p,
-    );
-    try_on(
-        starts,
-        ends,
-        nets,
-        compensations,
-        s,
-        slots,
-        nogoods,
-        front,
-        other,
-        known,
-        beside,
-        j + 1 + 2 * p,
-        went.n,
-        g,
-        x,
-        less,
-    )
-}
-
-// The same with slots of its own, for no more long rests than a short recording has.
-fn asks_short(
-    starts: &[u32],
-    ends: &[u32],
-    nets: &[u32],
-    compensations: &mut [u32],
-    s: u32,
-    outstanding: &mut [u32],
-    nogoods: &mut [u32],
-    front: &mut [u32],
-    other: &mut [u32],
-    known: &mut [u32],
-    beside: &mut [u32],
-    j: usize,
-    here: State,
-    next: State,
-    x: usize,
-    less: u32,
-) -> bool
-    requires { let c = course_of starts.now ends.now nets.now compensations.old s in let d = compensating c x less in
-        Lent c outstanding.old × Lent d outstanding.old × AtRest c j here × Before d (j + 1) next × (x ≤ count c) × Sound c nogoods.old × (count c ≤ short_rests) }
-    ensures { let c = course_of starts.now ends.now nets.now compensations.old s in let d = compensating c x less in
-        FindsIf c (Tries c (Later c j) j here outstanding.old) (Later d j next outstanding.old) result outstanding.old outstanding.new nogoods.new
-        × (compensations.new ≡ compensations.old) }
-{
-    let k = starts.len();
-    let mut slots = [0u32; recording::SHORT_RESTS];
-    asks_beside(
-        starts,
-        ends,
-        nets,
-        compensations,
-        s,
-        outstanding,
-        &mut slots[..k],
-        nogoods,
-        front,
-        other,
-        known,
-        beside,
-        j,
-        here,
-        next,
-        x,
-        less,
-    )
-}
-
-// The same for any number of long rests.
-fn asks_long(
-    starts: &[u32],
-    ends: &[u32],
-    nets: &[u32],
-    compensations: &mut [u32],
-    s: u32,
-    outstanding: &mut [u32],
-    nogoods: &mut [u32],
-    front: &mut [u32],
-    other: &mut [u32],
-    known: &mut [u32],
-    beside: &mut [u32],
-    j: usize,
-    here: State,
-    next: State,
-    x: usize,
-    less: u32,
-) -> bool
-    requires { let c = course_of starts.now ends.now nets.now compensations.old s in let d = compensating c x less in
-        Lent c outstanding.old × Lent d outstanding.old × AtRest c j here × Before d (j + 1) next × (x ≤ count c) × Sound c nogoods.old }
-    ensures { let c = course_of starts.now ends.now nets.now compensations.old s in let d = compensating c x less in
-        FindsIf c (Tries c (Later c j) j here outstanding.old) (Later d j next outstanding.old) result outstanding.old outstanding.new nogoods.new
-        × (compensations.new ≡ compensations.old) }
-{
-    let k = starts.len();
-    let mut slots = [0u32; recording::LONG_RESTS];
-    asks_beside(
-        starts,
-        ends,
-        nets,
-        compensations,
-        s,
-        outstanding,
-        &mut slots[..k],
-        nogoods,
-        front,
-        other,
-        known,
-        beside,
-        j,
-        here,
-        next,
-        x,
-        less,
-    )
-}
-
-// Whether the rests from that of index j + 1 on can be read from the state `next`, where the rest of number x has some minutes more compensation (0 is none)
-// and nothing is outstanding. A yes may rest on that the rests from that of index j on can be read from the state `here` at that rest with the compensations as they
-// stand: past the rest of number x, where each state that this can lead to is matched by one that `next` leads to, the answer is yes.
-pub fn completes_beside(
-    starts: &[u32],
-    ends: &[u32],
-    nets: &[u32],
-    compensations: &mut [u32],
-    s: u32,
-    outstanding: &mut [u32],
-    nogoods: &mut [u32],
-    front: &mut [u32],
-    other: &mut [u32],
-    known: &mut [u32],
-    beside: &mut [u32],
-    j: usize,
-    here: State,
-    next: State,
-    x: usize,
-    less: u32,
-) -> bool
-    requires { let c = course_of starts.now ends.now nets.now compensations.old s in let d = compensating c x less in
-        Lent c outstanding.old × Lent d outstanding.old × AtRest c j here × Before d (j + 1) next × (x ≤ count c) × Sound c nogoods.old }
-    ensures { let c = course_of starts.now ends.now nets.now compensations.old s in let d = compensating c x less in
-        FindsIf c (Tries c (Later c j) j here outstanding.old) (Later d j next outstanding.old) result outstanding.old outstanding.new nogoods.new
-        × (compensations.new ≡ compensations.old) }
-{
-    if starts.len() <= recording::SHORT_RESTS {
-        return asks_short(
-            starts,
-            ends,
-            nets,
-            compensations,
-            s,
-            outstanding,
-            nogoods,
-            front,
-            other,
-            known,
-            beside,
-            j,
-            here,
-            next,
-            x,
-            less,
-        );
-    }
-    asks_long(
-        starts,
-        ends,
-        nets,
-        compensations,
-        s,
-        outstanding,
-        nogoods,
-        front,
-        other,
-        known,
-        beside,
-        j,
-        here,
-        next,
-        x,
-        less,
-    )
+    let known = &mut room.known;
+    know_to(course, slots, nogoods, known, j, here, to);
+    renew(nogoods, k, x);
+    let merges = merge_on(trial, room, to);
+    let nogoods = &mut *room.nogoods;
+    renew(nogoods, k, x);
+    merges
 }

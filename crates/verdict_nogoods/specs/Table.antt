@@ -1,11 +1,11 @@
 -- Inner: a table of states that cannot be completed, in one slice. Nobody has to believe it: no public contract cites it.
 -- A level for each long rest: a word that says how many states were stored there, then a ring of entries, the oldest overwritten next.
 -- Assumes nothing.
-use Rattle.std.specs.Prelude.{◌≡◌, List, [], ◌∷◌, ℕ, zero, suc, ◌+◌, ◌*◌, ◌≤◌, ◌<◌, ltb, set}
+use Rattle.std.specs.Prelude.{◌≡◌, ◌⊎◌, Bool, List, [], ◌∷◌, ◌++◌, ℕ, zero, suc, ◌+◌, ◌*◌, ◌≤◌, ◌<◌, ltb, length, take, drop, min}
 use Rattle.recording.specs.Tests.{one}
 use Rattle.verdict_completion.specs.declared.State.{State}
 use Rattle.verdict_completion.specs.Completable.{at}
-use Rattle.verdict_completion.specs.Better.{Within}
+use Rattle.verdict_completion.specs.Better.{Within, Better}
 
 -- the entries of a level; an entry's words of the state and the number of its reductions, and its reductions
 abbrev pub ring_size : ℕ
@@ -45,22 +45,34 @@ pub record InUse (t : List ℕ) (j e : ℕ) : Type 0 where
   pub within : e < ring_size
   pub stored : e < at t (level_at j)
 
--- each reduction of the entry at p lies within one of those outstanding, whatever rests they are of, in the order of the slots
-pub record Paired (t : List ℕ) (p : ℕ) (outstanding : List ℕ) : Type 0 where
-  -- the slot of the reduction within which that of index d lies
+-- what it says: its state, in week w, and its reductions, no more than it has words for
+abbrev pub state_in : List ℕ → ℕ → ℕ → State
+state_in t p w = record {
+  ended = at t p;
+  short = at t (p + 1);
+  week = w;
+  before = record { weekly = at t (p + 2); regular = at t (p + 3) };
+  current = record { weekly = at t (p + 4); regular = at t (p + 5) };
+}
+
+abbrev pub reductions_at : List ℕ → ℕ → List ℕ
+reductions_at t p = take (min (reductions_of t p) reductions_at_most) (drop (p + state_words) t)
+
+-- each stored reduction lies within one of those present, whatever rests they are of, in their order
+pub record Paired (stored present : List ℕ) : Type 0 where
+  -- the index of the reduction within which that of index d lies
   pub to : ℕ → ℕ
-  pub within : (d : ℕ) → d < reductions_of t p → Within (reduction_in t p d) (at outstanding (to d))
-  pub rises : (d e : ℕ) → d < e → e < reductions_of t p → to d < to e
+  pub within : (d : ℕ) → d < length stored → Within (at stored d) (at present (to d))
+  pub rises : (d e : ℕ) → d < e → e < length stored → to d < to e
 
 -- the entry at p is at least as good as the state with what is outstanding
 pub record Dominates (t : List ℕ) (p : ℕ) (st : State) (outstanding : List ℕ) : Type 0 where
-  pub ended : st.ended ≤ at t p
-  pub short : at t (p + 1) ≤ st.short
-  pub weekly_before : st.before.weekly ≤ at t (p + 2)
-  pub regular_before : st.before.regular ≤ at t (p + 3)
-  pub weekly : st.current.weekly ≤ at t (p + 4)
-  pub regular : st.current.regular ≤ at t (p + 5)
-  pub reductions : Paired t p outstanding
+  pub better : Better (state_in t p st.week) st
+  pub reductions : Paired (reductions_at t p) outstanding
+
+-- one of the first n entries is
+abbrev pub OneDominates : List ℕ → ℕ → State → List ℕ → Type 0
+OneDominates t n st outstanding = (e : ℕ) × (e < n) × Dominates t (entry_words * e) st outstanding
 
 -- an entry of level j in use is
 pub record Known (t : List ℕ) (j : ℕ) (st : State) (outstanding : List ℕ) : Type 0 where
@@ -68,15 +80,15 @@ pub record Known (t : List ℕ) (j : ℕ) (st : State) (outstanding : List ℕ) 
   pub used : InUse t j entry
   pub dominates : Dominates t (entry_at j entry) st outstanding
 
--- each reduction that is outstanding stands in the entry at p, in the order of the slots
-pub record Stored (t : List ℕ) (p : ℕ) (outstanding : List ℕ) : Type 0 where
-  -- the index under which the reduction of slot i stands
-  pub place : ℕ → ℕ
-  pub below : (i : ℕ) → 0 < at outstanding i → place i < reductions_of t p
-  pub reduction : (i : ℕ) → 0 < at outstanding i → reduction_in t p (place i) ≡ at outstanding i
-  pub rises : (i k : ℕ) → i < k → 0 < at outstanding i → 0 < at outstanding k → place i < place k
+-- 0 is no reduction; how many of the first n there are
+abbrev pub is_reduction : ℕ → Bool
+is_reduction reduction = ltb 0 reduction
 
--- the entry at p holds the state and what is outstanding
+unfoldable pub outstanding_count : List ℕ → ℕ → ℕ
+outstanding_count outstanding zero = 0
+outstanding_count outstanding (suc n) = outstanding_count outstanding n + one (ltb 0 (at outstanding n))
+
+-- the entry at p holds the state and what is outstanding, each reduction under the number of those before it
 pub record Holds (t : List ℕ) (p : ℕ) (st : State) (outstanding : List ℕ) : Type 0 where
   pub ended : at t p ≡ st.ended
   pub short : at t (p + 1) ≡ st.short
@@ -85,7 +97,13 @@ pub record Holds (t : List ℕ) (p : ℕ) (st : State) (outstanding : List ℕ) 
   pub weekly : at t (p + 4) ≡ st.current.weekly
   pub regular : at t (p + 5) ≡ st.current.regular
   pub few : reductions_of t p ≤ reductions_at_most
-  pub reductions : Stored t p outstanding
+  pub count : reductions_of t p ≡ outstanding_count outstanding (length outstanding)
+  pub reduction : (i : ℕ) → 0 < at outstanding i → reduction_in t p (outstanding_count outstanding i) ≡ at outstanding i
+
+-- the state and what is outstanding were written into the entry at p; the other words are as they were
+pub record Written (t t' : List ℕ) (p : ℕ) (st : State) (outstanding : List ℕ) : Type 0 where
+  pub holds : Holds t' p st outstanding
+  pub other : (x : ℕ) → (x < p) ⊎ (p + entry_words ≤ x) → at t' x ≡ at t x
 
 -- the words of the entry at p are as they were
 abbrev pub SameEntry : List ℕ → List ℕ → ℕ → Type 0
@@ -97,36 +115,21 @@ pub data Entry (t t' : List ℕ) (j : ℕ) (st : State) (outstanding : List ℕ)
   new : i ≡ j → Holds t' (entry_at i e) st outstanding → Entry t t' j st outstanding i e
 
 pub record Remembered (t t' : List ℕ) (j : ℕ) (st : State) (outstanding : List ℕ) : Type 0 where
+  pub size : length t' ≡ length t
   pub entries : (i e : ℕ) → InUse t' i e → Entry t t' j st outstanding i e
 
 -- the first k levels are empty
 abbrev pub Empty : List ℕ → ℕ → Type 0
 Empty t k = (i : ℕ) → i < k → at t (level_at i) ≡ 0
 
--- how many reductions there are in the first n slots
-unfoldable pub outstanding_count : List ℕ → ℕ → ℕ
-outstanding_count outstanding zero = 0
-outstanding_count outstanding (suc n) = outstanding_count outstanding n + one (ltb 0 (at outstanding n))
-
--- words written from index p + k on
-unfoldable pub words_written : List ℕ → ℕ → ℕ → List ℕ → List ℕ
-words_written t p k [] = t
-words_written t p k (w ∷ ws) = words_written (set t (p + k) w) p (k + 1) ws
-
--- the words of a state with n reductions after its first, and all of them written into the entry at p
+-- the words of a state with n reductions, and these at p in place of those that stood there
 abbrev pub words_of : State → ℕ → List ℕ
-words_of st n = st.short ∷ st.before.weekly ∷ st.before.regular ∷ st.current.weekly ∷ st.current.regular ∷ n ∷ []
+words_of st n = st.ended ∷ st.short ∷ st.before.weekly ∷ st.before.regular ∷ st.current.weekly ∷ st.current.regular ∷ n ∷ []
 
 abbrev pub stated : List ℕ → ℕ → State → ℕ → List ℕ
-stated t p st n = words_written (set t p st.ended) p 1 (words_of st n)
+stated t p st n = take p t ++ (words_of st n ++ drop (p + state_words) t)
 
--- a reduction, if there is one, was written as that of index d of the entry at p, and r is the next index
-pub record Put (t t' : List ℕ) (p d reduction r : ℕ) : Type 0 where
-  pub next : r ≡ d + one (ltb 0 reduction)
-  pub other : (x : ℕ) → (0 < reduction → x ≡ reduction_place p d → ⊥) → at t' x ≡ at t x
-  pub is_outstanding : 0 < reduction → reduction_in t' p d ≡ reduction
-
--- what is outstanding in the first n slots was written into the entry at p, as r reductions: each under the number of those before it
+-- of what is outstanding the first n were written into the entry at p, as r reductions: each under the number of those before it
 pub record PutAll (t t' : List ℕ) (p : ℕ) (outstanding : List ℕ) (n r : ℕ) : Type 0 where
   pub count : r ≡ outstanding_count outstanding n
   pub below : (x : ℕ) → x < p + state_words → at t' x ≡ at t x

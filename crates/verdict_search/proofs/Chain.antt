@@ -20,8 +20,7 @@ use Rattle.rules.specs.declared.Standing.{Standing}
 use Rattle.rules.specs.declared.Standing.TheVariants.{Regular}
 use Rattle.rules_items.specs.Items.{standing_for}
 use Rattle.verdict_completion.specs.declared.State.{State}
-use Rattle.verdict_completion.specs.declared.Brought.{Brought}
-use Rattle.verdict_completion.specs.declared.Brought.TheVariants.{Broken, To}
+use Rattle.std.specs.Prelude.{Option, None, Some}
 use Rattle.verdict_completion.specs.States.{advance, After, after_daily, after_weekly}
 use Rattle.verdict_completion.specs.Completable.{
   Course,
@@ -47,9 +46,9 @@ use Rattle.verdict_completion.specs.Completable.{
 use Rattle.verdict_completion.specs.Better.{Within, Matched, AtRest}
 use Rattle.verdict_completion.proofs.Matching.{within_self, put_at}
 use Rattle.verdict_completion.proofs.Monotone.{better_self, matched_last, completable_by, regular_by, forget, recall}
-use Rattle.verdict_steps.specs.Steps.{Fits, Candidate, outstanding_by}
+use Rattle.verdict_steps.specs.Steps.{Fits, outstanding_by}
 use Rattle.verdict_steps.proofs.StepLaws.{standing_reduction}
-use Rattle.verdict_search.specs.Search.{Later, Slots}
+use Rattle.verdict_search.specs.Search.{Later, InSlots, FirstFrom}
 use Rattle.verdict_search.proofs.Memory.{later_mono}
 use Rattle.verdict_fronts.specs.Front.{entry_at}
 use Rattle.verdict_search.specs.Leading.{Can, Any, CountedIn, ReadAs, TakenAs}
@@ -59,22 +58,18 @@ one_left : (n i : ℕ) → i < n → n - i ≡ suc (n - (i + 1))
 one_left n i l = omega arith
 
 -- ---- compensating out of a rest
--- no reduction that fits is left in the first n slots, and the later ones have none
-pub no_candidate : {o : List ℕ} {i n j compensation minutes d : ℕ} → n ≤ j → ((x : ℕ) → n ≤ x → at o x ≡ 0) → Candidate o i n compensation minutes d → d ≡ n → Candidate o i j compensation minutes j
-no_candidate {o} {i} {n} {j} {compensation} {minutes} {d} le unused w e = record {
-  low = omega (arith, w.low);
-  high = le_refl _;
-  passed = λ x l h f. go x l f (less_or_not x n);
-  found = λ h. absurd (omega arith);
-}
-  where
-    go : (x : ℕ) → i ≤ x → Fits (at o x) compensation minutes → (x < n) ⊎ (n ≤ x) → ⊥
-    go x l f (inl h) = w.passed x l (omega arith) f
-    go x l f (inr h) = omega (arith, f.is_outstanding, unused x h)
+-- d is the first slot from i on, below n, whose reduction fits, or n
+pub record Candidate (outstanding : List ℕ) (i n compensation minutes d : ℕ) : Type 0 where
+  pub low : i ≤ d
+  pub high : d ≤ n
+  pub passed : (x : ℕ) → i ≤ x → x < d → Fits (at outstanding x) compensation minutes → ⊥
+  pub found : d < n → Fits (at outstanding d) compensation minutes
 
--- or there is one
-pub some_candidate : {o : List ℕ} {i n j compensation minutes d : ℕ} → n ≤ j → Candidate o i n compensation minutes d → d < n → Candidate o i j compensation minutes d
-some_candidate le w l = record { low = w.low; high = omega (arith, le, l); passed = w.passed; found = λ _. w.found l }
+pub no_candidate : {o : List ℕ} {i n j compensation minutes : ℕ} → i ≤ n → n ≤ j → FirstFrom o i n compensation minutes None → Candidate o i j compensation minutes j
+no_candidate from le w = record { low = omega (arith, from, le); high = le_refl _; passed = λ x l _. w x l; found = λ h. absurd (omega arith) }
+
+pub some_candidate : {o : List ℕ} {i n j compensation minutes d : ℕ} → n ≤ j → FirstFrom o i n compensation minutes (Some d) → Candidate o i j compensation minutes d
+some_candidate le w = record { low = w.0; high = omega (arith, w.1, le); passed = w.3; found = λ _. w.2 }
 
 module _ (F : ℕ → List ℕ → Type 0) (minutes compensation : ℕ) (o : List ℕ) where
   abbrev pub Compensated : ℕ → ℕ → Type 0
@@ -141,7 +136,7 @@ module _ (F : ℕ → List ℕ → Type 0) (minutes compensation : ℕ) (o : Lis
 -- ---- a rest
 module _ (c : Course) (lies : Lies c) where
   -- a new reduction stands in the next slot as well as in that of its own rest
-  module _ {j n : ℕ} {o : List ℕ} (h : Slots c j n o) (inside : j < count c) (a : ℕ) where
+  module _ {j n : ℕ} {o : List ℕ} (h : InSlots c j n o) (inside : j < count c) (a : ℕ) where
     used : (x : ℕ) → 0 < at o x → x < n
     used x is_outstanding = go (less_or_not x n)
       where
@@ -151,7 +146,7 @@ module _ (c : Course) (lies : Lies c) where
 
     matched_self : Matched (count c) j o o
     matched_self = record {
-      long = h.sized.outstanding_too;
+      long = h.one_each;
       to = λ x. x;
       below = λ x is_outstanding. omega (arith, used x is_outstanding, h.below);
       to_below = λ x is_outstanding. omega (arith, used x is_outstanding, h.below);
@@ -233,9 +228,9 @@ module _ (c : Course) (lies : Lies c) where
     pub is_overdue : j < count c → Overdue o (at c.ends j) → Completable c (count c - j) j st o → ⊥
     is_overdue l h k = (step_out l k).1 h
 
-    pub pair_broken : {b : Brought} → j < count c → b ≡ advance (rest_week c) (week_of (at c.starts j) - st.week) st → b ≡ Broken
+    pub pair_broken : {b : Option State} → j < count c → b ≡ advance (rest_week c) (week_of (at c.starts j) - st.week) st → b ≡ None
         → Completable c (count c - j) j st o → ⊥
-    pair_broken l e g k = subst (λ (x : Brought). After x (λ here. Tries c (Later c j) j here o)) (sym e ∙ g) (step_out l k).2
+    pair_broken l e g k = subst (λ (x : Option State). After x (λ here. Tries c (Later c j) j here o)) (sym e ∙ g) (step_out l k).2
 
     -- all rests are read
     pub closed : j ≡ count c → Equal (Closes c st o) (Completable c (count c - j) j st o)
@@ -244,11 +239,11 @@ module _ (c : Course) (lies : Lies c) where
         let z : count c - j ≡ zero = omega (arith, e) in
         record { to = λ h. subst (λ (m : ℕ). Completable c m j st o) (sym z) h; from = λ h. subst (λ (m : ℕ). Completable c m j st o) z h }
 
-    pub goes_on : {b : Brought} (here : State) → j < count c → at c.starts j ≤ st.ended + weekly_gap → (Overdue o (at c.ends j) → ⊥)
-        → b ≡ advance (rest_week c) (week_of (at c.starts j) - st.week) st → b ≡ To here → Equal (Tries c (Later c j) j here o) (Completable c (count c - j) j st o)
+    pub goes_on : {b : Option State} (here : State) → j < count c → at c.starts j ≤ st.ended + weekly_gap → (Overdue o (at c.ends j) → ⊥)
+        → b ≡ advance (rest_week c) (week_of (at c.starts j) - st.week) st → b ≡ Some here → Equal (Tries c (Later c j) j here o) (Completable c (count c - j) j st o)
     goes_on here l near deadline e g = record {
-      to = λ t. step_in l (near, deadline, subst (λ (x : Brought). After x (λ y. Tries c (Later c j) j y o)) (sym g ∙ e) t);
-      from = λ k. subst (λ (x : Brought). After x (λ y. Tries c (Later c j) j y o)) (sym e ∙ g) (step_out l k).2;
+      to = λ t. step_in l (near, deadline, subst (λ (x : Option State). After x (λ y. Tries c (Later c j) j y o)) (sym g ∙ e) t);
+      from = λ k. subst (λ (x : Option State). After x (λ y. Tries c (Later c j) j y o)) (sym e ∙ g) (step_out l k).2;
     }
 
   module _ (j : ℕ) (here : State) (o : List ℕ) (compensation : ℕ) where
@@ -264,14 +259,6 @@ module _ (c : Course) (lies : Lies c) where
         go : Reads c (Later c j) j here compensation o → ReadWeekly c (Later c j) j here compensation o
         go (inl d) = regular_by c lies (Later c j) (later_mono c lies j k.within) j here compensation o k fits d
         go (inr w) = w
-
-    -- one that is too short for a weekly rest is daily
-    pub as_short : length_at c j < least_net (Weekly Regular) + compensation → Equal (ReadDaily c (Later c j) j here compensation o) (Reads c (Later c j) j here compensation o)
-    as_short l = record { to = inl; from = go }
-      where
-        go : Reads c (Later c j) j here compensation o → ReadDaily c (Later c j) j here compensation o
-        go (inl d) = d
-        go (inr w) = absurd (omega (arith, w.net))
 
     module _ {b : Bool} {next : State} (e : b ≡ shortens c j compensation) (f : next ≡ after_daily b here) where
       next_daily : next ≡ after_daily (shortens c j compensation) here
@@ -290,7 +277,7 @@ module _ (c : Course) (lies : Lies c) where
         from = λ k. subst (λ (x : State). Later c j x o) (sym next_daily) k.then;
       }
 
-    module _ (w : ℕ) (rest regular : Bool) {b : Brought} {there next : State} (e : b ≡ advance (rest_week c) (w - here.week) here) (g : b ≡ To there)
+    module _ (w : ℕ) (rest regular : Bool) {b : Option State} {there next : State} (e : b ≡ advance (rest_week c) (w - here.week) here) (g : b ≡ Some there)
         (f : next ≡ after_weekly rest regular (at c.ends j) there) where
       pub as_counted : rest ≡ rest_week c w → regular ≡ leb (regular_minutes + compensation) (length_at c j)
           → Equal (Later c j next (set o j (outstanding_of (length_at c j) compensation w))) (Counted c (Later c j) j here w compensation o)
@@ -299,23 +286,20 @@ module _ (c : Course) (lies : Lies c) where
           let q : next ≡ after_weekly (rest_week c w) (leb (regular_minutes + compensation) (length_at c j)) (at c.ends j) there
           = f ∙ ap (λ (x : Bool). after_weekly x regular (at c.ends j) there) u ∙ ap (λ (x : Bool). after_weekly (rest_week c w) x (at c.ends j) there) v in
           record {
-            to = λ k. subst (λ (x : Brought). After x (λ y. Later c j (after_weekly (rest_week c w) (leb (regular_minutes + compensation) (length_at c j)) (at c.ends j) y) left)) (sym g ∙ e)
+            to = λ k. subst (λ (x : Option State). After x (λ y. Later c j (after_weekly (rest_week c w) (leb (regular_minutes + compensation) (length_at c j)) (at c.ends j) y) left)) (sym g ∙ e)
                 (subst (λ (x : State). Later c j x left) q k);
             from = λ k. subst (λ (x : State). Later c j x left) (sym q)
-                (subst (λ (x : Brought). After x (λ y. Later c j (after_weekly (rest_week c w) (leb (regular_minutes + compensation) (length_at c j)) (at c.ends j) y) left)) (sym e ∙ g) k);
+                (subst (λ (x : Option State). After x (λ y. Later c j (after_weekly (rest_week c w) (leb (regular_minutes + compensation) (length_at c j)) (at c.ends j) y) left)) (sym e ∙ g) k);
           }
 
-    pub not_counted : (w : ℕ) {b : Brought} → b ≡ advance (rest_week c) (w - here.week) here → b ≡ Broken → Counted c (Later c j) j here w compensation o → ⊥
+    pub not_counted : (w : ℕ) {b : Option State} → b ≡ advance (rest_week c) (w - here.week) here → b ≡ None → Counted c (Later c j) j here w compensation o → ⊥
     not_counted w e g h =
-        subst (λ (x : Brought). After x (λ y. Later c j (after_weekly (rest_week c w) (leb (regular_minutes + compensation) (length_at c j)) (at c.ends j) y)
+        subst (λ (x : Option State). After x (λ y. Later c j (after_weekly (rest_week c w) (leb (regular_minutes + compensation) (length_at c j)) (at c.ends j) y)
         (set o j (outstanding_of (length_at c j) compensation w))))
         (sym e ∙ g) h
 
 -- ---- the weeks of a rest
 module _ (c : Course) (K : State → List ℕ → Type 0) (j : ℕ) (here : State) (compensation : ℕ) (o : List ℕ) where
-  pub no_week : (v : ℕ) → CountedIn c K j here compensation o v v → ⊥
-  no_week v h = omega (arith, h.low, h.high)
-
   pub one_week : (v w : ℕ) → v ≤ w → Equal (CountedIn c K j here compensation o v w ⊎ Counted c K j here w compensation o) (CountedIn c K j here compensation o v (w + 1))
   one_week v w l = record { to = go; from = λ h. back h (less_or_not h.week w) }
     where

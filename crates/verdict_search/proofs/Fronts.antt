@@ -6,7 +6,9 @@ use mathlib.Core.List.{List}
 use Prim.Native.Nat.{ℕ, zero, suc, ◌+◌, ◌≤◌, ◌<◌}
 use native.Mathlib.Omega.{arith}
 use lib.Dec.{ltb}
-use lib.ListN.{length}
+use lib.ListN.{length, take}
+use lib.Seq.{length-take-le}
+use Rattle.std.proofs.Common.{min}
 use borrow.Author.Tests.{lt-ltb, le-ltb}
 use Rattle.recording.specs.Tests.{one}
 use Rattle.recording.specs.Weeks.{week_of}
@@ -16,11 +18,11 @@ use Rattle.verdict_completion.specs.Completable.{Course, at, count, Tries, Lies}
 use Rattle.verdict_completion.specs.Better.{Within, Matched, Better, AtRest}
 use Rattle.verdict_completion.proofs.Matching.{within_self}
 use Rattle.verdict_completion.proofs.Monotone.{matched_last, tries_by}
-use Rattle.verdict_nogoods.specs.Table.{reductions_at_most, reductions_of, reduction_in, outstanding_count}
-use Rattle.verdict_nogoods.proofs.TableLaws.{outstanding_count-more}
-use Rattle.verdict_fronts.specs.Front.{entry_at, state_in, slot_in, outstanding_in, Dominates, Same, Held, Comes, old, fresh, Remains, there, dominated, Stands, itself, other, Placed, PlacedState}
-use Rattle.verdict_fronts.proofs.FrontLaws.{same_first, same_reduction, same_back, no_slot, a_slot, words_length, words_at, words_out, words_same}
-use Rattle.verdict_search.specs.Search.{Later, Slots}
+use Rattle.verdict_nogoods.specs.Table.{reductions_at_most, reductions_of, reduction_in, reductions_at, outstanding_count, Holds}
+use Rattle.verdict_nogoods.proofs.TableLaws.{slot_low, outstanding_count-more, count_same, holds_of_all, reductions_each, reductions_low, reductions_in_use}
+use Rattle.verdict_fronts.specs.Front.{entry_at, state_in, slot_in, outstanding_in, Dominates, Same, Comes, old, fresh, Remains, there, dominated, Stands, itself, other, Placed, Inserted}
+use Rattle.verdict_fronts.proofs.FrontLaws.{same_state, same_reduction, same_back, no_slot, a_slot, words_length, words_at, words_out, words_same}
+use Rattle.verdict_search.specs.Search.{Later, InSlots}
 use Rattle.verdict_search.proofs.Memory.{later_matched}
 use Rattle.verdict_search.specs.Leading.{Can, Any, Well, Front, Led}
 use Rattle.verdict_search.proofs.Leading.{Equal}
@@ -52,9 +54,6 @@ outstanding_none t p k d few l = outstanding_at t p k d few ∙ no_slot t p d l
 
 -- ---- the same words
 module _ {a b : List ℕ} {p q : ℕ} (s : Same a p b q) where
-  state_same : (w : ℕ) → state_in a p w ≡ state_in b q w
-  state_same w = rw (same_first s, s.word 1 (omega arith), s.word 2 (omega arith), s.word 3 (omega arith), s.word 4 (omega arith), s.word 5 (omega arith)) refl
-
   slot_same : reductions_of a p ≤ reductions_at_most → (d : ℕ) → slot_in a p d ≡ slot_in b q d
   slot_same few d = go (less_or_not d (reductions_of a p))
     where
@@ -73,13 +72,13 @@ module _ (c : Course) (j : ℕ) where
   can_same {a} {b} {p} {q} s few h =
       let w = week_of (at c.starts j) in
       subst (λ (o : List ℕ). Tries c (Later c j) j (state_in b q w) o) (outstanding_same s few (count c))
-      (subst (λ (x : State). Tries c (Later c j) j x (outstanding_in a p (count c))) (state_same s w) h)
+      (subst (λ (x : State). Tries c (Later c j) j x (outstanding_in a p (count c))) (same_state s w) h)
 
   pub well_same : {a b : List ℕ} {p q : ℕ} → Same a p b q → Well c j a p → Well c j b q
   well_same {a} {b} {p} {q} s h = record {
     few = omega (arith, h.few, s.word 6 (omega arith));
     below = omega (arith, h.below, s.word 6 (omega arith));
-    rest = subst (λ (x : State). AtRest c j x) (state_same s (week_of (at c.starts j))) h.rest;
+    rest = subst (λ (x : State). AtRest c j x) (same_state s (week_of (at c.starts j))) h.rest;
   }
 
 -- ---- entries compared
@@ -94,30 +93,42 @@ module _ (c : Course) (lies : Lies c) (j : ℕ) where
     better : Better (state_in a p (week_of (at c.starts j))) (state_in b q (week_of (at c.starts j)))
     better = record {
       week = refl;
-      ended = h.ended;
-      short = h.short;
-      weekly_before = h.weekly_before;
-      regular_before = h.regular_before;
-      weekly = h.weekly;
-      regular = h.regular;
+      ended = h.better.ended;
+      short = h.better.short;
+      weekly_before = h.better.weekly_before;
+      regular_before = h.better.regular_before;
+      weekly = h.better.weekly;
+      regular = h.better.regular;
     }
+
+    -- where a slot has a reduction, its entry has one of that index, and the entry that it is compared with one within which it lies
+    in_use : (d : ℕ) → 0 < at (outstanding_in a p (count c)) d → d < length (reductions_at a p)
+    in_use d l =
+        let m = is_outstanding-below a p (count c) d low_a l in
+        reductions_in_use a p d (omega (arith, x.few, m)) (omega (arith, l, outstanding_is a p (count c) d low_a m))
+
+    to_use : (d : ℕ) → d < length (reductions_at a p) → h.reductions.to d < min (reductions_of b q) reductions_at_most
+    to_use d l = omega (arith, slot_low (reductions_at b q) (h.reductions.to d) (h.reductions.within d l).is_outstanding, reductions_low b q)
 
     matched : Matched (count c) j (outstanding_in a p (count c)) (outstanding_in b q (count c))
     matched = record {
       long = outstanding_length b q (count c);
       to = h.reductions.to;
       below = λ d l. omega (arith, is_outstanding-below a p (count c) d low_a l, x.below);
-      to_below = λ d l. omega (arith, h.reductions.below d (is_outstanding-below a p (count c) d low_a l), y.below);
-      within = λ d l. within d (is_outstanding-below a p (count c) d low_a l);
-      apart = λ d e l m. apart d e (is_outstanding-below a p (count c) d low_a l) (is_outstanding-below a p (count c) e low_a m) (less_or_not d e) (less_or_not e d);
+      to_below = λ d l. omega (arith, to_use d (in_use d l), y.below);
+      within = λ d l. within d (in_use d l);
+      apart = λ d e l m. apart d e (in_use d l) (in_use e m) (less_or_not d e) (less_or_not e d);
     }
       where
-        within : (d : ℕ) → d < reductions_of a p → Within (at (outstanding_in a p (count c)) d) (at (outstanding_in b q (count c)) (h.reductions.to d))
+        within : (d : ℕ) → d < length (reductions_at a p) → Within (at (outstanding_in a p (count c)) d) (at (outstanding_in b q (count c)) (h.reductions.to d))
         within d l =
-            subst (λ (v : ℕ). Within v (at (outstanding_in b q (count c)) (h.reductions.to d))) (sym (outstanding_is a p (count c) d low_a l))
-            (subst (λ (v : ℕ). Within (reduction_in a p d) v) (sym (outstanding_is b q (count c) (h.reductions.to d) low_b (h.reductions.below d l))) (h.reductions.within d l))
+            let n : d < min (reductions_of a p) reductions_at_most = omega (arith, l, reductions_low a p) in
+            let m = to_use d l in
+            subst (λ (v : ℕ). Within v (at (outstanding_in b q (count c)) (h.reductions.to d))) (reductions_each a p d n ∙ sym (outstanding_is a p (count c) d low_a (omega arith)))
+            (subst (λ (v : ℕ). Within (at (reductions_at a p) d) v)
+            (reductions_each b q (h.reductions.to d) m ∙ sym (outstanding_is b q (count c) (h.reductions.to d) low_b (omega (arith, m)))) (h.reductions.within d l))
 
-        apart : (d e : ℕ) → d < reductions_of a p → e < reductions_of a p → (d < e) ⊎ (e ≤ d) → (e < d) ⊎ (d ≤ e) → h.reductions.to d ≡ h.reductions.to e → d ≡ e
+        apart : (d e : ℕ) → d < length (reductions_at a p) → e < length (reductions_at a p) → (d < e) ⊎ (e ≤ d) → (e < d) ⊎ (d ≤ e) → h.reductions.to d ≡ h.reductions.to e → d ≡ e
         apart d e l m (inl f) g q = absurd (omega (arith, h.reductions.rises d e f m))
         apart d e l m (inr f) (inl g) q = absurd (omega (arith, h.reductions.rises e d g l))
         apart d e l m (inr f) (inr g) q = omega arith
@@ -128,38 +139,35 @@ module _ (c : Course) (lies : Lies c) (j : ℕ) where
         tries_by c (matched_last c) (Later c j) j x.rest.within (later_matched c lies j x.rest.within) better (outstanding_in a p (count c)) (outstanding_in b q (count c)) matched k
 
   -- ---- a put
-  module _ {t t' new : List ℕ} {n n' : ℕ} {fits : Bool} (h : Placed t t' new n n' fits) (front : Front c j t n) (well : fits ≡ true → Well c j new 0) where
+  module _ {t t' new : List ℕ} {n n' : ℕ} (h : Placed t t' new n n') (front : Front c j t n) (well : Well c j new 0) where
     pub front_on : Front c j t' n'
     front_on = record { room = h.room; each = λ e l. go e (h.from e l) }
       where
-        go : (e : ℕ) → Comes t t' new n fits e → Well c j t' (entry_at e)
+        go : (e : ℕ) → Comes t t' new n e → Well c j t' (entry_at e)
         go e (old f) = well_same c j (same_back f.same) (front.each f.entry f.below)
-        go e (fresh y s) = well_same c j (same_back s) (well y)
+        go e (fresh s) = well_same c j (same_back s) well
 
-    -- the entry x of t' can do what another can that it is at least as good as, or that has the same words
-    pub kept_in : (fits ≡ true → Can c j new 0 → Any c j t' n') → Any c j t n → Any c j t' n'
-    kept_in f a = go (h.to a.entry a.below)
-      where
-        go : Remains t t' new n' fits a.entry → Any c j t' n'
-        go (there x l s) = record { entry = x; below = l; can = can_same c j (same_back s) (front.each a.entry a.below).few a.can }
-        go (dominated y s) = f y (can_by (well y) (front.each a.entry a.below) s a.can)
-
-    pub new_in : fits ≡ true → Can c j new 0 → Any c j t' n'
-    new_in y k = go (h.found y)
+    pub new_in : Can c j new 0 → Any c j t' n'
+    new_in k = go h.found
       where
         go : Stands t' new n' → Any c j t' n'
-        go (itself x l s) = record { entry = x; below = l; can = can_same c j (same_back s) (well y).few k }
-        go (other b) = record { entry = b.entry; below = b.below; can = can_by (front_on.each b.entry b.below) (well y) b.dominates k }
+        go (itself x l s) = record { entry = x; below = l; can = can_same c j (same_back s) well.few k }
+        go (other b) = record { entry = b.entry; below = b.below; can = can_by (front_on.each b.entry b.below) well b.dominates k }
 
+    -- the entry x of t' can do what another can that it is at least as good as, or that has the same words
     pub all_in : Any c j t n → Any c j t' n'
-    all_in = kept_in new_in
+    all_in a = go (h.to a.entry a.below)
+      where
+        go : Remains t t' new n' a.entry → Any c j t' n'
+        go (there x l s) = record { entry = x; below = l; can = can_same c j (same_back s) (front.each a.entry a.below).few a.can }
+        go (dominated s) = new_in (can_by well (front.each a.entry a.below) s a.can)
 
-    pub all_out : Any c j t' n' → Any c j t n ⊎ ((fits ≡ true) × Can c j new 0)
+    pub all_out : Any c j t' n' → Any c j t n ⊎ Can c j new 0
     all_out a = go (h.from a.entry a.below)
       where
-        go : Comes t t' new n fits a.entry → Any c j t n ⊎ ((fits ≡ true) × Can c j new 0)
+        go : Comes t t' new n a.entry → Any c j t n ⊎ Can c j new 0
         go (old f) = inl (record { entry = f.entry; below = f.below; can = can_same c j f.same (front_on.each a.entry a.below).few a.can })
-        go (fresh y s) = inr (y, can_same c j s (front_on.each a.entry a.below).few a.can)
+        go (fresh s) = inr (can_same c j s (front_on.each a.entry a.below).few a.can)
 
 -- ---- a state held by an entry
 -- under which slot the reduction of index d stands
@@ -180,7 +188,14 @@ slot_of outstanding (suc n) d l = go (less_or_not d (outstanding_count outstandi
     go (inr m) (inl f) h = record { slot = n; below = omega arith; is_outstanding = f; index = omega (arith, ap one (lt-ltb 0 (at outstanding n) f)) }
     go (inr m) (inr f) h = absurd (omega (arith, ap one (le-ltb 0 (at outstanding n) f)))
 
-module _ (c : Course) (lies : Lies c) (j m : ℕ) (outstanding new : List ℕ) (st : State) (slots : Slots c j m outstanding) (rest : AtRest c j st) (h : Held new 0 st outstanding m) where
+module _ (c : Course) (lies : Lies c) (j m : ℕ) (outstanding new : List ℕ) (st : State) (slots : InSlots c j m outstanding) (rest : AtRest c j st) (h : Holds new 0 st (take m outstanding)) where
+  held_count : reductions_of new 0 ≡ outstanding_count outstanding m
+  held_count = h.count ∙ count_same outstanding m slots.unused (length (take m outstanding))
+      ∙ ap (outstanding_count outstanding) (length-take-le m outstanding (omega (arith, slots.below, rest.within, slots.one_each)))
+
+  held_reduction : (i : ℕ) → 0 < at outstanding i → reduction_in new 0 (outstanding_count outstanding i) ≡ at outstanding i
+  held_reduction = (holds_of_all outstanding m slots.unused h).reduction
+
   in_first : (x : ℕ) → 0 < at outstanding x → x < m
   in_first x is_outstanding = go (less_or_not x m)
     where
@@ -198,7 +213,7 @@ module _ (c : Course) (lies : Lies c) (j m : ℕ) (outstanding new : List ℕ) (
       one_low false = omega arith
 
   low : reductions_of new 0 ≤ j
-  low = omega (arith, h.count, outstanding_count-most m, slots.below)
+  low = omega (arith, held_count, outstanding_count-most m, slots.below)
 
   few : reductions_of new 0 ≤ count c
   few = omega (arith, low, rest.within)
@@ -218,12 +233,12 @@ module _ (c : Course) (lies : Lies c) (j m : ℕ) (outstanding new : List ℕ) (
 
   the_slot : (d : ℕ) → d < reductions_of new 0 → (slot_from d < m) × (0 < at outstanding (slot_from d)) × (outstanding_count outstanding (slot_from d) ≡ d)
   unfolding slot_from
-  the_slot d l = is_slot d (omega (arith, h.count)) (less_or_not d (outstanding_count outstanding m))
+  the_slot d l = is_slot d (omega (arith, held_count)) (less_or_not d (outstanding_count outstanding m))
 
   same_slot : (d : ℕ) → d < reductions_of new 0 → at (outstanding_in new 0 (count c)) d ≡ at outstanding (slot_from d)
   same_slot d l =
       let s = the_slot d l in
-      outstanding_is new 0 (count c) d few l ∙ ap (reduction_in new 0) (sym s.2) ∙ h.reduction (slot_from d) s.0 s.1
+      outstanding_is new 0 (count c) d few l ∙ ap (reduction_in new 0) (sym s.2) ∙ held_reduction (slot_from d) s.1
 
   one_slot : (x y : ℕ) → 0 < at outstanding x → 0 < at outstanding y → outstanding_count outstanding x ≡ outstanding_count outstanding y → (x < y) ⊎ (y ≤ x) → (y < x) ⊎ (x ≤ y) → x ≡ y
   one_slot x y p q e (inl l) _ = absurd (omega (arith, outstanding_count-more outstanding x y l p))
@@ -231,12 +246,12 @@ module _ (c : Course) (lies : Lies c) (j m : ℕ) (outstanding new : List ℕ) (
   one_slot x y p q e (inr l) (inr f) = omega arith
 
   index_low : (x : ℕ) → 0 < at outstanding x → outstanding_count outstanding x < reductions_of new 0
-  index_low x l = omega (arith, h.count, outstanding_count-more outstanding x m (in_first x l) l)
+  index_low x l = omega (arith, held_count, outstanding_count-more outstanding x m (in_first x l) l)
 
   -- the reductions of the entry lie within those of the slots, and the other way round
   entry_matched : Matched (count c) j (outstanding_in new 0 (count c)) outstanding
   entry_matched = record {
-    long = slots.sized.outstanding_too;
+    long = slots.one_each;
     to = slot_from;
     below = λ d l. omega (arith, is_outstanding-below new 0 (count c) d few l, low);
     to_below = λ d l. omega (arith, (the_slot d (is_outstanding-below new 0 (count c) d few l)).0, slots.below);
@@ -258,7 +273,7 @@ module _ (c : Course) (lies : Lies c) (j m : ℕ) (outstanding new : List ℕ) (
   }
     where
       moved : (x : ℕ) → 0 < at outstanding x → at (outstanding_in new 0 (count c)) (outstanding_count outstanding x) ≡ at outstanding x
-      moved x l = outstanding_is new 0 (count c) (outstanding_count outstanding x) few (index_low x l) ∙ h.reduction x (in_first x l) l
+      moved x l = outstanding_is new 0 (count c) (outstanding_count outstanding x) few (index_low x l) ∙ held_reduction x l
 
   pub held_well : Well c j new 0
   held_well = record {
@@ -306,41 +321,31 @@ module _ (c : Course) (lies : Lies c) (j m : ℕ) (outstanding new : List ℕ) (
   }
 
 -- ---- a state put into a front
-module _ (c : Course) (lies : Lies c) (j m : ℕ) {outstanding t t' : List ℕ} {st : State} {n n' : ℕ} {fits : Bool} (slots : Slots c j m outstanding) (rest : AtRest c j st)
-    (front : Front c j t n) (h : PlacedState t t' outstanding m st n n' fits) where
-  new_well : fits ≡ true → Well c j h.new 0
-  new_well y = held_well c lies j m outstanding h.new st slots rest (h.held y)
+module _ (c : Course) (lies : Lies c) (j m : ℕ) {outstanding t t' : List ℕ} {st : State} {n n' : ℕ} (slots : InSlots c j m outstanding) (rest : AtRest c j st)
+    (front : Front c j t n) (h : Inserted t t' (take m outstanding) st n n') where
+  new_well : Well c j h.new 0
+  new_well = held_well c lies j m outstanding h.new st slots rest h.held
 
-  new_can : fits ≡ true → Equal (Tries c (Later c j) j st outstanding) (Can c j h.new 0)
-  new_can y = held_can c lies j m outstanding h.new st slots rest (h.held y)
+  new_can : Equal (Tries c (Later c j) j st outstanding) (Can c j h.new 0)
+  new_can = held_can c lies j m outstanding h.new st slots rest h.held
 
-  pub placed_front : Front c j t' n'
-  placed_front = front_on c lies j h.placed front new_well
+  pub inserted_front : Front c j t' n'
+  inserted_front = front_on c lies j h.placed front new_well
 
-  pub placed_led : {S : Type 0} → fits ≡ true → S → Led (Tries c (Later c j) j st outstanding) (Any c j t n) (Any c j t' n') false outstanding outstanding S (Front c j t' n')
-  placed_led y s = record {
+  pub inserted_led : {S : Type 0} → S → Led (Tries c (Later c j) j st outstanding) (Any c j t n) (Any c j t' n') false outstanding outstanding S (Front c j t' n')
+  inserted_led s = record {
     yes = λ e. absurd (false≢true e);
     keeps = λ _. all_in c lies j h.placed front new_well;
-    leads = λ _ p. new_in c lies j h.placed front new_well y ((new_can y).to p);
+    leads = λ _ p. new_in c lies j h.placed front new_well (new_can.to p);
     from = λ _ a. go (all_out c lies j h.placed front new_well a);
     same = refl;
     sound = s;
-    well = placed_front;
+    well = inserted_front;
   }
     where
-      go : Any c j t n ⊎ ((fits ≡ true) × Can c j h.new 0) → Any c j t n ⊎ Tries c (Later c j) j st outstanding
+      go : Any c j t n ⊎ Can c j h.new 0 → Any c j t n ⊎ Tries c (Later c j) j st outstanding
       go (inl a) = inl a
-      go (inr q) = inr ((new_can y).from q.1)
-
-  pub not_placed : fits ≡ false → Equal (Any c j t n) (Any c j t' n')
-  not_placed y = record { to = all_in c lies j h.placed front new_well; from = λ a. go (all_out c lies j h.placed front new_well a) }
-    where
-      go : Any c j t n ⊎ ((fits ≡ true) × Can c j h.new 0) → Any c j t n
-      go (inl a) = a
-      go (inr q) = absurd (false≢true (sym y ∙ q.0))
-
-pub equal_at : (P : ℕ → Type 0) {a b : ℕ} → a ≡ b → Equal (P a) (P b)
-equal_at P e = record { to = λ h. subst P e h; from = λ h. subst P (sym e) h }
+      go (inr q) = inr (new_can.from q)
 
 -- a front with no room has no entry
 pub no_room : (c : Course) (j : ℕ) {t : List ℕ} {n : ℕ} → length t ≡ 0 → Front c j t n → Any c j t n → ⊥

@@ -22,9 +22,6 @@ equal f g = record { to = f; from = g }
 pub equal_then : {P Q R : Type 0} → Equal P Q → Equal Q R → Equal P R
 equal_then f g = record { to = λ p. g.to (f.to p); from = λ r. f.from (g.from r) }
 
-pub equal_back : {P Q : Type 0} → Equal P Q → Equal Q P
-equal_back f = record { to = f.from; from = f.to }
-
 pub equal_self : {A : Type 0} → Equal A A
 equal_self = record { to = λ a. a; from = λ a. a }
 

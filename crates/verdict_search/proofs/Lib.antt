@@ -3,3 +3,4 @@ pub mod Memory
 pub mod Slots
 pub mod Fronts
 pub mod Chain
+pub mod Used

@@ -1,46 +1,68 @@
 -- Laws of the nogoods: what is remembered stays sound, and an emptied memory is. Assumes nothing.
-use mathlib.Core.Path.{◌≡◌, sym, ap, subst, ◌∙◌}
+use mathlib.Core.Path.{◌≡◌, refl, sym, ap, subst, ◌∙◌}
 use mathlib.Core.Logic.{◌⊎◌, inl, inr}
 use mathlib.Core.List.{List}
 use Prim.Native.Nat.{ℕ, suc, ◌+◌, ◌-◌, ◌≤◌, ◌<◌}
 use native.Mathlib.Omega.{arith}
-use lib.ListN.{length}
+use lib.ListN.{length, drop, length-drop}
+use Rattle.std.proofs.Common.{min}
+use Rattle.std.proofs.lemmas.List.{length-take}
 use Rattle.recording.specs.Weeks.{week_of}
 use Rattle.recording.proofs.TestLaws.{less_or_not}
 use Rattle.verdict_completion.specs.declared.State.{State}
 use Rattle.verdict_completion.specs.Completable.{Course, at, count, Tries, Lies}
 use Rattle.verdict_completion.specs.Better.{Within, Matched, Better}
 use Rattle.verdict_completion.proofs.Monotone.{Mono, MonoBy, matched_last, completable_by, completable_mono, tries_by}
-use Rattle.verdict_nogoods.specs.Table.{reductions_at_most, level_at, entry_at, reductions_of, reduction_place, InUse, Dominates, Holds, SameEntry, Entry, old, new, Remembered, Empty}
+use Rattle.verdict_nogoods.specs.Table.{reductions_at_most, level_at, entry_at, reductions_of, reduction_place, state_in, reductions_at, outstanding_count}
+use Rattle.verdict_nogoods.specs.Table.{InUse, Dominates, Holds, SameEntry, Entry, old, new, Remembered, Empty}
+use Rattle.verdict_nogoods.proofs.TableLaws.{slot_low, outstanding_count-more, reductions_each, reductions_low, reductions_in_use}
 use Rattle.verdict_search.specs.Search.{Later, Sound}
 
 -- ---- a state that is remembered
-dominates_back : (t t' : List ℕ) (p : ℕ) (st : State) (o : List ℕ) → SameEntry t t' p → reductions_of t p ≤ reductions_at_most → Dominates t' p st o → Dominates t p st o
-dominates_back t t' p st o s few h =
+-- what an entry says depends on its words alone
+state_same : (t t' : List ℕ) (p w : ℕ) → SameEntry t t' p → state_in t' p w ≡ state_in t p w
+state_same t t' p w s = rw (
+  s p (omega arith) (omega arith),
+  s (p + 1) (omega arith) (omega arith),
+  s (p + 2) (omega arith) (omega arith),
+  s (p + 3) (omega arith) (omega arith),
+  s (p + 4) (omega arith) (omega arith),
+  s (p + 5) (omega arith) (omega arith),
+) refl
+
+dominates_back : (t t' : List ℕ) (p : ℕ) (st : State) (o : List ℕ) → SameEntry t t' p → length t' ≡ length t → Dominates t' p st o → Dominates t p st o
+dominates_back t t' p st o s size h =
     let n = s (p + 6) (omega arith) (omega arith) in
+    let long : length (reductions_at t' p) ≡ length (reductions_at t p) =
+    omega (
+      arith,
+      n,
+      length-take (min (reductions_of t p) reductions_at_most) (drop (p + 7) t),
+      length-take (min (reductions_of t' p) reductions_at_most) (drop (p + 7) t'),
+      length-drop {A = ℕ} (p + 7) t,
+      length-drop {A = ℕ} (p + 7) t',
+    ) in
     record {
-      ended = omega (arith, h.ended, s p (omega arith) (omega arith));
-      short = omega (arith, h.short, s (p + 1) (omega arith) (omega arith));
-      weekly_before = omega (arith, h.weekly_before, s (p + 2) (omega arith) (omega arith));
-      regular_before = omega (arith, h.regular_before, s (p + 3) (omega arith) (omega arith));
-      weekly = omega (arith, h.weekly, s (p + 4) (omega arith) (omega arith));
-      regular = omega (arith, h.regular, s (p + 5) (omega arith) (omega arith));
+      better = subst (λ (x : State). Better x st) (state_same t t' p st.week s) h.better;
       reductions = record {
         to = h.reductions.to;
-        within = λ d l. subst (λ (x : ℕ). Within x (at o (h.reductions.to d))) (s (reduction_place p d) (omega arith) (omega arith)) (h.reductions.within d (omega (arith, n)));
-        rises = λ d e l m. h.reductions.rises d e l (omega (arith, n));
+        within = λ d l. subst (λ (x : ℕ). Within x (at o (h.reductions.to d))) (each d (omega (arith, reductions_low t p)) n) (h.reductions.within d (omega (arith, long)));
+        rises = λ d e l m. h.reductions.rises d e l (omega (arith, long));
       };
     }
+  where
+    each : (d : ℕ) → d < min (reductions_of t p) reductions_at_most → reductions_of t' p ≡ reductions_of t p → at (reductions_at t' p) d ≡ at (reductions_at t p) d
+    each d l n = reductions_each t' p d (omega (arith, n)) ∙ s (reduction_place p d) (omega arith) (omega arith) ∙ sym (reductions_each t p d l)
 
 held_better : (t : List ℕ) (p : ℕ) (x y : State) (o q : List ℕ) → x.week ≡ y.week → Holds t p x o → Dominates t p y q → Better x y
 held_better t p x y o q w h k = record {
   week = w;
-  ended = omega (arith, h.ended, k.ended);
-  short = omega (arith, h.short, k.short);
-  weekly_before = omega (arith, h.weekly_before, k.weekly_before);
-  regular_before = omega (arith, h.regular_before, k.regular_before);
-  weekly = omega (arith, h.weekly, k.weekly);
-  regular = omega (arith, h.regular, k.regular);
+  ended = omega (arith, h.ended, k.better.ended);
+  short = omega (arith, h.short, k.better.short);
+  weekly_before = omega (arith, h.weekly_before, k.better.weekly_before);
+  regular_before = omega (arith, h.regular_before, k.better.regular_before);
+  weekly = omega (arith, h.weekly, k.better.weekly);
+  regular = omega (arith, h.regular, k.better.regular);
 }
 
 -- the reductions of a stored state lie within those of one that it is at least as good as
@@ -55,8 +77,11 @@ held_matched k j t p x y o q long ends ends' h b = record {
   apart = λ i m l l' e. same i m l l' e (less_or_not i m) (less_or_not m i);
 }
   where
+    in_use : (i : ℕ) → 0 < at o i → outstanding_count o i < length (reductions_at t p)
+    in_use i l = reductions_in_use t p (outstanding_count o i) (omega (arith, h.count, h.few, outstanding_count-more o i (length o) (slot_low o i l) l)) (omega (arith, l, h.reduction i l))
+
     to : ℕ → ℕ
-    to i = b.reductions.to (h.reductions.place i)
+    to i = b.reductions.to (outstanding_count o i)
 
     before : (l : List ℕ) → ((i : ℕ) → j ≤ i → at l i ≡ 0) → (i : ℕ) → 0 < at l i → i < j
     before l z i is_outstanding = go (less_or_not i j)
@@ -66,10 +91,11 @@ held_matched k j t p x y o q long ends ends' h b = record {
         go (inr f) = absurd (omega (arith, is_outstanding, z i f))
 
     within : (i : ℕ) → 0 < at o i → Within (at o i) (at q (to i))
-    within i l = subst (λ (v : ℕ). Within v (at q (to i))) (h.reductions.reduction i l) (b.reductions.within (h.reductions.place i) (h.reductions.below i l))
+    within i l = subst (λ (v : ℕ). Within v (at q (to i)))
+        (reductions_each t p (outstanding_count o i) (omega (arith, in_use i l, reductions_low t p)) ∙ h.reduction i l) (b.reductions.within (outstanding_count o i) (in_use i l))
 
     rising : (i m : ℕ) → i < m → 0 < at o i → 0 < at o m → to i < to m
-    rising i m f l l' = b.reductions.rises (h.reductions.place i) (h.reductions.place m) (h.reductions.rises i m f l l') (h.reductions.below m l')
+    rising i m f l l' = b.reductions.rises (outstanding_count o i) (outstanding_count o m) (outstanding_count-more o i m f l) (in_use m l')
 
     same : (i m : ℕ) → 0 < at o i → 0 < at o m → to i ≡ to m → (i < m) ⊎ (m ≤ i) → (m < i) ⊎ (i ≤ m) → i ≡ m
     same i m l l' e (inl f) g = absurd (omega (arith, rising i m f l l', e))
@@ -94,7 +120,7 @@ module _ (c : Course) (lies : Lies c) where
     closed_on : (i e : ℕ) (st : State) (p : List ℕ) → i < count c → st.week ≡ week_of (at c.starts i) → length p ≡ count c → ((x : ℕ) → i ≤ x → at p x ≡ 0) → Entry t t' j here o i e
         → Dominates t' (entry_at i e) st p → Tries c (Later c i) i st p → ⊥
     closed_on i e st p l w len z (old u s) b h =
-        sound.closed i st p l w len z (record { entry = e; used = u; dominates = dominates_back t t' (entry_at i e) st p s (sound.few i e l u) b }) h
+        sound.closed i st p l w len z (record { entry = e; used = u; dominates = dominates_back t t' (entry_at i e) st p s kept.size b }) h
     closed_on i e st p l w len z (new q k) b h =
         nay (tries_by c (matched_last c) (Later c j) j within (later_matched j within)
         (held_better t' (entry_at i e) here st o p (week ∙ ap (λ (x : ℕ). week_of (at c.starts x)) (sym q) ∙ sym w) k b) o p

@@ -6,23 +6,20 @@ use mathlib.Core.List.{List}
 use Prim.Native.Nat.{ℕ, suc, ◌+◌, ◌-◌, ◌≤◌, ◌<◌, zero-le}
 use native.Mathlib.Nat.{le_refl}
 use native.Mathlib.Omega.{arith}
-use lib.ListN.{length, set, length-set}
-use lib.Seq.{get_or-set_other}
+use lib.ListN.{length}
 use Rattle.recording.specs.Operations.{total_at_most}
 use Rattle.recording.specs.Weeks.{week_start, week_of}
 use Rattle.recording.proofs.TestLaws.{one_most, less_or_not}
 use Rattle.rules.specs.ReadingRules.{shortened_at_most}
 use Rattle.verdict_completion.specs.declared.State.{State}
-use Rattle.verdict_completion.specs.declared.Brought.{Brought}
-use Rattle.verdict_completion.specs.declared.Brought.TheVariants.{To}
+use Rattle.std.specs.Prelude.{Option, Some}
 use Rattle.verdict_completion.specs.States.{start_state, advance, After, after_daily, after_weekly}
 use Rattle.verdict_completion.specs.Completable.{Course, at, count, rest_week, Lies, Stands}
 use Rattle.verdict_completion.specs.Better.{Small, AtRest}
 use Rattle.verdict_completion.proofs.Monotone.{Carried, advanced, counted_week, daily_stands, daily_small, weekly_stands, weekly_small}
-use Rattle.verdict_steps.specs.Steps.{Ordered}
-use Rattle.verdict_steps.proofs.NearRests.{in_order}
-use Rattle.verdict_search.specs.Search.{Sound, Sized, Slots, Lent, Before}
-use Rattle.verdict_search.specs.Leading.{Front, Given}
+use Rattle.verdict_search.specs.Search.{InUse, InSlots, Free, Before}
+use Rattle.verdict_search.specs.Leading.{Front, Given, SameLent, Kept}
+use Rattle.verdict_search.specs.declared.Search.{Search}
 
 -- what holds below d and at d holds below d + 1
 pub one_more : (P : ℕ → Type 0) (d x : ℕ) → x < d + 1 → P d → (x < d → P x) → P x
@@ -33,10 +30,10 @@ one_more P d x l at-d below = go (less_or_not x d)
     go (inr h) = let e : d ≡ x = omega arith in subst P e at-d
 
 -- ---- weeks
-pub brought : (rest : ℕ → Bool) (n : ℕ) {st here : State} {b : Brought} → Small st → b ≡ advance rest n st → b ≡ To here → Carried rest n st here
+pub brought : (rest : ℕ → Bool) (n : ℕ) {st here : State} {b : Option State} → Small st → b ≡ advance rest n st → b ≡ Some here → Carried rest n st here
 brought rest n {st} {here} {b} small e g =
-    subst (λ (x : Brought). After x (Carried rest n st)) (sym e ∙ g)
-    (advanced rest (Carried rest n st) (λ _. Unit) n small (λ there k _. k) (subst (λ (x : Brought). After x (λ _. Unit)) (sym g ∙ e) tt))
+    subst (λ (x : Option State). After x (Carried rest n st)) (sym e ∙ g)
+    (advanced rest (Carried rest n st) (λ _. Unit) n small (λ there k _. k) (subst (λ (x : Option State). After x (λ _. Unit)) (sym g ∙ e) tt))
 
 -- an empty front
 pub front_none : (c : Course) (j : ℕ) (t : List ℕ) → Front c j t 0
@@ -44,36 +41,11 @@ front_none c j t = record { room = zero-le; each = λ e l. absurd (omega arith) 
 
 -- ---- a rest
 module _ (c : Course) (lies : Lies c) where
-  -- the slots as they were
-  pub relent : {j n : ℕ} {o o' : List ℕ} → Slots c j n o → o' ≡ o → Slots c j n o'
-  relent {j} {n} h e = subst (Slots c j n) (sym e) h
+  slots_of : {j n : ℕ} {o : List ℕ} (i m : ℕ) (p : List ℕ) → InSlots c j n o → length p ≡ length o → m ≤ i → ((x : ℕ) → m ≤ x → at p x ≡ 0) → InSlots c i m p
+  slots_of i m p h e le z = record { one_each = e ∙ h.one_each; below = le; unused = z }
 
-  -- other slots in use
-  pub sized_too : {o p : List ℕ} → Sized c o → length p ≡ length o → Sized c p
-  sized_too h e = record {
-    lies = h.lies;
-    compensations_too = h.compensations_too;
-    outstanding_too = e ∙ h.outstanding_too;
-    few = h.few;
-    judged = h.judged;
-    compensations_low = h.compensations_low;
-  }
-
-  slots_of : {j n : ℕ} {o : List ℕ} (i m : ℕ) (p : List ℕ) → Slots c j n o → length p ≡ length o → m ≤ i → ((x : ℕ) → m ≤ x → at p x ≡ 0) → Slots c i m p
-  slots_of i m p h e le z = record { sized = sized_too h.sized e; below = le; unused = z }
-
-  pub slots_on : {j n : ℕ} {o : List ℕ} → Slots c j n o → Slots c (j + 1) n o
-  slots_on {j} {n} {o} h = slots_of (j + 1) n o h refl (omega (arith, h.below)) h.unused
-
-  pub slots_none : {o : List ℕ} (j : ℕ) → Lent c o → Slots c j 0 o
+  pub slots_none : {o : List ℕ} (j : ℕ) → Free c o → InSlots c j 0 o
   slots_none {o} j h = slots_of j 0 o h refl zero-le h.unused
-
-  pub slot-added_to : {j n : ℕ} {o : List ℕ} (d : ℕ) → d < n → Slots c j n o → Slots c j n (set o d 0)
-  slot-added_to {j} {n} {o} d l h = slots_of j n (set o d 0) h (length-set o d 0) h.below (λ x f. get_or-set_other o d x 0 0 (λ e. omega arith) ∙ h.unused x f)
-
-  pub slot_put : {j n : ℕ} {o : List ℕ} (a : ℕ) → Slots c j n o → Slots c (j + 1) (n + 1) (set o n a)
-  slot_put {j} {n} {o} a h =
-      slots_of (j + 1) (n + 1) (set o n a) h (length-set o n a) (omega (arith, h.below)) (λ x f. get_or-set_other o n x a 0 (λ e. omega arith) ∙ h.unused x (omega arith))
 
   pub starts_low : (j : ℕ) → j < count c → at c.starts j ≤ c.judged
   starts_low j l = omega (arith, lies.proper j l, lies.judged j l)
@@ -91,15 +63,15 @@ module _ (c : Course) (lies : Lies c) where
 
   -- what an advance asks, to the week in which a rest starts and to one in which it is counted
   pub to_start : (j : ℕ) (st : State) → c.judged ≤ total_at_most → j < count c → Before c j st
-      → Ordered c.starts c.ends × (j ≤ count c) × (week_of (at c.starts j) < 255) × Small st × (0 < j → week_of (at c.starts (j - 1)) ≤ st.week)
+      → (j ≤ count c) × (week_of (at c.starts j) < 255) × Small st × (0 < j → week_of (at c.starts (j - 1)) ≤ st.week)
       × (j < count c → week_of (at c.starts j) ≤ week_of (at c.starts j))
-  to_start j st low l b = (in_order c lies, omega arith, omega (arith, starts_low j l), b.small, b.reached, λ _. le_refl _)
+  to_start j st low l b = (omega arith, omega (arith, starts_low j l), b.small, b.reached, λ _. le_refl _)
 
   pub to_counted : (j w : ℕ) (here : State) → c.judged ≤ total_at_most → AtRest c j here → week_start w < at c.ends j
-      → Ordered c.starts c.ends × (j + 1 ≤ count c) × (w < 255) × Small here × (0 < j + 1 → week_of (at c.starts (j + 1 - 1)) ≤ here.week)
+      → (j + 1 ≤ count c) × (w < 255) × Small here × (0 < j + 1 → week_of (at c.starts (j + 1 - 1)) ≤ here.week)
       × (j + 1 < count c → w ≤ week_of (at c.starts (j + 1)))
   to_counted j w here low a l =
-      (in_order c lies, omega (arith, a.within), omega (arith, l, lies.judged j a.within), a.small, λ _. reached_at j (omega (arith, a.week)), week_by_next j w l)
+      (omega (arith, a.within), omega (arith, l, lies.judged j a.within), a.small, λ _. reached_at j (omega (arith, a.week)), week_by_next j w l)
 
   next_stands : (j : ℕ) {st : State} → Stands c (suc j) st → Stands c (j + 1) st
   next_stands j {st} h = let e : suc j ≡ j + 1 = omega arith in subst (λ (i : ℕ). Stands c i st) e h
@@ -116,7 +88,7 @@ module _ (c : Course) (lies : Lies c) where
           reached = λ _. reached_at j (omega (arith, k.week));
         })
 
-  module _ (j w : ℕ) (here : State) (rest regular : Bool) {b : Brought} {there next : State} (e : b ≡ advance (rest_week c) (w - here.week) here) (g : b ≡ To there)
+  module _ (j w : ℕ) (here : State) (rest regular : Bool) {b : Option State} {there next : State} (e : b ≡ advance (rest_week c) (w - here.week) here) (g : b ≡ Some there)
       (f : next ≡ after_weekly rest regular (at c.ends j) there) where
     pub before_weekly : AtRest c j here → at c.starts j < week_start (w + 1) → week_start w < at c.ends j → Before c (j + 1) next
     before_weekly k from upto =
@@ -145,6 +117,23 @@ module _ (c : Course) (lies : Lies c) where
   pub before_start : {st : State} (b : Bool) → st ≡ start_state b → Before c 0 st
   before_start {st} b e = subst (Before c 0) (sym e) (record { within = zero-le; stands = start_stands b; small = start_small b; ended = zero-le; reached = λ l. absurd (omega arith) })
 
--- what a step is lent
-pub given : {c : Course} {j m i n : ℕ} {outstanding nogoods front : List ℕ} → Slots c j m outstanding → Sound c nogoods → Front c i front n → Given c j m outstanding nogoods i front n
-given slots sound well = record { slots = slots; sound = sound; well = well }
+-- what a step is lent: before a later rest, and after a question that was led on
+pub given_on : {c : Course} {j i : ℕ} {search : Search} → Given c j i search → Given c (j + 1) i search
+given_on {c} {j} {i} {search} g = record {
+  slots = record { one_each = g.slots.one_each; below = omega (arith, g.slots.below); unused = g.slots.unused };
+  sound = g.sound;
+  well = g.well;
+}
+
+pub lent_self : {a : Search} → SameLent a a
+lent_self = record { slots = refl; nogoods = refl; next = refl; many = refl; room = refl }
+
+pub lent_on : {a b d : Search} → SameLent a b → SameLent b d → SameLent a d
+lent_on f g = record { slots = g.slots ∙ f.slots; nogoods = g.nogoods ∙ f.nogoods; next = g.next ∙ f.next; many = g.many ∙ f.many; room = g.room ∙ f.room }
+
+pub kept_on : {a b d : Search} → Kept a b → Kept b d → Kept a d
+kept_on f g = record { lent = lent_on f.lent g.lent; used = g.used ∙ f.used }
+
+-- the slots in use
+pub in_use : {c : Course} {j n : ℕ} {o : List ℕ} → j ≤ count c → InSlots c j n o → InUse n o
+in_use l h = record { in_range = omega (arith, l, h.below, h.one_each); unused = h.unused }

@@ -12,8 +12,8 @@ use Rattle.verdict_completion.specs.Completable.{Course, at, count, length_at, C
 use Rattle.verdict_completion.specs.Better.{AtRest}
 use Rattle.verdict_nogoods.specs.Table.{reductions_at_most, reductions_of}
 use Rattle.verdict_fronts.specs.Front.{entry_at, state_in, outstanding_in}
-use Rattle.verdict_search.specs.Search.{Later, Sound, Slots}
-use Rattle.verdict_search.specs.declared.Went.{Went}
+use Rattle.verdict_search.specs.Search.{Later, Sound, InSlots}
+use Rattle.verdict_search.specs.declared.Search.{Search}
 
 module _ (c : Course) (j : ℕ) where
   -- the rests from that of index j on can be read from the entry at p, a state in the week in which that rest starts
@@ -37,11 +37,24 @@ module _ (c : Course) (j : ℕ) where
     pub room : entry_at n ≤ length t
     pub each : (e : ℕ) → e < n → Well t (entry_at e)
 
--- what a step is lent: the reductions in the first m slots, before the rest of index j; the nogoods; and the front before the rest of index i, with n states
-pub record Given (c : Course) (j m : ℕ) (outstanding nogoods : List ℕ) (i : ℕ) (front : List ℕ) (n : ℕ) : Type 0 where
-  pub slots : Slots c j m outstanding
-  pub sound : Sound c nogoods
-  pub well : Front c i front n
+-- what a step is lent: the reductions before the rest of index j; the nogoods; and the front before the rest of index i
+pub record Given (c : Course) (j i : ℕ) (search : Search) : Type 0 where
+  pub slots : InSlots c j search.used search.slots.now
+  pub sound : Sound c search.nogoods.now
+  pub well : Front c i search.next.now search.states
+
+-- the same slots, nogoods and front are lent
+pub record SameLent (search search' : Search) : Type 0 where
+  pub slots : search'.slots.ghost_name ≡ search.slots.ghost_name
+  pub nogoods : search'.nogoods.ghost_name ≡ search.nogoods.ghost_name
+  pub next : search'.next.ghost_name ≡ search.next.ghost_name
+  pub many : length search'.slots.now ≡ length search.slots.now
+  pub room : length search'.next.now ≡ length search.next.now
+
+-- and as many slots are in use
+pub record Kept (search search' : Search) : Type 0 where
+  pub lent : SameLent search search'
+  pub used : search'.used ≡ search.used
 
 -- a question P was put to the next front, of which A held before and A' after: r is yes where P was found to hold; otherwise A' holds exactly where A
 -- or P does. What is outstanding is as it was; S holds of the nogoods, and W of the next front
@@ -54,10 +67,11 @@ pub record Led (P A A' : Type 0) (r : Bool) (outstanding outstanding' : List ℕ
   pub sound : S
   pub well : W
 
--- the same of the front before the rest of index i, with n states before: the front and what is outstanding before and after, and the nogoods after
-abbrev pub Leads : Course → (List ℕ → Type 0) → ℕ → ℕ → List ℕ → List ℕ → List ℕ → List ℕ → List ℕ → Went → Type 0
-Leads c P i n front front' outstanding outstanding' nogoods' r =
-    Led (P outstanding) (Any c i front n) (Any c i front' r.n) r.yes outstanding outstanding' (Sound c nogoods') (Front c i front' r.n)
+-- the same of what a step is lent, before and after: the front is that before the rest of index i
+abbrev pub Leads : Course → (List ℕ → Type 0) → ℕ → Search → Search → Bool → Type 0
+Leads c P i search search' r =
+    Led (P search.slots.now) (Any c i search.next.now search.states) (Any c i search'.next.now search'.states) r search.slots.now search'.slots.now
+    (Sound c search'.nogoods.now) (Front c i search'.next.now search'.states)
 
 -- a rest of index j is read as of a kind
 abbrev pub ReadAs : (c : Course) → (State → List ℕ → Type 0) → ℕ → State → ℕ → Kind → List ℕ → Type 0

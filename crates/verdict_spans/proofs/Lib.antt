@@ -2,4 +2,3 @@ pub mod SpanLaws
 pub mod FromMondays
 pub mod Seats
 pub mod Putting
-pub mod Taking

@@ -1,2 +1,2 @@
 pub mod Mondays
-pub mod Found
+pub mod Listing

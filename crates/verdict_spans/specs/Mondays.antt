@@ -1,5 +1,5 @@
 -- Inner: the spans as the Mondays are taken from the last to the first, and what the functions of this layer answer. Nobody has to believe it:
--- proofs/SpanLaws.antt and proofs/FromMondays.antt show that it comes to the spans as document 02 says them.
+-- proofs/SpanLaws.antt and proofs/FromMondays.antt show that it comes to the spans as `rules` defines them.
 -- Assumes nothing.
 use Rattle.std.specs.Prelude.{◌≡◌, List, [], ◌∷◌, ℕ, zero, suc, ◌+◌, ◌-◌, ◌≤◌, ◌<◌, ltb, length, get_or, take, drop}
 use Rattle.recording.specs.Tests.{pick}
@@ -9,7 +9,7 @@ use Rattle.recording.specs.Answers.{Answer, refused, answered}
 use Rattle.recording.specs.Operations.{total_at_most}
 use Rattle.rules.specs.Verdict.{verdict}
 use Rattle.rules.specs.Operations.{Finding, passed, breached, finding_of}
-use Rattle.rules.specs.Spans.{weeks_begun, breach_spans}
+use Rattle.rules.specs.Spans.{weeks_begun}
 use Rattle.rules.specs.declared.Weeks.{Weeks}
 use Rattle.verdict_spans.specs.declared.Seat.{Seat}
 
@@ -60,19 +60,3 @@ pub record Reaches (words : List ℕ) (minute : ℕ) (s : Seat) : Type 0 where
   pub there : s.index ≤ length words
   pub start : s.start ≡ length (minutes_of (take s.index words))
   pub within : minute ≤ length (minutes_of (take (suc s.index) words))
-
--- ---- the first and the last weeks of the spans, in the last places of two lists from `at` on
-abbrev pub pairs : List ℕ → List ℕ → List Weeks
-pairs [] lasts = []
-pairs (a ∷ firsts) [] = []
-pairs (a ∷ firsts) (b ∷ lasts) = record { first = a; last = b } ∷ pairs firsts lasts
-
-pub record Filled (ms firsts lasts : List ℕ) (at : ℕ) : Type 0 where
-  pub firsts_there : length firsts ≡ weeks_at_most
-  pub lasts_there : length lasts ≡ weeks_at_most
-  pub count : at + length (breach_spans ms) ≡ weeks_at_most
-  pub listed : pairs (drop at firsts) (drop at lasts) ≡ breach_spans ms
-
--- the numbers of a list from a place on, in front
-pub record InFront (numbers : List ℕ) (at : ℕ) (r : List ℕ) : Type 0 where
-  pub same : (i : ℕ) → at + i < weeks_at_most → get_or r i 0 ≡ get_or numbers (at + i) 0

@@ -1,6 +1,6 @@
 -- Inner: what the steps of the search for a lawful reading answer. Nobody has to believe it: no public contract cites it.
 -- Assumes nothing.
-use Rattle.std.specs.Prelude.{◌≡◌, Bool, true, false, List, ℕ, suc, ◌+◌, ◌*◌, ◌≤◌, ◌<◌, length}
+use Rattle.std.specs.Prelude.{◌≡◌, Bool, true, false, List, ℕ, suc, ◌+◌, ◌*◌, ◌≤◌, ◌<◌, length, Option, None, Some}
 use Rattle.rules.specs.ReadingRules.{least_net, weeks_to_compensate}
 use Rattle.rules.specs.declared.Kind.TheVariants.{Daily}
 use Rattle.rules.specs.declared.Standing.{Standing}
@@ -23,16 +23,11 @@ pub record Fits (reduction compensation minutes : ℕ) : Type 0 where
   pub is_outstanding : 0 < reduction
   pub fits : least_net Daily + (compensation + amount_of reduction) ≤ minutes
 
--- r is the first slot from i on, below n, whose reduction fits, or n
-pub record Candidate (outstanding : List ℕ) (i n compensation minutes r : ℕ) : Type 0 where
-  pub low : i ≤ r
-  pub high : r ≤ n
-  pub passed : (x : ℕ) → i ≤ x → x < r → Fits (at outstanding x) compensation minutes → ⊥
-  pub found : r < n → Fits (at outstanding r) compensation minutes
-
--- the reductions stand in the first n slots
-abbrev pub NoneFrom : List ℕ → ℕ → Type 0
-NoneFrom outstanding n = (x : ℕ) → n ≤ x → at outstanding x ≡ 0
+-- r is the index of the first of them that fits, if one does
+abbrev pub FirstFit : List ℕ → ℕ → ℕ → Option ℕ → Type 0
+FirstFit outstanding compensation minutes (Some d) =
+    (d < length outstanding) × Fits (at outstanding d) compensation minutes × ((x : ℕ) → x < d → Fits (at outstanding x) compensation minutes → ⊥)
+FirstFit outstanding compensation minutes None = (x : ℕ) → Fits (at outstanding x) compensation minutes → ⊥
 
 -- the reduction of a weekly rest counted in week w
 abbrev pub outstanding_by : Standing → ℕ → ℕ

@@ -2,454 +2,270 @@
 // the search puts what follows into the next front.
 #![tactic(auto)]
 
-ghost use Rattle.std.specs.Prelude.{◌+◌, ◌-◌, ◌*◌, ◌<◌, ◌≤◌, length};
-ghost use Rattle.recording.specs.Scan.{short_rests};
-ghost use Rattle.verdict_completion.specs.States.{start_state};
-ghost use Rattle.verdict_completion.specs.Completable.{count, rest_week, Completable};
+ghost use Rattle.std.specs.Prelude.{◌≡◌, ◌+◌, ◌-◌, ◌*◌, ◌^◌, ◌<◌, ◌≤◌, length, replicate, max};
+ghost use Rattle.verdict_completion.specs.Completable.{count, Completable};
+ghost use Rattle.verdict_completion.specs.Courses.{course_with, course_of};
+ghost use Rattle.verdict_steps.specs.Steps.{Says};
 ghost use Rattle.verdict_fronts.specs.Front.{entry_at};
-ghost use Rattle.verdict_search.specs.Search.{course_of, Finds, Sound, Sized, Slots, Lent, Before};
-ghost use Rattle.verdict_search.specs.Leading.{Can, Any, Well, Front, Leads};
-ghost use Rattle.verdict_sweep.specs.Sweep.{Passes, Told};
+ghost use Rattle.verdict_search.specs.Search.{Sound, Free, Before};
+ghost use Rattle.verdict_search.specs.Leading.{Can, Any, Well, Front, SameLent};
+ghost use Rattle.verdict_sweep.specs.Sweep.{LeadsTo, Passes, Visits, OpensTo, Opens, Told, CanBeRead};
 
-use verdict_completion::State;
-use verdict_search::Went;
+use verdict_completion::{Course, LongRests, State};
+use verdict_search::Search;
 
-// What a sweep answers: yes or no; and where it is no, the rest near which no state was left. Nothing is promised of that place.
-#[derive(Clone, Copy)]
-pub struct Swept {
+// Two fronts that change roles: the first has `states` states, the other is to be the next one.
+#[derive(Drop)]
+pub struct Fronts<'a> {
+    pub front: &'a mut [u32],
+    pub other: &'a mut [u32],
+    pub states: usize,
+}
+
+// How a sweep ends: yes or no; and where it is no, the rest near which no state was left. Nothing is promised of that place.
+#[derive(Clone, Copy, Debug, PartialEq, Eq)]
+pub struct Ending {
     pub yes: bool,
     pub at: usize,
 }
 
 // From the entry e of the front before the rest of index j; what stands in the slots is given up.
-fn visit(
-    starts: &[u32],
-    ends: &[u32],
-    nets: &[u32],
-    compensations: &[u32],
-    s: u32,
-    outstanding: &mut [u32],
-    nogoods: &mut [u32],
-    next: &mut [u32],
-    front: &[u32],
-    j: usize,
-    e: usize,
-    n: usize,
-) -> Went
-    requires { let c = course_of starts.now ends.now nets.now compensations.now s in Sized c outstanding.old × Sound c nogoods.old × (j < count c) × (entry_at (e + 1) ≤ length front.now)
-        × Well c j front.now (entry_at e) × Front c (j + 1) next.old n }
-    ensures { let c = course_of starts.now ends.now nets.now compensations.now s in
-        Leads c (λ o. Can c j front.now (entry_at e)) (j + 1) n next.old next.new outstanding.new outstanding.new nogoods.new result }
+fn visit(course: &Course, search: &mut Search, front: &[u32], j: usize, e: usize) -> bool
+    requires slots { length search.old.slots.now ≡ count (course_of course.now) }
+    requires sound { Sound (course_of course.now) search.old.nogoods.now }
+    requires within { j < count (course_of course.now) }
+    requires next { Front (course_of course.now) (j + 1) search.old.next.now search.old.states }
+    requires entry { (entry_at (e + 1) ≤ length front.now) × Well (course_of course.now) j front.now (entry_at e) }
+    ensures visits { let c = course_of course.now in Visits c (Can c j front.now (entry_at e)) (j + 1) search.old search.new result }
+    ensures lent { SameLent search.old search.new }
 {
     let p = verdict_nogoods::ENTRY_WORDS * e;
-    verdict_fronts::outstanding_in(front, p, outstanding);
-    let here = verdict_fronts::state_in(front, p, starts[j] / recording::WEEK_MINUTES);
-    let m = verdict_fronts::reductions_in(front, p);
-    verdict_search::compensate(
-        starts,
-        ends,
-        nets,
-        compensations,
-        s,
-        outstanding,
-        nogoods,
-        next,
-        j,
-        0,
-        compensations[j],
-        here,
-        m,
-        n,
-    )
+    let slots = &mut *search.slots;
+    verdict_fronts::outstanding_in(front, p, slots);
+    let week = course.rests.starts[j] / recording::WEEK_MINUTES;
+    let here = verdict_fronts::state_in(front, p, week);
+    search.used = verdict_fronts::reductions_in(front, p);
+    verdict_search::compensate(course, search, j, 0, course.compensations[j], here)
 }
 
-// From the front before the rest of index j, of f states, to the next one.
-pub fn sweep_rest(
-    starts: &[u32],
-    ends: &[u32],
-    nets: &[u32],
-    compensations: &[u32],
-    s: u32,
-    outstanding: &mut [u32],
+// From the first n entries of the front before the rest of index j.
+fn visit_all(course: &Course, search: &mut Search, front: &[u32], n: usize, j: usize) -> bool
+    requires slots { length search.old.slots.now ≡ count (course_of course.now) }
+    requires sound { Sound (course_of course.now) search.old.nogoods.now }
+    requires within { j < count (course_of course.now) }
+    requires next { search.old.states ≡ 0 }
+    requires front { Front (course_of course.now) j front.now n }
+    ensures visits { let c = course_of course.now in Visits c (Any c j front.now n) (j + 1) search.old search.new result }
+    ensures lent { SameLent search.old search.new }
+{
+    for e in 0..n {
+        if visit(course, search, front, j, e) {
+            return true;
+        }
+    }
+    false
+}
+
+// The same, with slots, nogoods and a next front that are lent: how many states that has, or none where yes was found.
+fn next_front(
+    course: &Course,
+    slots: &mut [u32],
     nogoods: &mut [u32],
-    next: &mut [u32],
     front: &[u32],
-    j: usize,
-    f: usize,
-) -> Went
-    requires { let c = course_of starts.now ends.now nets.now compensations.now s in Sized c outstanding.old × Sound c nogoods.old × (j < count c) × Front c j front.now f }
-    ensures { let c = course_of starts.now ends.now nets.now compensations.now s in Passes c j front.now f (j + 1) next.new nogoods.new result }
-{
-    let mut n = 0;
-    let mut e = 0;
-    while e < f {
-        let went = visit(
-            starts,
-            ends,
-            nets,
-            compensations,
-            s,
-            outstanding,
-            nogoods,
-            next,
-            front,
-            j,
-            e,
-            n,
-        );
-        if went.yes {
-            return went;
-        }
-        n = went.n;
-        e += 1;
-    }
-    Went { yes: false, n: n }
-}
-
-// From the front before the rest of index j, of f states, to the next and from there back to one before the rest after that.
-fn sweep_two(
-    starts: &[u32],
-    ends: &[u32],
-    nets: &[u32],
-    compensations: &[u32],
-    s: u32,
-    outstanding: &mut [u32],
-    nogoods: &mut [u32],
-    front: &mut [u32],
-    other: &mut [u32],
-    j: usize,
-    f: usize,
-) -> Went
-    requires { let c = course_of starts.now ends.now nets.now compensations.now s in Sized c outstanding.old × Sound c nogoods.old × (j < count c) × Front c j front.old f }
-    ensures { let c = course_of starts.now ends.now nets.now compensations.now s in Passes c j front.old f (j + 2) front.new nogoods.new result }
-{
-    let there = sweep_rest(
-        starts,
-        ends,
-        nets,
-        compensations,
-        s,
-        outstanding,
-        nogoods,
-        other,
-        front,
-        j,
-        f,
-    );
-    if there.yes {
-        return Went { yes: true, n: 0 };
-    }
-    if j + 1 == starts.len() {
-        return Went { yes: false, n: 0 };
-    }
-    sweep_rest(
-        starts,
-        ends,
-        nets,
-        compensations,
-        s,
-        outstanding,
-        nogoods,
-        front,
-        other,
-        j + 1,
-        there.n,
-    )
-}
-
-// From the front before the rest of index j, of f states, to the end.
-pub fn sweep_on(
-    starts: &[u32],
-    ends: &[u32],
-    nets: &[u32],
-    compensations: &[u32],
-    s: u32,
-    outstanding: &mut [u32],
-    nogoods: &mut [u32],
-    front: &mut [u32],
-    other: &mut [u32],
-    j: usize,
-    f: usize,
-) -> Swept
-    requires { let c = course_of starts.now ends.now nets.now compensations.now s in Sized c outstanding.old × Sound c nogoods.old × (j ≤ count c + 1) × Front c j front.old f }
-    ensures { let c = course_of starts.now ends.now nets.now compensations.now s in Told (Any c j front.old f) result.yes (Sound c nogoods.new) }
-{
-    let mut i = j;
-    let mut n = f;
-    while i < starts.len() {
-        let went = sweep_two(
-            starts,
-            ends,
-            nets,
-            compensations,
-            s,
-            outstanding,
-            nogoods,
-            front,
-            other,
-            i,
-            n,
-        );
-        if went.yes {
-            return Swept { yes: true, at: i };
-        }
-        if went.n == 0 {
-            return Swept { yes: false, at: i };
-        }
-        n = went.n;
-        i += 2;
-    }
-    Swept { yes: false, at: i }
-}
-
-// How many times two rests it is from the rest after that of index j to one past the rest of number x.
-pub fn pairs_to(j: usize, x: usize) -> usize
-    ensures { (x ≤ j + 1 + 2 * result) × (2 * result ≤ x - j) }
-{
-    if x <= j {
-        return 0;
-    }
-    (x - j) / 2
-}
-
-// From the front before the rest of index j, of f states, p times two rests on.
-pub fn sweep_pairs(
-    starts: &[u32],
-    ends: &[u32],
-    nets: &[u32],
-    compensations: &[u32],
-    s: u32,
-    outstanding: &mut [u32],
-    nogoods: &mut [u32],
-    front: &mut [u32],
-    other: &mut [u32],
-    j: usize,
-    f: usize,
-    p: usize,
-) -> Went
-    requires { let c = course_of starts.now ends.now nets.now compensations.now s in Sized c outstanding.old × Sound c nogoods.old × (j + 2 * p ≤ count c + 1) × Front c j front.old f }
-    ensures { let c = course_of starts.now ends.now nets.now compensations.now s in Passes c j front.old f (j + 2 * p) front.new nogoods.new result }
-{
-    let mut i = j;
-    let mut n = f;
-    let mut left = p;
-    while 0 < left {
-        let went = sweep_two(
-            starts,
-            ends,
-            nets,
-            compensations,
-            s,
-            outstanding,
-            nogoods,
-            front,
-            other,
-            i,
-            n,
-        );
-        if went.yes {
-            return Went { yes: true, n: 0 };
-        }
-        n = went.n;
-        i += 2;
-        left -= 1;
-    }
-    Went { yes: false, n: n }
-}
-
-// The same with slots of its own, for no more long rests than a short recording has.
-fn sweep_short(
-    starts: &[u32],
-    ends: &[u32],
-    nets: &[u32],
-    compensations: &[u32],
-    s: u32,
-    nogoods: &mut [u32],
-    front: &mut [u32],
-    other: &mut [u32],
-    j: usize,
-    f: usize,
-) -> Swept
-    requires { let c = course_of starts.now ends.now nets.now compensations.now s in Sized c compensations.now × Sound c nogoods.old × (j ≤ count c + 1) × Front c j front.old f
-        × (count c ≤ short_rests) }
-    ensures { let c = course_of starts.now ends.now nets.now compensations.now s in Told (Any c j front.old f) result.yes (Sound c nogoods.new) }
-{
-    let k = starts.len();
-    let mut slots = [0u32; recording::SHORT_RESTS];
-    sweep_on(
-        starts,
-        ends,
-        nets,
-        compensations,
-        s,
-        &mut slots[..k],
-        nogoods,
-        front,
-        other,
-        j,
-        f,
-    )
-}
-
-// The same for any number of long rests.
-fn sweep_long(
-    starts: &[u32],
-    ends: &[u32],
-    nets: &[u32],
-    compensations: &[u32],
-    s: u32,
-    nogoods: &mut [u32],
-    front: &mut [u32],
-    other: &mut [u32],
-    j: usize,
-    f: usize,
-) -> Swept
-    requires { let c = course_of starts.now ends.now nets.now compensations.now s in Sized c compensations.now × Sound c nogoods.old × (j ≤ count c + 1) × Front c j front.old f }
-    ensures { let c = course_of starts.now ends.now nets.now compensations.now s in Told (Any c j front.old f) result.yes (Sound c nogoods.new) }
-{
-    let k = starts.len();
-    let mut slots = [0u32; recording::LONG_RESTS];
-    sweep_on(
-        starts,
-        ends,
-        nets,
-        compensations,
-        s,
-        &mut slots[..k],
-        nogoods,
-        front,
-        other,
-        j,
-        f,
-    )
-}
-
-// Whether the rests from that of index j on can be read, from a state before it, with what is outstanding in the first n slots. Two fronts change roles;
-// their room is any, none too.
-fn solve(
-    starts: &[u32],
-    ends: &[u32],
-    nets: &[u32],
-    compensations: &[u32],
-    s: u32,
-    outstanding: &mut [u32],
-    nogoods: &mut [u32],
-    front: &mut [u32],
-    other: &mut [u32],
-    j: usize,
-    st: State,
     n: usize,
-) -> Swept
-    requires { let c = course_of starts.now ends.now nets.now compensations.now s in Slots c j n outstanding.old × Sound c nogoods.old × Before c j st }
-    ensures { let c = course_of starts.now ends.now nets.now compensations.now s in Finds c (Completable c (count c - j) j st outstanding.old) result.yes outstanding.old outstanding.new nogoods.new }
+    next: &mut [u32],
+    j: usize,
+) -> Option<usize>
+    requires slots { length slots.old ≡ count (course_of course.now) }
+    requires sound { Sound (course_of course.now) nogoods.old }
+    requires within { j < count (course_of course.now) }
+    requires front { Front (course_of course.now) j front.now n }
+    ensures { LeadsTo (course_of course.now) j front.now n (j + 1) next.new nogoods.new result }
 {
-    let went = verdict_search::step(
-        starts,
-        ends,
-        nets,
-        compensations,
-        s,
-        outstanding,
-        nogoods,
-        front,
-        j,
-        st,
-        n,
-        0,
-    );
-    if went.yes {
-        return Swept { yes: true, at: j };
+    let mut search = Search {
+        slots: &mut *slots,
+        used: 0,
+        nogoods: &mut *nogoods,
+        next: &mut *next,
+        states: 0,
+    };
+    if visit_all(course, &mut search, front, n, j) {
+        return None;
     }
-    if starts.len() <= recording::SHORT_RESTS {
-        return sweep_short(
-            starts,
-            ends,
-            nets,
-            compensations,
-            s,
-            nogoods,
-            front,
-            other,
-            j,
-            went.n,
-        );
-    }
-    sweep_long(
-        starts,
-        ends,
-        nets,
-        compensations,
-        s,
-        nogoods,
-        front,
-        other,
-        j,
-        went.n,
-    )
+    Some(search.states)
 }
 
-// The same where nothing is outstanding, with nogoods that are emptied first.
-fn completes(
-    starts: &[u32],
-    ends: &[u32],
-    nets: &[u32],
-    compensations: &[u32],
-    s: u32,
-    outstanding: &mut [u32],
+// From the front before the rest of index j to the next one.
+pub fn sweep_rest(
+    course: &Course,
+    slots: &mut [u32],
+    nogoods: &mut [u32],
+    fronts: &mut Fronts,
+    j: usize,
+) -> bool
+    requires slots { length slots.old ≡ count (course_of course.now) }
+    requires sound { Sound (course_of course.now) nogoods.old }
+    requires within { j < count (course_of course.now) }
+    requires front { Front (course_of course.now) j fronts.old.front.now fronts.old.states }
+    ensures { Passes (course_of course.now) j fronts.old (j + 1) fronts.new nogoods.new result }
+{
+    let states = fronts.states;
+    let front = &mut *fronts.front;
+    let next = &mut *fronts.other;
+    let Some(n) = next_front(course, slots, nogoods, front, states, next, j) else {
+        fronts.states = 0;
+        return true;
+    };
+    fronts.states = n;
+    std::mem::swap(&mut fronts.front, &mut fronts.other);
+    false
+}
+
+// From the front before the rest of index j to that before the rest of index `to`.
+pub fn sweep_to(
+    course: &Course,
+    slots: &mut [u32],
+    nogoods: &mut [u32],
+    fronts: &mut Fronts,
+    j: usize,
+    to: usize,
+) -> bool
+    requires slots { length slots.old ≡ count (course_of course.now) }
+    requires sound { Sound (course_of course.now) nogoods.old }
+    requires within { (j ≤ to) × (to ≤ count (course_of course.now)) }
+    requires front { Front (course_of course.now) j fronts.old.front.now fronts.old.states }
+    ensures { Passes (course_of course.now) j fronts.old to fronts.new nogoods.new result }
+{
+    for i in j..to {
+        if sweep_rest(course, slots, nogoods, fronts, i) {
+            fronts.states = 0;
+            return true;
+        }
+    }
+    false
+}
+
+// From the front before the rest of index j to the end.
+pub fn sweep_on(
+    course: &Course,
+    slots: &mut [u32],
+    nogoods: &mut [u32],
+    fronts: &mut Fronts,
+    j: usize,
+) -> Ending
+    requires slots { length slots.old ≡ count (course_of course.now) }
+    requires sound { Sound (course_of course.now) nogoods.old }
+    requires within { j ≤ count (course_of course.now) }
+    requires front { Front (course_of course.now) j fronts.old.front.now fronts.old.states }
+    ensures { let c = course_of course.now in Told (Any c j fronts.old.front.now fronts.old.states) result.yes (Sound c nogoods.new) }
+{
+    let end = course.rests.starts.len();
+    for i in j..end {
+        if sweep_rest(course, slots, nogoods, fronts, i) {
+            return Ending { yes: true, at: i };
+        }
+        if fronts.states == 0 {
+            return Ending { yes: false, at: i };
+        }
+    }
+    Ending {
+        yes: false,
+        at: end,
+    }
+}
+
+// The first rest from that of index j on that lies past the rest of number x.
+pub fn past_carrier(j: usize, x: usize) -> usize
+    ensures { result ≡ max j x }
+{
+    j.max(x)
+}
+
+// From a state before the rest of index j to a first front, which is lent with slots where nothing is outstanding: how many states that has, or none where yes
+// was found.
+fn first_front(
+    course: &Course,
+    slots: &mut [u32],
     nogoods: &mut [u32],
     front: &mut [u32],
-    other: &mut [u32],
     j: usize,
     st: State,
-) -> Swept
-    requires { let c = course_of starts.now ends.now nets.now compensations.now s in Lent c outstanding.old × Before c j st }
-    ensures { let c = course_of starts.now ends.now nets.now compensations.now s in Finds c (Completable c (count c - j) j st outstanding.old) result.yes outstanding.old outstanding.new nogoods.new }
+) -> Option<usize>
+    requires free { Free (course_of course.now) slots.old }
+    requires sound { Sound (course_of course.now) nogoods.old }
+    requires before { Before (course_of course.now) j st }
+    ensures leads { let c = course_of course.now in OpensTo c (Completable c (count c - j) j st slots.old) j front.new nogoods.new result }
+    ensures same { slots.new ≡ slots.old }
 {
-    verdict_nogoods::clear(nogoods, starts.len());
-    solve(
-        starts,
-        ends,
-        nets,
-        compensations,
-        s,
-        outstanding,
-        nogoods,
-        front,
-        other,
-        j,
-        st,
-        0,
-    )
+    let mut search = Search {
+        slots: &mut *slots,
+        used: 0,
+        nogoods: &mut *nogoods,
+        next: &mut *front,
+        states: 0,
+    };
+    if verdict_search::step(course, &mut search, j, st) {
+        return None;
+    }
+    Some(search.states)
 }
 
-// Whether the long rests can be read at all, where nothing is outstanding before the first.
-pub fn possible(
-    starts: &[u32],
-    ends: &[u32],
-    nets: &[u32],
-    compensations: &[u32],
-    s: u32,
-    outstanding: &mut [u32],
+// The same, where the first of two fronts is lent.
+pub fn begin(
+    course: &Course,
+    slots: &mut [u32],
     nogoods: &mut [u32],
-    front: &mut [u32],
-    other: &mut [u32],
-) -> Swept
-    requires { let c = course_of starts.now ends.now nets.now compensations.now s in Lent c outstanding.old }
-    ensures { let c = course_of starts.now ends.now nets.now compensations.now s in
-        Finds c (Completable c (count c) 0 (start_state (rest_week c 0)) outstanding.old) result.yes outstanding.old outstanding.new nogoods.new }
+    fronts: &mut Fronts,
+    j: usize,
+    st: State,
+) -> bool
+    requires free { Free (course_of course.now) slots.old }
+    requires sound { Sound (course_of course.now) nogoods.old }
+    requires before { Before (course_of course.now) j st }
+    ensures opens { let c = course_of course.now in Opens c (Completable c (count c - j) j st slots.old) j fronts.new nogoods.new result }
+    ensures same { slots.new ≡ slots.old }
 {
-    let rest = rules_items::rest_week(starts, ends, starts.len(), 0);
-    completes(
-        starts,
-        ends,
-        nets,
-        compensations,
-        s,
-        outstanding,
-        nogoods,
-        front,
-        other,
-        0,
-        verdict_steps::start_state(rest),
-    )
+    let front = &mut *fronts.front;
+    let Some(n) = first_front(course, slots, nogoods, front, j, st) else {
+        fronts.states = 0;
+        return true;
+    };
+    fronts.states = n;
+    false
+}
+
+// Whether no more than so many long rests can be read, with nogoods that are emptied first.
+fn possible_in<const RESTS: usize>(
+    rests: &LongRests,
+    nogoods: &mut [u32],
+    fronts: &mut Fronts,
+) -> Ending
+    requires few { length rests.now.starts.now ≤ RESTS }
+    requires room { RESTS ≤ 2 ^ 20 }
+    ensures { let k = length rests.now.starts.now in Says (CanBeRead (course_with rests.now (replicate k 0)) (replicate k 0)) result.yes }
+{
+    let k = rests.starts.len();
+    let none = [0u32; RESTS];
+    let mut room = [0u32; RESTS];
+    let slots = &mut room[..k];
+    let course = Course {
+        rests: *rests,
+        compensations: &none[..k],
+    };
+    verdict_nogoods::clear(nogoods, k);
+    let rest = rules_items::rest_week(rests.starts, rests.ends, k, 0);
+    if begin(&course, slots, nogoods, fronts, 0, State::start(rest)) {
+        return Ending { yes: true, at: 0 };
+    }
+    sweep_on(&course, slots, nogoods, fronts, 0)
+}
+
+// Whether long rests can be read, without a compensation and where nothing is outstanding before the first. The room of the fronts is any, none too.
+pub fn possible(rests: &LongRests, nogoods: &mut [u32], fronts: &mut Fronts) -> Ending
+    ensures { let k = length rests.now.starts.now in Says (CanBeRead (course_with rests.now (replicate k 0)) (replicate k 0)) result.yes }
+{
+    if rests.starts.len() <= recording::SHORT_RESTS {
+        return possible_in::<{ recording::SHORT_RESTS }>(rests, nogoods, fronts);
+    }
+    possible_in::<{ recording::LONG_RESTS }>(rests, nogoods, fronts)
 }

@@ -8,6 +8,6 @@ pub returns-then-change-eq1 : goal.returns-then-change-eq1
 unfolding is_unknown ◌and◌
 returns-then-change-eq1 c = rw (eq-eqb _ _ c.if-change-eq1.true)
 
-pub returns : goal.returns
+pub returns-else-change-eq1 : goal.returns-else-change-eq1
 unfolding is_unknown ◌and◌
-returns c = rw (ne_eqb _ _ c.if-change-eq1.false)
+returns-else-change-eq1 c = rw (ne_eqb _ _ c.if-change-eq1.false)

@@ -1,11 +1,7 @@
 -- `card_reader::judge` meets its contract. Assumes nothing.
-use Prim.Native.Nat.{◌-◌}
-use lib.ListN.{length}
+use Rattle.card_reader.specs.Reading.{changes_in}
 use Rattle.card_reader.proofs.Judging.{Judging}
 use Rattle.card_reader.proofs.judge.Given as goal
 
-abbrev pub invariant-loop-at : goal.invariant-loop-at
-invariant-loop-at l = Judging l.bytes l.j l.at
-
-abbrev pub decreases-loop-at : goal.decreases-loop-at
-decreases-loop-at l = length l.bytes - l.at
+abbrev pub invariant-loop-change : goal.invariant-loop-change
+invariant-loop-change l = Judging (changes_in l.bytes) l.found (changes_in l.change-iterator.bytes.now)

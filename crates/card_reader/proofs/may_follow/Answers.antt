@@ -10,10 +10,10 @@ pub returns-then-minute-eq0 : goal.returns-then-minute-eq0
 unfolding follows ◌or◌
 returns-then-minute-eq0 c = rw (eq-eqb _ _ c.if-minute-eq0.true)
 
-pub returns-then-minute-ge-DAY_MINUTES : goal.returns-then-minute-ge-DAY_MINUTES
+pub returns-then-minute-lt-DAY_MINUTES : goal.returns-then-minute-lt-DAY_MINUTES
 unfolding follows ◌or◌ ◌and◌
-returns-then-minute-ge-DAY_MINUTES c = rw (ne_eqb _ _ c.if-minute-eq0.false, le-ltb c.args.minute day_minutes (omega arith))
+returns-then-minute-lt-DAY_MINUTES c = rw (ne_eqb _ _ c.if-minute-eq0.false, lt-ltb c.args.minute day_minutes (omega arith))
 
-pub returns : goal.returns
+pub returns-else-minute-lt-DAY_MINUTES : goal.returns-else-minute-lt-DAY_MINUTES
 unfolding follows ◌or◌ ◌and◌
-returns c = rw (ne_eqb _ _ c.if-minute-eq0.false, lt-ltb c.args.minute day_minutes (omega arith))
+returns-else-minute-lt-DAY_MINUTES c = rw (ne_eqb _ _ c.if-minute-eq0.false, le-ltb c.args.minute day_minutes (omega arith))

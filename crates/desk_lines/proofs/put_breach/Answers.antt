@@ -1,10 +1,10 @@
 -- `desk_lines::put_breach` meets its contract. Assumes nothing.
-use Rattle.text.proofs.Puts.{put_then}
+use Rattle.text.proofs.Puts.{puts_then}
 use Rattle.desk_lines.specs.Lines.{breach_text}
-use borrow.Author.Rules.{rules}
 use Rattle.desk_lines.proofs.put_breach.Goals as goal
 
-pub returns : goal.returns
+pub returns-clause-text : goal.returns-clause-text
 unfolding breach_text
-returns c = let three = put_then (put_then c.put_all-named.ensures c.put_spaced-timed.ensures.0) c.put_all-parted.ensures in
-    (put_then (put_then three c.put_article-told.ensures.0) c.put_all.ensures, search rules)
+returns-clause-text c =
+    let three = puts_then (puts_then c.put.ensures c.put_spaced.ensures.text) c.put-2.ensures in
+    puts_then (puts_then three (rw (← c.article_name.ensures.name) c.put-3.ensures)) c.put-4.ensures

@@ -1,9 +1,8 @@
 -- `desk_lines::put_numbered` meets its contract. Assumes nothing.
-use Rattle.text.proofs.Puts.{put_then}
+use Rattle.text.proofs.Puts.{puts_then}
 use Rattle.desk_lines.specs.Lines.{numbered}
-use borrow.Author.Rules.{rules}
 use Rattle.desk_lines.proofs.put_numbered.Goals as goal
 
-pub returns : goal.returns
+pub returns-clause-text : goal.returns-clause-text
 unfolding numbered
-returns c = (put_then (put_then c.put_all-named.ensures c.put_spaced-told.ensures.0) c.put_all.ensures, search rules)
+returns-clause-text c = puts_then (puts_then c.put.ensures c.put_spaced.ensures.text) c.put-2.ensures

@@ -2,14 +2,17 @@
 use native.Mathlib.Omega.{arith}
 use lib.ListN.{length}
 use Rattle.text_lines.specs.Reading.{text_read}
+use Rattle.desk_report.specs.Printed.{shows_spans}
 use Rattle.desk_report.specs.Composing.{text_words}
 use Rattle.desk_report.proofs.Answered.{blank, within_words, desk_read}
 use Rattle.desk_report.proofs.desk_page.Goals as goal
 
 pub read_page-requires : goal.read_page-requires
-read_page-requires c = within_words (text_read c.args.text.now (length (blank text_words))) text_words c.read_text-answer.result c.read_text-answer.ensures.answer
-    c.read_text-answer.ensures.words_after
+read_page-requires c =
+    let told = c.read_text-answer.ensures in
+    (c.requires.0, within_words (text_read c.args.text.now (length (blank text_words))) text_words c.read_text-answer.result told.answer told.words_after)
 
 pub returns : goal.returns
-returns c = let told = c.read_text-answer.ensures in
-    rw (desk_read c.args.text.now text_words c.requires (omega arith) c.read_text-answer.result told.answer told.words_after c.args.spans) c.read_page.ensures
+returns c =
+    let told = c.read_text-answer.ensures in
+    rw (desk_read c.args.text.now text_words c.requires.1 (omega arith) c.read_text-answer.result told.answer told.words_after (shows_spans c.args.shown)) c.read_page.ensures

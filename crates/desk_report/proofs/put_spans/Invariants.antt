@@ -1,10 +1,6 @@
--- `desk_report::put_spans` meets its contract. Assumes nothing.
-use Prim.Native.Nat.{◌-◌}
+-- `desk_report::put_spans` meets its contract. The invariant: the lines so far are put. Assumes nothing.
 use Rattle.desk_report.proofs.SpanLines.{Lining}
 use Rattle.desk_report.proofs.put_spans.Given as goal
 
-abbrev pub invariant-loop-i : goal.invariant-loop-i
-invariant-loop-i l = Lining l.initial.out l.at l.found l.out l.next l.i
-
-abbrev pub decreases-loop-i : goal.decreases-loop-i
-decreases-loop-i l = l.count - l.i
+abbrev pub invariant-loop-weeks : goal.invariant-loop-weeks
+invariant-loop-weeks l = Lining l.initial.page l.spans l.page l.weeks-index

@@ -1,12 +1,13 @@
 -- `desk_report::spans_page` meets its contract. Assumes nothing.
+use mathlib.Core.Path.{refl}
 use Rattle.desk_report.proofs.SpanLines.{page_refused, page_listed}
 use Rattle.desk_report.proofs.spans_page.Goals as goal
 
+pub returns-in-Err : goal.returns-in-Err
+returns-in-Err c = rw (page_refused c.args.words.now _ c.in-Err.ensures.answer) c.refusal_page.ensures
+
 pub list_page-requires : goal.list_page-requires
-list_page-requires c = c.spans_of-found.ensures.few
+list_page-requires c = (c.requires, (page_listed c.args.words.now _ _ refl c.in-Ok.ensures.answer c.in-Ok.ensures.list_after).most)
 
-pub returns-in-Refused : goal.returns-in-Refused
-returns-in-Refused c = rw (page_refused _ c.spans_of-found.ensures c.in-Refused.is) c.refusal_page.ensures
-
-pub returns-in-Written : goal.returns-in-Written
-returns-in-Written c = rw (page_listed _ c.spans_of-found.ensures c.in-Written.is) c.list_page.ensures
+pub returns-in-Ok : goal.returns-in-Ok
+returns-in-Ok c = rw (page_listed c.args.words.now _ _ refl c.in-Ok.ensures.answer c.in-Ok.ensures.list_after).text c.list_page.ensures

@@ -1,16 +1,16 @@
 -- `recording::place_of` meets its contract. Assumes nothing.
 use native.Mathlib.Omega.{arith}
-use Rattle.recording.proofs.Scanning.{start_walking, run_room, walk_on, walk_done}
+use Rattle.recording.proofs.Scanning.{start_walking, run_fits, walk_run, walk_done}
 use Rattle.recording.proofs.place_of.Goals as goal
 
-pub loop-i-init : goal.loop-i-init
-loop-i-init c = start_walking _ c.requires
+pub loop-word-init : goal.loop-word-init
+loop-word-init c = rw c.origin-place.ensures (start_walking _ c.requires)
 
-pub after_run-p-requires : goal.after_run-p-requires
-after_run-p-requires c = (c.loop-i.invariant.from, c.loop-i.invariant.count, run_room c.loop-i.invariant (omega arith))
+pub after-place-requires : goal.after-place-requires
+after-place-requires c = run_fits c.loop-word.invariant c.loop-word-test.true c.from.ensures
 
-pub loop-i-preserved : goal.loop-i-preserved
-loop-i-preserved c = rw c.after_run-p.ensures (walk_on c.loop-i.invariant (omega arith))
+pub loop-word-preserved : goal.loop-word-preserved
+loop-word-preserved c = walk_run c.loop-word.invariant c.loop-word-test.true c.from.ensures c.after-place.ensures
 
 pub returns : goal.returns
-returns c = walk_done c.loop-i.invariant (omega arith)
+returns c = walk_done c.loop-word.invariant (omega arith)

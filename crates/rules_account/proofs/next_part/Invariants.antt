@@ -2,8 +2,12 @@
 use Prim.Native.Nat.{◌+◌, ◌-◌, ◌<◌, ◌≤◌}
 use Rattle.rules_account.proofs.next_part.Given as goal
 
-abbrev pub invariant-loop-k : goal.invariant-loop-k
-invariant-loop-k l = (0 < l.k) × (l.k ≤ l.n) × (l.k ≤ 1 + (l.s.week.end - (l.s.now + 1)))
+abbrev pub invariant-loop-minutes : goal.invariant-loop-minutes
+invariant-loop-minutes l = record {
+  some : 0 < l.minutes;
+  within : l.minutes ≤ l.run.minutes;
+  week : l.minutes ≤ 1 + (l.account.week.end - (l.account.now + 1));
+}
 
-abbrev pub decreases-loop-k : goal.decreases-loop-k
-decreases-loop-k l = l.k
+abbrev pub decreases-loop-minutes : goal.decreases-loop-minutes
+decreases-loop-minutes l = l.minutes

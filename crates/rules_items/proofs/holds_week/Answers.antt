@@ -1,13 +1,14 @@
 -- `rules_items::holds_week` meets its contract. Assumes nothing.
-use borrow.Author.Tests.{le-leb, lt-leb}
+use Rattle.std.proofs.Common.{arith}
+use Rattle.std.proofs.lemmas.Grind.{common_steps}
 use Rattle.recording.specs.Tests.{◌and◌}
 use Rattle.recording.specs.Weeks.{inside}
 use Rattle.rules_items.proofs.holds_week.Goals as goal
 
-pub returns-then-w-start : goal.returns-then-w-start
+pub returns-then-start-w : goal.returns-then-start-w
 unfolding inside ◌and◌
-returns-then-w-start c = simp (lt-leb _ _ c.if-w-start.true)
+returns-then-start-w c = grind (arith, common_steps)
 
-pub returns : goal.returns
+pub returns-else-start-w : goal.returns-else-start-w
 unfolding inside ◌and◌
-returns c = simp (le-leb _ _ c.if-w-start.false)
+returns-else-start-w c = grind (arith, common_steps)

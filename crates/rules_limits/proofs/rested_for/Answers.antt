@@ -16,46 +16,46 @@ stays : (n : ℕ) (d : Accumulated) → clears n d ≡ false → splits n d or d
 unfolding rested
 stays n d f e = rw f (λ i. record { sum = d.sum; split = sym e i })
 
-pub returns-then-n-ge-FULL_BREAK : goal.returns-then-n-ge-FULL_BREAK
+pub returns-then-minutes-ge-FULL_BREAK : goal.returns-then-minutes-ge-FULL_BREAK
 unfolding rested ◌or◌
-returns-then-n-ge-FULL_BREAK c = c.cleared_sum.ensures ∙ simp (le-leb full_break c.args.n (omega (arith, c.if-n-ge-FULL_BREAK.true)))
+returns-then-minutes-ge-FULL_BREAK c = c.cleared_sum.ensures ∙ simp (le-leb full_break c.args.minutes (omega (arith, c.if-minutes-ge-FULL_BREAK.true)))
 
-pub returns-then-n-lt-FIRST_PART : goal.returns-then-n-lt-FIRST_PART
+pub returns-then-minutes-lt-FIRST_PART : goal.returns-then-minutes-lt-FIRST_PART
 unfolding ◌or◌ ◌and◌
-returns-then-n-lt-FIRST_PART c = let n = c.args.n in
-    let no-break = lt-leb full_break n (omega (arith, c.if-n-ge-FULL_BREAK.false)) in
-    let no_part = lt-leb first_part n (omega (arith, c.if-n-lt-FIRST_PART.true)) in
-    stays n _ (simp (no-break, lt-leb second_part n (omega (arith, c.if-n-lt-FIRST_PART.true)))) (simp no_part)
+returns-then-minutes-lt-FIRST_PART c = let n = c.args.minutes in
+    let no-break = lt-leb full_break n (omega (arith, c.if-minutes-ge-FULL_BREAK.false)) in
+    let no_part = lt-leb first_part n (omega (arith, c.if-minutes-lt-FIRST_PART.true)) in
+    stays n _ (simp (no-break, lt-leb second_part n (omega (arith, c.if-minutes-lt-FIRST_PART.true)))) (simp no_part)
 
-pub returns-then-n-lt-SECOND_PART : goal.returns-then-n-lt-SECOND_PART
+pub returns-then-minutes-lt-SECOND_PART : goal.returns-then-minutes-lt-SECOND_PART
 unfolding ◌or◌ ◌and◌
-returns-then-n-lt-SECOND_PART c = let n = c.args.n in
-    let d = c.args.d in
-    let no-break = lt-leb full_break n (omega (arith, c.if-n-ge-FULL_BREAK.false)) in
-    let no_second = lt-leb second_part n (omega (arith, c.if-n-lt-SECOND_PART.true)) in
-    let begun = c.if-d.true in
+returns-then-minutes-lt-SECOND_PART c = let n = c.args.minutes in
+    let d = c.args.accumulated in
+    let no-break = lt-leb full_break n (omega (arith, c.if-minutes-ge-FULL_BREAK.false)) in
+    let no_second = lt-leb second_part n (omega (arith, c.if-minutes-lt-SECOND_PART.true)) in
+    let begun = c.if-accumulated.true in
     stays n d (simp (no-break, no_second)) (or_right (splits n d) d.split begun ∙ sym begun)
 
-pub returns-then-d : goal.returns-then-d
+pub returns-then-accumulated : goal.returns-then-accumulated
 unfolding rested ◌or◌ ◌and◌
-returns-then-d c = let n = c.args.n in
-    let no-break = lt-leb full_break n (omega (arith, c.if-n-ge-FULL_BREAK.false)) in
-    let second = le-leb second_part n (omega (arith, c.if-n-lt-SECOND_PART.false)) in
-    c.cleared_sum-then-d.ensures ∙ simp (no-break, second, c.if-d.true)
+returns-then-accumulated c = let n = c.args.minutes in
+    let no-break = lt-leb full_break n (omega (arith, c.if-minutes-ge-FULL_BREAK.false)) in
+    let second = le-leb second_part n (omega (arith, c.if-minutes-lt-SECOND_PART.false)) in
+    c.cleared_sum-then-accumulated.ensures ∙ simp (no-break, second, c.if-accumulated.true)
 
-pub returns-then-d-eq0 : goal.returns-then-d-eq0
+pub returns-then-accumulated-eq0 : goal.returns-then-accumulated-eq0
 unfolding ◌or◌
-returns-then-d-eq0 c = let n = c.args.n in
-    let d = c.args.d in
-    let no-break = lt-leb full_break n (omega (arith, c.if-n-ge-FULL_BREAK.false)) in
-    let undriven = le-ltb 0 d.sum (omega (arith, c.if-d-eq0.true)) in
-    stays n d (simp (no-break, c.if-d.false, and-false (leb second_part n))) (simp (undriven, and-false (leb first_part n)))
+returns-then-accumulated-eq0 c = let n = c.args.minutes in
+    let d = c.args.accumulated in
+    let no-break = lt-leb full_break n (omega (arith, c.if-minutes-ge-FULL_BREAK.false)) in
+    let undriven = le-ltb 0 d.sum (omega (arith, c.if-accumulated-eq0.true)) in
+    stays n d (simp (no-break, c.if-accumulated.false, and-false (leb second_part n))) (simp (undriven, and-false (leb first_part n)))
 
 pub returns : goal.returns
 unfolding rested ◌or◌ ◌and◌
-returns c = let n = c.args.n in
-    let d = c.args.d in
-    let no-break = lt-leb full_break n (omega (arith, c.if-n-ge-FULL_BREAK.false)) in
-    let part = le-leb first_part n (omega (arith, c.if-n-lt-FIRST_PART.false)) in
-    let driven = lt-ltb 0 d.sum (omega (arith, c.if-d-eq0.false)) in
-    simp (no-break, c.if-d.false, and-false (leb second_part n), part, driven)
+returns c = let n = c.args.minutes in
+    let d = c.args.accumulated in
+    let no-break = lt-leb full_break n (omega (arith, c.if-minutes-ge-FULL_BREAK.false)) in
+    let part = le-leb first_part n (omega (arith, c.if-minutes-lt-FIRST_PART.false)) in
+    let driven = lt-ltb 0 d.sum (omega (arith, c.if-accumulated-eq0.false)) in
+    simp (no-break, c.if-accumulated.false, and-false (leb second_part n), part, driven)

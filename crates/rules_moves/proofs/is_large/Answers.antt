@@ -7,6 +7,6 @@ pub returns-then-week-gt-STORED_WEEK : goal.returns-then-week-gt-STORED_WEEK
 unfolding ◌or◌
 returns-then-week-gt-STORED_WEEK c = simp (lt-ltb _ _ c.if-week-gt-STORED_WEEK.true)
 
-pub returns : goal.returns
+pub returns-else-week-gt-STORED_WEEK : goal.returns-else-week-gt-STORED_WEEK
 unfolding ◌or◌
-returns c = simp (le-ltb _ _ c.if-week-gt-STORED_WEEK.false, c.carrier_of.ensures)
+returns-else-week-gt-STORED_WEEK c = simp (le-ltb _ _ c.if-week-gt-STORED_WEEK.false, c.carrier_of.ensures)

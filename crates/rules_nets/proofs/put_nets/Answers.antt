@@ -1,28 +1,24 @@
 -- `rules_nets::put_nets` meets its contract. Assumes nothing.
 use native.Mathlib.Omega.{arith}
-use Rattle.recording.proofs.Scanning.{first_room, next_room}
-use Rattle.rules_nets.proofs.NetWalk.{first_noting, next_noting, note_done, as_long}
+use Rattle.recording.proofs.Scanning.{origin_fits, next_fits}
+use Rattle.rules_nets.proofs.NetWalk.{first_run_noting, next_run_noting, note_done}
 use Rattle.rules_nets.proofs.put_nets.Goals as goal
 
-pub after_run-p-requires : goal.after_run-p-requires
-after_run-p-requires c = (omega arith, omega arith, first_room _ _ c.requires)
+pub after-place-requires : goal.after-place-requires
+after-place-requires c = origin_fits _ c.args.recording.words.now c.args.recording.within c.from.ensures c.origin.ensures
 
-pub loop-i-init : goal.loop-i-init
-loop-i-init c = rw c.fresh_day-d.ensures (first_noting _ _ _ c.requires c.after_run-p.ensures)
+pub loop-word-init : goal.loop-word-init
+loop-word-init c = rw c.beginning-day.ensures (first_run_noting _ c.args.recording.within c.from.ensures c.origin.ensures c.after-place.ensures)
 
-pub day_on-d-requires : goal.day_on-d-requires
-day_on-d-requires c = let inv = c.loop-i.invariant in
-    (inv.begun, inv.walking.from, omega (arith, inv.walking.room))
+pub after-day-requires : goal.after-day-requires
+after-day-requires c = let inv = c.loop-word.invariant in (inv.begun, inv.walking.from, omega (arith, inv.walking.room))
 
-pub after_run-p-requires-in-loop-i : goal.after_run-p-requires-in-loop-i
-after_run-p-requires-in-loop-i c = let inv = c.loop-i.invariant in
-    (inv.walking.from, inv.walking.count, next_room inv.walking (omega arith))
+pub after-place-requires-in-loop-word : goal.after-place-requires-in-loop-word
+after-place-requires-in-loop-word c = next_fits c.loop-word.invariant.walking c.loop-word-test.true c.from-run.ensures
 
-pub loop-i-preserved : goal.loop-i-preserved
-loop-i-preserved c = next_noting c.loop-i.invariant (omega arith) c.after_run-p-in-loop-i.ensures c.day_on-d.ensures.0 c.day_on-d.ensures.1
-
-pub shape_of-nets : goal.shape_of-nets
-shape_of-nets c = as_long c.loop-i.invariant
+pub loop-word-preserved : goal.loop-word-preserved
+loop-word-preserved c =
+    next_run_noting c.loop-word.invariant c.loop-word-test.true c.from-run.ensures c.after-place-in-loop-word.ensures c.after-day.ensures.day c.after-day.ensures.nets
 
 pub returns : goal.returns
-returns c = note_done c.loop-i.invariant (omega arith)
+returns c = note_done c.loop-word.invariant (omega arith)

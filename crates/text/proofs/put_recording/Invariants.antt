@@ -1,12 +1,22 @@
 -- `text::put_recording` meets its contract. Assumes nothing.
-use Prim.Native.Nat.{◌+◌, ◌-◌}
-use lib.ListN.{length, drop}
-use Rattle.recording.specs.Words.{minutes_of}
-use Rattle.text.proofs.Parts.{Writing}
+use mathlib.Core.Path.{◌≡◌}
+use Prim.Native.Nat.{◌+◌}
+use lib.ListN.{length}
+use Rattle.recording.specs.Words.{code_of, minutes_of}
+use Rattle.text.proofs.Parts.{Writing, body_text, left_text}
 use Rattle.text.proofs.put_recording.Given as goal
 
-abbrev pub invariant-walk : goal.invariant-walk
-invariant-walk l = Writing l.words l.initial.text l.initial.at l.text l.at l.left l.activity l.n l.i
+-- what is left, from the page that is reached, makes what the whole makes
+abbrev pub invariant-loop-run : goal.invariant-loop-run
+invariant-loop-run l = Writing l.initial.page (body_text l.words) (length (minutes_of l.words)) l.page l.left 0 0 l.rest
 
-abbrev pub decreases-walk : goal.decreases-walk
-decreases-walk l = l.n + length (minutes_of (drop l.i l.words)) + (length l.words - l.i)
+abbrev pub decreases-loop-run : goal.decreases-loop-run
+decreases-loop-run l = length l.rest
+
+-- .. and within a run, from the page where the run begins
+abbrev pub invariant-loop-minutes : goal.invariant-loop-minutes
+invariant-loop-minutes l = Writing l.initial.page (left_text l.initial.left (code_of l.run.activity) l.initial.minutes l.rest)
+    (l.initial.minutes + length (minutes_of l.rest)) l.page l.left (code_of l.run.activity) l.minutes l.rest
+
+abbrev pub decreases-loop-minutes : goal.decreases-loop-minutes
+decreases-loop-minutes l = l.minutes

@@ -1,35 +1,26 @@
 -- `text::read_text` meets its contract. Assumes nothing.
-use mathlib.Core.Path.{sym, ◌∙◌}
 use native.Mathlib.Omega.{arith}
-use borrow.Author.Tests.{not-true, not-false, lt-leb, le-leb}
-use Rattle.text.proofs.FormLaws.{few_words_read, not_formed, few_lent, all_read}
+use Rattle.text.proofs.FormLaws.{none_formed, some_formed, few_words_read, not_formed, few_lent, all_read}
 use Rattle.text.proofs.read_text.Goals as goal
 
-pub returns-then-not-judgement : goal.returns-then-not-judgement
-returns-then-not-judgement c = let k = not_formed c.args.text.now c.args.words.now (sym
-    c.judge-judgement.ensures.formed ∙ not-true _ c.if-not-judgement.true) in record { answer = k.answer; words_after = k.content }
+pub returns-in_default : goal.returns-in_default
+returns-in_default c =
+    let k = not_formed c.args.text.now c.args.words.now (none_formed _ _ c.in_default.ensures) in
+    record { answer = k.answer; words_after = k.content }
 
-pub returns-then-not-enough : goal.returns-then-not-enough
-returns-then-not-enough c = let k = few_lent c.args.text.now
-    c.args.words.now (sym
-    c.judge-judgement.ensures.formed ∙ not-false _ c.if-not-judgement.false)
-    c.judge-judgement.ensures.runs
-    (lt-leb _ _ c.if-not-enough.true) c.fill_if.ensures in
+pub returns-then-words-runs : goal.returns-then-words-runs
+returns-then-words-runs c =
+    let formed = some_formed _ _ c.in-Some.ensures in
+    let k = few_lent c.args.text.now c.args.words.now formed.0 formed.1 c.if-words-runs.true in
     record { answer = k.answer; words_after = k.content }
 
 pub overflow_cast-result : goal.overflow_cast-result
-overflow_cast-result c = omega (
-  arith,
-  c.judge-judgement.ensures.runs,
-  few_words_read
-      c.args.text.now (sym
-      c.judge-judgement.ensures.formed ∙ not-false _ c.if-not-judgement.false),
-)
+overflow_cast-result c =
+    let formed = some_formed _ _ c.in-Some.ensures in
+    omega (arith, formed.1, few_words_read c.args.text.now formed.0)
 
 pub returns : goal.returns
-returns c = let k = all_read c.args.text.now
-    c.args.words.now (sym
-    c.judge-judgement.ensures.formed ∙ not-false _ c.if-not-judgement.false)
-    c.judge-judgement.ensures.runs
-    (le-leb _ _ c.if-not-enough.false)
-    c.fill_if.ensures in record { answer = k.answer; words_after = k.content }
+returns c =
+    let formed = some_formed _ _ c.in-Some.ensures in
+    let k = all_read c.args.text.now c.args.words.now formed.0 formed.1 c.if-words-runs.false c.put_words.ensures in
+    record { answer = k.answer; words_after = k.content }

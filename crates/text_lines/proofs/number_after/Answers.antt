@@ -1,36 +1,19 @@
 -- `text_lines::number_after` meets its contract. Assumes nothing.
-use mathlib.Core.Path.{◌≡◌, refl, sym, ap, ◌∙◌}
-use Prim.Native.Nat.{◌-◌}
-use native.Mathlib.Omega.{arith}
-use lib.ListN.{length, take, drop}
-use Rattle.text_lines.specs.Reading.{number_from}
-use Rattle.text_lines.proofs.Bytes.{after_short, after_other, after_on, after_done}
-use Rattle.recording.proofs.Slices.{part_rest}
+use mathlib.Core.Path.{sym, ap, ◌∙◌}
+use Rattle.std.proofs.lemmas.Bool.Decides.{Decides-eqb}
+use Rattle.std.proofs.lemmas.Slice.Eq.{strip_prefix_is}
+use Rattle.std.specs.Prelude.{None, Some}
+use Rattle.text_lines.specs.Reading.{number_after}
+use Rattle.text_lines.specs.LineByLine.{unless_0}
+use Rattle.text_lines.proofs.Bytes.{after_name, after_other}
 use Rattle.text_lines.proofs.number_after.Goals as goal
 
-pub loop-i-init : goal.loop-i-init
-loop-i-init c = (omega arith, omega arith, refl)
-
-pub returns-then-i-line : goal.returns-then-i-line
-returns-then-i-line c = sym (c.loop-i.invariant.2 ∙ after_short c.args.name.now c.args.line.now
-    c.loop-i.i (omega arith) c.if-i-line.true)
-
-pub returns-then-line-i : goal.returns-then-line-i
-returns-then-line-i c = sym (c.loop-i.invariant.2 ∙ after_other c.args.name.now
-    c.args.line.now c.loop-i.i (omega arith) (omega arith) c.if-line-i.true)
-
-pub loop-i-preserved : goal.loop-i-preserved
-loop-i-preserved c = (
-  omega arith,
-  omega arith,
-  c.loop-i.invariant.2 ∙ after_on
-      c.args.name.now c.args.line.now
-      c.loop-i.i (omega arith) (omega arith) c.if-line-i.false,
-)
+pub returns-in_err-strip_prefix : goal.returns-in_err-strip_prefix
+returns-in_err-strip_prefix c =
+    let other = strip_prefix_is Decides-eqb c.args.line.now c.args.name.now None c.in_err-strip_prefix.ensures.cases in
+    c.from_residual.ensures ∙ sym (ap unless_0 (after_other c.args.name.now c.args.line.now other))
 
 pub returns : goal.returns
-returns c = let k : c.number_in.result ≡ number_from 0 (take (length c.args.line.now - c.loop-i.i) (drop
-    c.loop-i.i c.args.line.now)) = c.number_in.ensures in
-    k ∙ ap (number_from 0) (part_rest c.args.line.now c.loop-i.i) ∙ sym
-    (c.loop-i.invariant.2 ∙ after_done c.args.name.now
-    c.args.line.now c.loop-i.i (omega arith))
+returns c =
+    let named = strip_prefix_is Decides-eqb c.args.line.now c.args.name.now (Some c.in_ok-strip_prefix.field-0) c.in_ok-strip_prefix.ensures.cases in
+    c.number_in.ensures ∙ sym (ap unless_0 (ap (number_after c.args.name.now) named ∙ after_name c.args.name.now c.in_ok-strip_prefix.field-0.now))

@@ -1,59 +1,34 @@
 -- `verdict_breach::last_day` meets its contract. Assumes nothing.
-use mathlib.Core.Path.{refl, ◌∙◌}
 use native.Mathlib.Omega.{arith}
 use Rattle.verdict_breach.proofs.Halving.{start_halving, halve_up, halve_down, halved}
 use Rattle.verdict_breach.proofs.last_day.Goals as goal
 
 pub loop-high-init : goal.loop-high-init
-loop-high-init c = (start_halving _ _ _ c.requires.3 (omega arith), refl, refl, refl)
+loop-high-init c = start_halving _ _ _ c.requires.1 (omega arith)
 
 pub overflow_sub-high : goal.overflow_sub-high
-overflow_sub-high c = omega (arith, c.loop-high.invariant.0.order)
+overflow_sub-high c = omega (arith, c.loop-high.invariant.order)
 
 pub between-middle-requires : goal.between-middle-requires
 between-middle-requires c = (
-  omega (arith, c.loop-high.invariant.0.order, c.loop-high-test.true),
-  omega (arith, c.loop-high.invariant.0.within, c.requires.1),
+  omega (arith, c.loop-high.invariant.order, c.loop-high-test.true),
+  omega (arith, c.loop-high.invariant.within, c.args.rests.now.few),
 )
 
 pub day_readable-asked-requires : goal.day_readable-asked-requires
-day_readable-asked-requires c = (
-  c.requires.0,
-  c.requires.1,
-  c.requires.2,
-  omega (arith, c.between-middle.ensures.1, c.loop-high.invariant.0.within),
-)
+day_readable-asked-requires c = (c.requires.0, omega (arith, c.between-middle.ensures.1, c.loop-high.invariant.within))
 
 pub loop-high-smaller-then-asked : goal.loop-high-smaller-then-asked
 loop-high-smaller-then-asked c = omega (arith, c.between-middle.ensures.0, c.between-middle.ensures.1)
 
 pub loop-high-preserved-then-asked : goal.loop-high-preserved-then-asked
-loop-high-preserved-then-asked c = (
-  halve_up c.loop-high.invariant.0 c.day_readable-asked.ensures c.between-middle.ensures.0 c.between-middle.ensures.1 c.if-asked.true,
-  c.day_readable-asked.auto.nogoods ∙ c.loop-high.invariant.1,
-  c.day_readable-asked.auto.front ∙ c.loop-high.invariant.2,
-  c.day_readable-asked.auto.other ∙ c.loop-high.invariant.3,
-)
+loop-high-preserved-then-asked c = halve_up c.loop-high.invariant c.day_readable-asked.ensures c.between-middle.ensures.0 c.between-middle.ensures.1 c.if-asked.true
 
 pub loop-high-smaller : goal.loop-high-smaller
 loop-high-smaller c = omega (arith, c.between-middle.ensures.0, c.between-middle.ensures.1)
 
 pub loop-high-preserved : goal.loop-high-preserved
-loop-high-preserved c = (
-  halve_down c.loop-high.invariant.0 c.day_readable-asked.ensures c.between-middle.ensures.0 c.between-middle.ensures.1 c.if-asked.false,
-  c.day_readable-asked.auto.nogoods ∙ c.loop-high.invariant.1,
-  c.day_readable-asked.auto.front ∙ c.loop-high.invariant.2,
-  c.day_readable-asked.auto.other ∙ c.loop-high.invariant.3,
-)
-
-pub shape_of-nogoods : goal.shape_of-nogoods
-shape_of-nogoods c = c.loop-high.invariant.1
-
-pub shape_of-front : goal.shape_of-front
-shape_of-front c = c.loop-high.invariant.2
-
-pub shape_of-other : goal.shape_of-other
-shape_of-other c = c.loop-high.invariant.3
+loop-high-preserved c = halve_down c.loop-high.invariant c.day_readable-asked.ensures c.between-middle.ensures.0 c.between-middle.ensures.1 c.if-asked.false
 
 pub returns : goal.returns
-returns c = halved c.loop-high.invariant.0 (omega (arith, c.loop-high-test.false))
+returns c = halved c.loop-high.invariant (omega (arith, c.loop-high-test.false))

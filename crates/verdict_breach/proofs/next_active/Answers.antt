@@ -3,23 +3,26 @@ use native.Mathlib.Omega.{arith}
 use Rattle.verdict_breach.proofs.Actives.{first_on, first_active, next_room, next_on, next_there, all_rested}
 use Rattle.verdict_breach.proofs.next_active.Goals as goal
 
-pub returns-then-first-ne0 : goal.returns-then-first-ne0
-returns-then-first-ne0 c = first_active _ _ _ c.active_in-first.ensures c.requires.1 c.if-first-ne0.true c.lesser.ensures
+pub returns-in-Some : goal.returns-in-Some
+returns-in-Some c = first_active _ _ c.from-run.ensures c.active_in.ensures c.in-Some.is c.requires.0 c.min.ensures
 
-pub loop-i-init : goal.loop-i-init
-loop-i-init c = first_on _ _ _ c.active_in-first.ensures (omega arith)
+pub loop-word-init : goal.loop-word-init
+loop-word-init c = first_on c.from-run.ensures c.active_in.ensures c.in_default.is
 
-pub overflow_add-at : goal.overflow_add-at
-overflow_add-at c = record { fits = omega (arith, next_room c.loop-i.invariant c.loop-i-test.true, c.requires.0) }
+pub overflow_add-to : goal.overflow_add-to
+overflow_add-to c = record { fits = omega (arith, next_room c.loop-word.invariant c.loop-word-test.true c.from-run-in-loop-word.ensures, c.args.recording.within) }
 
-pub active_in-found-requires : goal.active_in-found-requires
-active_in-found-requires c = omega (arith, next_room c.loop-i.invariant c.loop-i-test.true, c.requires.0)
+pub active_in-requires-in-loop-word : goal.active_in-requires-in-loop-word
+active_in-requires-in-loop-word c = omega (arith, next_room c.loop-word.invariant c.loop-word-test.true c.from-run-in-loop-word.ensures, c.args.recording.within)
 
-pub returns-then-found-ne0 : goal.returns-then-found-ne0
-returns-then-found-ne0 c = next_there c.loop-i.invariant c.loop-i-test.true c.active_in-found.ensures c.requires.1 c.if-found-ne0.true c.lesser-then-found-ne0.ensures
+pub returns-in-Some-active_in : goal.returns-in-Some-active_in
+returns-in-Some-active_in c =
+    next_there c.loop-word.invariant c.loop-word-test.true c.from-run-in-loop-word.ensures c.active_in-in-loop-word.ensures c.in-Some-active_in.is c.requires.0
+    c.min-in-Some-active_in.ensures
 
-pub loop-i-preserved : goal.loop-i-preserved
-loop-i-preserved c = next_on c.loop-i.invariant c.loop-i-test.true c.active_in-found.ensures (omega arith)
+pub loop-word-preserved : goal.loop-word-preserved
+loop-word-preserved c =
+    next_on c.loop-word.invariant c.loop-word-test.true c.from-run-in-loop-word.ensures c.active_in-in-loop-word.ensures c.in_default-active_in.is
 
 pub returns : goal.returns
-returns c = all_rested c.loop-i.invariant (omega (arith, c.loop-i.invariant.within)) c.requires.1 c.requires.2
+returns c = all_rested c.loop-word.invariant (omega arith) c.requires.0 c.requires.1

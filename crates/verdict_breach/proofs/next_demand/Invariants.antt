@@ -2,8 +2,5 @@
 use Rattle.verdict_breach.proofs.Demands.{Demands}
 use Rattle.verdict_breach.proofs.next_demand.Given as goal
 
-abbrev pub invariant-loop-i : goal.invariant-loop-i
-invariant-loop-i l = Demands l.ends l.s l.next l.i
-
-abbrev pub decreases-loop-i : goal.decreases-loop-i
-decreases-loop-i l = l.i
+abbrev pub invariant-loop-end : goal.invariant-loop-end
+invariant-loop-end l = Demands l.ends l.s l.next l.end-index

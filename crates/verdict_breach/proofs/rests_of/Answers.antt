@@ -4,4 +4,4 @@ use Rattle.verdict_breach.proofs.Slices.{in_front}
 use Rattle.verdict_breach.proofs.rests_of.Goals as goal
 
 pub returns : goal.returns
-returns c = in_front c.survey_from-found.ensures c.requires.0 (omega arith) c.smallest_rule.ensures c.requires.1
+returns c = in_front c.survey_of-found.ensures c.args.recording.within (omega arith) c.smallest_rule.ensures c.requires

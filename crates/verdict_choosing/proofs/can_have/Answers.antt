@@ -1,49 +1,50 @@
 -- `verdict_choosing::can_have` meets its contract. Assumes nothing.
-use mathlib.Core.Path.{refl, sym, subst}
+use mathlib.Core.Path.{sym, ap}
 use mathlib.Core.Bool.{false≢true}
-use Prim.Native.Nat.{ℕ}
-use native.Mathlib.Omega.{arith}
-use Rattle.rules_items.specs.Items.{added_to}
-use Rattle.verdict_search.specs.Search.{course_of, Lent, with_compensations}
-use Rattle.verdict_choosing.proofs.Placing.{if_no, if_carry, limited, limited_with, lent_of, before_with, room_with, with_carrier}
+use mathlib.Core.List.{List}
+use Prim.Native.Nat.{ℕ, ◌+◌, ◌-◌, zero-le}
+use lib.ListN.{set}
+use Rattle.verdict_completion.specs.Completable.{at}
+use Rattle.verdict_completion.specs.Courses.{course_of}
+use Rattle.verdict_search.specs.Search.{with_compensations}
+use Rattle.verdict_merging.specs.Merging.{nothing}
+use Rattle.verdict_merging.proofs.Merging.{added_to-none}
+use Rattle.verdict_choosing.proofs.Placing.{if_no, if_carry, room_with, with_carrier, trial_same, trial_carrying, carried_on, before_with}
 use Rattle.verdict_choosing.proofs.can_have.Goals as goal
 
-pub carries-requires : goal.carries-requires
-carries-requires c = (limited c.requires.0, c.requires.1.within, c.requires.3, c.requires.4, c.requires.5)
-
 pub returns-then-not-carries : goal.returns-then-not-carries
-returns-then-not-carries c = let k = course_of c.args.starts.now c.args.ends.now c.args.nets.now c.args.compensations.now c.args.s in (
-  if_no
-      (λ g. c.carries.ensures.no (c.if-not-carries.true)
-      (record { carried = g.carried; fits = room_with k c.args.j c.args.w c.args.next c.args.outstanding.now c.args.x c.requires.0.sized.compensations_too g }))
-      refl c.requires.6,
-  λ h. absurd (false≢true h),
-  refl,
-)
+returns-then-not-carries c = let r = c.args.course.now in
+    let k = course_of r in record {
+      told =
+          if_no
+          (λ h. c.carries.ensures.no c.if-not-carries.true
+          (record { carried = h.carried; holds = room_with k c.args.j c.args.w c.args.next (nothing k) c.args.x r.one_each h }))
+          c.requires.ready;
+      holds = λ h. absurd (false≢true h);
+    }
 
-pub overflow_sub-ends : goal.overflow_sub-ends
-overflow_sub-ends c = omega (arith, c.requires.0.sized.lies.proper c.args.j c.requires.1.within)
-
-pub lacking-less-requires : goal.lacking-less-requires
-lacking-less-requires c = omega (arith, c.requires.0.sized.compensations_low c.args.j)
-
-pub completes_beside-requires : goal.completes_beside-requires
-completes_beside-requires c = let k = course_of c.args.starts.now c.args.ends.now c.args.nets.now c.args.compensations.now c.args.s in
-    let y = c.carries.ensures.yes (c.if-not-carries.false) in (
-      c.requires.0,
-      subst (λ (d : ℕ). Lent (with_compensations k (added_to c.args.compensations.now c.args.x d)) c.args.outstanding.now) (sym c.lacking-less.ensures)
-          (lent_of (limited_with k c.args.j (limited c.requires.0) c.args.x c.requires.4 y.fits) refl c.requires.0 refl),
-      c.requires.1,
-      before_with k (added_to c.args.compensations.now c.args.x c.lacking-less.result) c.requires.2,
-      c.requires.4,
-      c.requires.6,
-    )
+pub completes_beside-requires-2 : goal.completes_beside-requires-2
+completes_beside-requires-2 c = let r = c.args.course.now in
+    let k = course_of r in
+    let x = c.args.x in
+    let less = c.lacking-less.result in
+    let p = carried_on k c.args.j x c.if-x-eq0.false c.lacking-less.ensures
+    (ap (λ (l : List ℕ). set l (x - 1) (at l (x - 1) + less)) c.copy_from_slice.ensures.after) in record {
+      ready = c.requires.ready;
+      trial = trial_carrying k c.args.j x c.if-x-eq0.false (ap (with_compensations k) p);
+      rest = c.requires.rest;
+      next = before_with k _ c.requires.next;
+      number = c.requires.number;
+    }
 
 pub returns : goal.returns
-returns c = let k = course_of c.args.starts.now c.args.ends.now c.args.nets.now c.args.compensations.now c.args.s in
-    let y = c.carries.ensures.yes (c.if-not-carries.false) in (
-      if_carry (with_carrier k c.args.j c.args.w c.args.next c.args.outstanding.now c.args.x c.lacking-less.ensures y.carried)
-          c.completes_beside.ensures.0,
-      λ _. y.fits,
-      c.completes_beside.ensures.1,
-    )
+returns c = let r = c.args.course.now in
+    let k = course_of r in
+    let x = c.args.x in
+    let less = c.lacking-less.result in
+    let y = c.carries.ensures.yes c.if-not-carries.false in
+    let p = carried_on k c.args.j x c.if-x-eq0.false c.lacking-less.ensures
+    (ap (λ (l : List ℕ). set l (x - 1) (at l (x - 1) + less)) c.copy_from_slice.ensures.after) in record {
+      told = if_carry (with_carrier k c.args.j c.args.w c.args.next (nothing k) x (ap (with_compensations k) p) y.carried) c.completes_beside-2.ensures;
+      holds = λ _. y.holds;
+    }

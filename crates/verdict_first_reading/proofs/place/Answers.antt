@@ -1,134 +1,62 @@
 -- `verdict_first_reading::place` meets its contract. Assumes nothing.
-use mathlib.Core.Path.{refl, sym, ap, subst, ◌∙◌}
-use mathlib.Core.List.{List}
-use Prim.Native.Nat.{ℕ, ◌+◌, ◌≤◌}
-use native.Mathlib.Omega.{arith}
-use lib.ListN.{length}
-use Rattle.rules.specs.ReadingRules.{least_net}
-use Rattle.rules.specs.declared.Kind.TheVariants.{Weekly}
-use Rattle.rules.specs.declared.Standing.TheVariants.{Regular}
-use Rattle.verdict_completion.specs.Completable.{at, length_at}
-use Rattle.verdict_search.specs.Search.{course_of}
-use Rattle.verdict_search.proofs.Slots.{to_start}
-use Rattle.verdict_choosing.proofs.Placing.{limited, lent_same, sound_with, with_sound, weekly_same, at_rest_with}
-use Rattle.verdict_first_reading.proofs.Stepping.{at_rest, stepped_broken, stepped_short, stepped_as_daily, stepped_weekly, stepped_same, sound_renewed}
-use Rattle.verdict_first_reading.proofs.Stepping.{put_same, put_daily_same, limited_same, fits_same}
+use mathlib.Core.Path.{refl, ap}
+use Rattle.verdict_completion.specs.Courses.{course_with}
+use Rattle.verdict_completion.proofs.Courses.{lies_with}
+use Rattle.verdict_merging.proofs.Merging.{sound_renewed}
+use Rattle.verdict_first_reading.proofs.Stepping.{at_rest, stepped_broken, stepped_short, stepped_as_daily, stepped_weekly, stepped_nowhere}
 use Rattle.verdict_first_reading.proofs.place.Goals as goal
 
-pub advance-requires : goal.advance-requires
-advance-requires c = let k = course_of c.args.starts.now c.args.ends.now c.args.nets.now c.args.compensations.now c.args.s in
-    to_start k c.requires.0.sized.lies c.args.j c.args.st c.requires.0.sized.judged c.requires.3 c.requires.2
-
 pub returns-in_default : goal.returns-in_default
-returns-in_default c = let k = course_of c.args.starts.now c.args.ends.now c.args.nets.now c.args.compensations.now c.args.s in
-    stepped_broken k c.args.j c.args.st c.args.outstanding.now c.requires.0 c.requires.2 c.requires.3 c.args.nogoods.now c.args.reading.now
-    c.requires.5 c.advance.ensures c.in_default.is c.best_state.ensures
+returns-in_default c =
+    stepped_broken c.args.rests.now c.args.compensations.now c.requires.limited c.args.j c.args.st c.requires.before c.requires.within c.args.room.now c.args.reading.now
+    c.requires.ready c.advance.ensures c.in_default.is c.best.ensures
 
-pub offset_bounds-ends-j : goal.offset_bounds-ends-j
-offset_bounds-ends-j c = omega (arith, c.requires.3, c.requires.0.sized.few)
+pub put_daily-requires-clause-rest : goal.put_daily-requires-clause-rest
+put_daily-requires-clause-rest c =
+    at_rest c.args.rests.now c.args.compensations.now c.requires.limited c.args.j c.args.st c.requires.before c.requires.within c.advance.ensures c.in-Some.is
 
-pub bounds-ends-j : goal.bounds-ends-j
-bounds-ends-j c = omega (arith, c.requires.3, c.requires.0.sized.lies.ends_too)
+pub can_be_daily-requires-clause-rest : goal.can_be_daily-requires-clause-rest
+can_be_daily-requires-clause-rest c =
+    at_rest c.args.rests.now c.args.compensations.now c.requires.limited c.args.j c.args.st c.requires.before c.requires.within c.advance.ensures c.in-Some.is
 
-pub offset_bounds-starts-j-2 : goal.offset_bounds-starts-j-2
-offset_bounds-starts-j-2 c = omega (arith, c.requires.3, c.requires.0.sized.few)
+pub returns-then-rests-j : goal.returns-then-rests-j
+returns-then-rests-j c =
+    stepped_short c.args.rests.now c.args.compensations.now c.requires.limited c.args.j c.args.st c.requires.before c.requires.within c.advance.ensures c.in-Some.is
+    c.args.room.now c.args.reading.now c.put_daily.new.reading c.put_daily.result c.requires.ready c.if-rests-j.true c.put_daily.ensures
 
-pub bounds-starts-j-2 : goal.bounds-starts-j-2
-bounds-starts-j-2 c = c.requires.3
-
-pub overflow_sub-ends : goal.overflow_sub-ends
-overflow_sub-ends c = omega (arith, c.requires.0.sized.lies.proper c.args.j c.requires.3)
-
-pub offset_bounds-compensations-j : goal.offset_bounds-compensations-j
-offset_bounds-compensations-j c = omega (arith, c.requires.3, c.requires.0.sized.few)
-
-pub bounds-compensations-j : goal.bounds-compensations-j
-bounds-compensations-j c = omega (arith, c.requires.3, c.requires.0.sized.compensations_too)
-
-pub overflow_add-compensations : goal.overflow_add-compensations
-overflow_add-compensations c = omega (arith, c.requires.0.sized.compensations_low c.args.j)
-
-pub put_daily-requires : goal.put_daily-requires
-put_daily-requires c = let k = course_of c.args.starts.now c.args.ends.now c.args.nets.now c.args.compensations.now c.args.s in
-    let a = at_rest k c.args.j c.args.st c.args.outstanding.now c.requires.0 c.requires.2 c.requires.3 c.advance.ensures c.in-To.is in
-    (limited c.requires.0, a, c.requires.4)
-
-pub returns-then-ends-j : goal.returns-then-ends-j
-returns-then-ends-j c = let k = course_of c.args.starts.now c.args.ends.now c.args.nets.now c.args.compensations.now c.args.s in
-    stepped_short k c.args.j c.args.st c.args.outstanding.now c.requires.0 c.requires.2 c.requires.3 c.advance.ensures c.in-To.is
-    c.args.outstanding.now c.args.nogoods.now c.args.reading.now c.put_daily.new.reading refl c.put_daily.result
-    c.requires.5 c.if-ends-j.true c.put_daily.ensures
-
-pub can_be_daily-requires : goal.can_be_daily-requires
-can_be_daily-requires c = let k = course_of c.args.starts.now c.args.ends.now c.args.nets.now c.args.compensations.now c.args.s in
-    let a = at_rest k c.args.j c.args.st c.args.outstanding.now c.requires.0 c.requires.2 c.requires.3 c.advance.ensures c.in-To.is in
-    (c.requires.0, a, omega (arith, c.if-ends-j.false), c.requires.5)
-
-pub put_daily-requires-then-can_be_daily : goal.put_daily-requires-then-can_be_daily
-put_daily-requires-then-can_be_daily c = let k = course_of c.args.starts.now c.args.ends.now c.args.nets.now c.args.compensations.now c.args.s in
-    let a = at_rest k c.args.j c.args.st c.args.outstanding.now c.requires.0 c.requires.2 c.requires.3 c.advance.ensures c.in-To.is in
-    (limited_same {c = k} c.can_be_daily.ensures.1 (limited c.requires.0), at_rest_with k c.can_be_daily.new.compensations a, c.requires.4)
+pub put_daily-requires-then-can_be_daily-clause-rest : goal.put_daily-requires-then-can_be_daily-clause-rest
+put_daily-requires-then-can_be_daily-clause-rest c =
+    at_rest c.args.rests.now c.args.compensations.now c.requires.limited c.args.j c.args.st c.requires.before c.requires.within c.advance.ensures c.in-Some.is
 
 pub returns-then-can_be_daily : goal.returns-then-can_be_daily
-returns-then-can_be_daily c = let k = course_of c.args.starts.now c.args.ends.now c.args.nets.now c.args.compensations.now c.args.s in
-    let h = c.can_be_daily.ensures in
-    stepped_same {c = k} h.1
-    (stepped_as_daily k c.args.j c.args.st c.args.outstanding.now c.requires.0 c.requires.2 c.requires.3 c.advance.ensures c.in-To.is
-    c.can_be_daily.new.outstanding c.can_be_daily.new.nogoods c.args.reading.now
-    c.put_daily-then-can_be_daily.new.reading h.0.same c.put_daily-then-can_be_daily.result
-    c.requires.1 h.0.sound (h.0.yes c.if-can_be_daily.true) (put_daily_same {c = k} h.1 c.put_daily-then-can_be_daily.ensures))
+returns-then-can_be_daily c =
+    stepped_as_daily c.args.rests.now c.args.compensations.now c.requires.limited c.args.j c.args.st c.requires.before c.requires.within c.advance.ensures c.in-Some.is
+    c.can_be_daily.new.room c.args.reading.now c.put_daily-then-can_be_daily.new.reading c.put_daily-then-can_be_daily.result c.can_be_daily.ensures.ready
+    (c.can_be_daily.ensures.yes c.if-can_be_daily.true) c.put_daily-then-can_be_daily.ensures
 
-pub first_weekly-choice-requires : goal.first_weekly-choice-requires
-first_weekly-choice-requires c = let k = course_of c.args.starts.now c.args.ends.now c.args.nets.now c.args.compensations.now c.args.s in
-    let a = at_rest k c.args.j c.args.st c.args.outstanding.now c.requires.0 c.requires.2 c.requires.3 c.advance.ensures c.in-To.is in
-    let h = c.can_be_daily.ensures in (
-      lent_same {c = k} h.1 h.0.same c.requires.0,
-      at_rest_with k c.can_be_daily.new.compensations a,
-      subst (λ (p : List ℕ). least_net (Weekly Regular) + at p c.args.j ≤ length_at k c.args.j) (sym h.1) c.if-ends-j.false,
-      sound_with {c = k} h.1 h.0.sound,
-    )
+pub first_weekly-requires-clause-rest : goal.first_weekly-requires-clause-rest
+first_weekly-requires-clause-rest c =
+    at_rest c.args.rests.now c.args.compensations.now c.requires.limited c.args.j c.args.st c.requires.before c.requires.within c.advance.ensures c.in-Some.is
 
-pub put_weekly-next-requires : goal.put_weekly-next-requires
-put_weekly-next-requires c = let k = course_of c.args.starts.now c.args.ends.now c.args.nets.now c.args.compensations.now c.args.s in
-    let a = at_rest k c.args.j c.args.st c.args.outstanding.now c.requires.0 c.requires.2 c.requires.3 c.advance.ensures c.in-To.is in
-    let h = c.can_be_daily.ensures in
-    let f = c.first_weekly-choice.ensures in (
-      limited_same {c = k} (f.2 ∙ h.1) (limited c.requires.0),
-      at_rest_with k c.first_weekly-choice.new.compensations a,
-      c.requires.4,
-      λ l. fits_same {c = k} (f.2 ∙ h.1) ((weekly_same {c = k} h.1 h.0.same f.0).fits l),
-    )
+pub returns-in_default-first_weekly : goal.returns-in_default-first_weekly
+returns-in_default-first_weekly c =
+    stepped_nowhere c.args.rests.now c.args.compensations.now c.requires.limited c.args.j c.args.st c.requires.before c.requires.within c.advance.ensures c.in-Some.is
+    c.first_weekly.new.room c.args.reading.now c.first_weekly.ensures.ready (c.can_be_daily.ensures.no c.if-can_be_daily.false) c.in_default-first_weekly.ensures.first
 
-pub shape_of-compensations : goal.shape_of-compensations
-shape_of-compensations c = c.put_weekly-next.auto.compensations ∙ c.first_weekly-choice.auto.compensations ∙ c.can_be_daily.auto.compensations
-
-pub shape_of-outstanding : goal.shape_of-outstanding
-shape_of-outstanding c = ap length (c.first_weekly-choice.ensures.1 ∙ c.can_be_daily.ensures.0.same)
-
-pub shape_of-nogoods : goal.shape_of-nogoods
-shape_of-nogoods c = c.renew.auto.nogoods ∙ c.first_weekly-choice.auto.nogoods ∙ c.can_be_daily.auto.nogoods
-
-pub shape_of-front : goal.shape_of-front
-shape_of-front c = c.first_weekly-choice.auto.front ∙ c.can_be_daily.auto.front
-
-pub shape_of-other : goal.shape_of-other
-shape_of-other c = c.first_weekly-choice.auto.other ∙ c.can_be_daily.auto.other
-
-pub shape_of-known : goal.shape_of-known
-shape_of-known c = c.first_weekly-choice.auto.known ∙ c.can_be_daily.auto.known
-
-pub shape_of-beside : goal.shape_of-beside
-shape_of-beside c = c.first_weekly-choice.auto.beside ∙ c.can_be_daily.auto.beside
+pub put_weekly-next-requires-clause-rest : goal.put_weekly-next-requires-clause-rest
+put_weekly-next-requires-clause-rest c =
+    at_rest c.args.rests.now c.args.compensations.now c.requires.limited c.args.j c.args.st c.requires.before c.requires.within c.advance.ensures c.in-Some.is
 
 pub returns : goal.returns
-returns c = let k = course_of c.args.starts.now c.args.ends.now c.args.nets.now c.args.compensations.now c.args.s in
-    let h = c.can_be_daily.ensures in
-    let f = c.first_weekly-choice.ensures in
-    let d = course_of c.args.starts.now c.args.ends.now c.args.nets.now c.put_weekly-next.new.compensations c.args.s in
-    stepped_weekly k c.args.j c.args.st c.args.outstanding.now c.requires.0 c.requires.2 c.requires.3 c.advance.ensures c.in-To.is
-    c.first_weekly-choice.new.outstanding c.renew.new.nogoods c.args.reading.now
-    c.put_weekly-next.new.reading (f.1 ∙ h.0.same) c.put_weekly-next.result
-    c.requires.1 c.put_weekly-next.new.compensations c.first_weekly-choice.result.week c.first_weekly-choice.result.carrier
-    (sound_renewed {c = k} {d = d} c.requires.0.sized.lies (with_sound {c = k} h.1 f.3) (λ z. c.put_weekly-next.ensures.kept z ∙ (f.2 ∙ h.1))
-    refl c.renew.ensures)
-    (h.0.no c.if-can_be_daily.false) (weekly_same {c = k} h.1 h.0.same f.0) (put_same {c = k} (f.2 ∙ h.1) c.put_weekly-next.ensures)
+returns c = let rests = c.args.rests.now in
+    let p = c.put_weekly-next.new.compensations in
+    let ready = c.first_weekly.ensures.ready in
+    stepped_weekly rests c.args.compensations.now c.requires.limited c.args.j c.args.st c.requires.before c.requires.within c.advance.ensures c.in-Some.is
+    _ c.args.reading.now c.put_weekly-next.new.reading c.put_weekly-next.result p c.in-Some-first_weekly.choice.week c.in-Some-first_weekly.choice.carrier
+    (record {
+      one_each = ready.one_each;
+      sound =
+          sound_renewed {c = course_with rests c.args.compensations.now} {d = course_with rests p} (lies_with rests p) refl
+          (λ z. ap (course_with rests) (c.put_weekly-next.ensures.kept z)) ready.sound c.renew.ensures;
+    })
+    (c.can_be_daily.ensures.no c.if-can_be_daily.false) c.in-Some-first_weekly.ensures.first c.put_weekly-next.ensures

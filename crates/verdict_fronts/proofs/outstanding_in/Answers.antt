@@ -1,42 +1,14 @@
 -- `verdict_fronts::outstanding_in` meets its contract. Assumes nothing.
-use mathlib.Core.Path.{refl, sym, ◌∙◌}
-use native.Mathlib.Omega.{arith}
-use lib.ListN.{length-set}
-use Rattle.verdict_fronts.proofs.FrontLaws.{written_start, written_on, written_all, a_slot}
+use Rattle.std.proofs.Common.{◌≡◌, ◌++◌, ℕ, length, arith, subst}
+use lib.ListN.{length-append}
+use Rattle.verdict_completion.specs.Completable.{at}
+use Rattle.verdict_fronts.specs.Front.{outstanding_in}
+use Rattle.verdict_fronts.proofs.FrontLaws.{zeros_only, slots_are}
 use Rattle.verdict_fronts.proofs.outstanding_in.Goals as goal
 
-pub loop-i-init : goal.loop-i-init
-loop-i-init c = (omega arith, refl, written_start _ _ c.clear_slots.ensures)
-
-pub bounds-outstanding-i : goal.bounds-outstanding-i
-bounds-outstanding-i c = omega (
-  arith,
-  c.loop-i.invariant.1,
-  c.loop-i-test.true,
-  c.reductions_in-m.ensures,
-  c.clear_slots.auto.outstanding,
-  c.requires.2,
-)
-
-pub loop-i-preserved : goal.loop-i-preserved
-loop-i-preserved c = let of-loop = c.loop-i in
-    let more = c.loop-i-test.true in (
-      omega (arith, more),
-      length-set of-loop.outstanding _ _ ∙ of-loop.invariant.1,
-      written_on _ (omega (
-        arith,
-        of-loop.invariant.1,
-        more,
-        c.reductions_in-m.ensures,
-        c.clear_slots.auto.outstanding,
-        c.requires.2,
-      ))
-          (sym (a_slot c.args.front.now c.args.p of-loop.i (omega (arith, more, c.reductions_in-m.ensures)))) of-loop.invariant.2,
-    )
-
-pub shape_of-outstanding : goal.shape_of-outstanding
-shape_of-outstanding c = c.loop-i.invariant.1 ∙ c.clear_slots.auto.outstanding
-
 pub returns : goal.returns
-returns c = written_all (c.loop-i.invariant.1 ∙ c.clear_slots.auto.outstanding) (omega (arith, c.loop-i-test.false, c.reductions_in-m.ensures))
-    c.loop-i.invariant.2
+returns c = let long : length (c.copy_from_slice.new.self ++ c.fill.new.self) ≡ length c.args.outstanding.now =
+    simp length-append (omega (arith, c.split_at_mut-used.ensures.front_len, c.split_at_mut-used.ensures.back_len)) in
+    let none : (d : ℕ) → at c.fill.new.self d ≡ 0 = zeros_only _ (c.fill.ensures.after (λ y e. e)) in
+    subst (λ (k : ℕ). c.copy_from_slice.new.self ++ c.fill.new.self ≡ outstanding_in c.args.front.now c.args.p k) long
+    (rw (c.copy_from_slice.ensures.after, c.reductions_at-reductions.ensures) (slots_are c.args.front.now c.fill.new.self c.args.p c.requires.0 c.requires.1 none))

@@ -1,34 +1,20 @@
 -- `verdict_fronts::remove_dominated` meets its contract. Assumes nothing.
-use mathlib.Core.Path.{refl, ◌∙◌}
-use native.Mathlib.Omega.{arith}
-use Rattle.verdict_fronts.proofs.FrontLaws.{removed_start, removed_out, removed_on, removed_all}
+use Rattle.std.proofs.Common.{◌≡◌, ℕ, arith, subst}
+use Rattle.verdict_fronts.specs.Front.{entry_at, Removed}
+use Rattle.verdict_fronts.proofs.FrontLaws.{removed_out, removed_on, removed_stays, copied_within}
 use Rattle.verdict_fronts.proofs.remove_dominated.Goals as goal
+use Rattle.verdict_fronts.proofs.remove_dominated.Goals.{then-r-i, else-r-i}
 
-pub loop-i-init : goal.loop-i-init
-loop-i-init c = (omega arith, refl, removed_start _ _)
-
-pub dominates-requires : goal.dominates-requires
-dominates-requires c = (omega (arith, c.requires.1), omega (arith, c.requires.0, c.loop-i.invariant.1, c.loop-i-test.true))
-
-pub move_entry-requires : goal.move_entry-requires
-move_entry-requires c = let of-loop = c.loop-i in
-    let last = c.loop-i-test.true in
-    (omega (arith, c.requires.0, of-loop.invariant.1, last), omega (arith, c.requires.0, of-loop.invariant.1, last, of-loop.invariant.2.fewer))
-
-pub loop-i-preserved-then-not-dominates : goal.loop-i-preserved-then-not-dominates
-loop-i-preserved-then-not-dominates c = let of-move = c.move_entry in
-    let of-loop = c.loop-i in
-    (omega (arith, c.loop-i-test.true), of-move.auto.front ∙ of-loop.invariant.1, removed_on of-loop.invariant.2 of-move.ensures)
+pub loop-i-preserved-then-dominates : goal.loop-i-preserved-then-dominates
+loop-i-preserved-then-dominates c = removed_out c.loop-i.invariant (c.dominates.ensures c.if-dominates.true)
 
 pub loop-i-preserved : goal.loop-i-preserved
-loop-i-preserved c = let of-loop = c.loop-i in (
-  omega (arith, c.loop-i-test.true),
-  of-loop.invariant.1,
-  removed_out of-loop.invariant.2 (c.dominates.ensures (c.if-not-dominates.false)),
-)
-
-pub shape_of-front : goal.shape_of-front
-shape_of-front c = c.loop-i.invariant.1
+loop-i-preserved c = elim c.if-r-i.branch [
+  | then-r-i w ↦ let moved = w.copy_within.ensures.by_index in
+      rw w.front-is (removed_on c.loop-i.invariant
+      (copied_within c.loop-i.front w.copy_within.new.self (entry_at c.loop-i.i) (entry_at c.loop-i.r) _ (omega arith) moved.0 moved.1 moved.2) (λ l. absurd (omega arith)))
+  | else-r-i w ↦ rw w.front-is (removed_stays c.loop-i.invariant w.if-r-i.false)
+]
 
 pub returns : goal.returns
-returns c = removed_all c.loop-i.invariant.0 c.loop-i-test.false c.loop-i.invariant.2
+returns c = let e : c.loop-i.i ≡ c.args.n = omega arith in subst (λ (x : ℕ). Removed c.args.front.now c.loop-i.front c.args.new.now x c.loop-i.r) e c.loop-i.invariant

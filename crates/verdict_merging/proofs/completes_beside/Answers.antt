@@ -1,6 +1,36 @@
 -- `verdict_merging::completes_beside` meets its contract. Assumes nothing.
+use mathlib.Core.Path.{refl, sym, ◌∙◌}
+use native.Mathlib.Omega.{arith}
+use Rattle.verdict_completion.specs.Courses.{course_of}
+use Rattle.verdict_completion.proofs.Courses.{lies_with}
+use Rattle.verdict_merging.proofs.Merging.{as_many, front_in, trusted_in, sound_renewed}
 use Rattle.verdict_merging.proofs.completes_beside.Goals as goal
 
-pub asks_short-requires : goal.asks_short-requires
-asks_short-requires c = let p = c.requires in
-    (p.0, p.1, p.2, p.3, p.4, p.5, c.if-starts-le-SHORT_RESTS.true)
+pub merge_on-merges-requires : goal.merge_on-merges-requires
+merge_on-merges-requires c = let a = c.args.course.now in
+    let b = c.args.trial.now in
+    let t = c.requires.trial in record {
+      ready = record {
+        one_each = c.know_to.auto.slots ∙ c.ask_to-good.auto.slots ∙ c.requires.ready.one_each ∙ sym (as_many t);
+        sound =
+            sound_renewed {c = course_of a} {d = course_of b} (lies_with b.rests b.compensations.now) (sym (as_many t)) t.same c.know_to.ensures.sound c.renew-3.ensures;
+      };
+      within = omega (arith, c.past_carrier-to.ensures, c.requires.rest.within, c.requires.number, as_many t);
+      abreast = record { asked = c.ask_to-good.ensures.well c.if-good.false; known = front_in t c.know_to.ensures.well };
+    }
+
+pub returns : goal.returns
+returns c = let a = c.args.course.now in
+    let b = c.args.trial.now in
+    let t = c.requires.trial in
+    let asked = c.ask_to-good.ensures in
+    let merges = c.merge_on-merges.ensures in
+    record {
+      yes = λ e r. asked.from c.if-good.false (merges.yes e (trusted_in t (omega (arith, c.past_carrier-to.ensures)) (c.know_to.ensures.trusts r)));
+      no = λ e p. merges.no e (asked.leads c.if-good.false p);
+      ready = record {
+        one_each = merges.ready.one_each ∙ as_many t;
+        sound =
+            sound_renewed {c = course_of b} {d = course_of a} (lies_with a.rests a.compensations.now) refl (λ z. sym (t.same z)) merges.ready.sound c.renew-4.ensures;
+      };
+    }

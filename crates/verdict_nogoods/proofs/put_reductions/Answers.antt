@@ -1,27 +1,34 @@
 -- `verdict_nogoods::put_reductions` meets its contract. Assumes nothing.
-use mathlib.Core.Path.{refl, ◌∙◌}
-use native.Mathlib.Omega.{arith}
-use Rattle.verdict_nogoods.proofs.TableLaws.{put_start, put_on, put_few, put_room, put_end}
+use Rattle.std.proofs.Common.{arith}
+use native.Mathlib.Nat.{pos_of_ne-zero}
+use Rattle.verdict_nogoods.specs.Table.{PutAll}
+use Rattle.verdict_nogoods.proofs.TableLaws.{put_start, put_past, put_on, put_room}
 use Rattle.verdict_nogoods.proofs.put_reductions.Goals as goal
+use Rattle.verdict_nogoods.proofs.put_reductions.Goals.{then-reduction-ne0, else-reduction-ne0}
 
-pub loop-i-init : goal.loop-i-init
-loop-i-init c = (omega arith, refl, put_start _ _ _)
+pub loop-reduction-init : goal.loop-reduction-init
+loop-reduction-init c = put_start _ _ _
 
-pub put_reduction-d-requires : goal.put_reduction-d-requires
-put_reduction-d-requires c = let of-loop = c.loop-i in (
-  omega (arith, c.requires.0, of-loop.invariant.1),
-  put_few of-loop.invariant.2 c.requires.2 of-loop.invariant.0,
-  put_room of-loop.invariant.2 c.requires.2 c.loop-i-test.true,
-)
+pub bounds-words-p : goal.bounds-words-p
+bounds-words-p c = let room = put_room c.loop-reduction.invariant c.requires.few c.loop-reduction-test.true (pos_of_ne-zero c.if-reduction-ne0.true) in
+    omega (arith, room)
 
-pub loop-i-preserved : goal.loop-i-preserved
-loop-i-preserved c = let of-loop = c.loop-i in
-    let more = c.loop-i-test.true in
-    let of-put = c.put_reduction-d in
-    (omega (arith, more), of-put.auto.table ∙ of-loop.invariant.1, put_on (put_room of-loop.invariant.2 c.requires.2 more) of-put.ensures of-loop.invariant.2)
+pub overflow_add-words-then-reduction-ne0 : goal.overflow_add-words-then-reduction-ne0
+overflow_add-words-then-reduction-ne0 c = let room = put_room c.loop-reduction.invariant c.requires.few c.loop-reduction-test.true (pos_of_ne-zero c.if-reduction-ne0.true) in
+    omega (arith, room)
 
-pub shape_of-table : goal.shape_of-table
-shape_of-table c = c.loop-i.invariant.1
+pub offset_bounds-words-p : goal.offset_bounds-words-p
+offset_bounds-words-p c = let room = put_room c.loop-reduction.invariant c.requires.few c.loop-reduction-test.true (pos_of_ne-zero c.if-reduction-ne0.true) in
+    omega (arith, room)
 
-pub returns : goal.returns
-returns c = put_end c.loop-i.invariant.0 c.loop-i-test.false c.loop-i.invariant.2
+pub overflow_add-d : goal.overflow_add-d
+overflow_add-d c = let room = put_room c.loop-reduction.invariant c.requires.few c.loop-reduction-test.true (pos_of_ne-zero c.if-reduction-ne0.true) in
+    omega (arith, room)
+
+pub loop-reduction-preserved : goal.loop-reduction-preserved
+loop-reduction-preserved c = elim c.if-reduction-ne0.branch [
+  | then-reduction-ne0 w ↦ let is_one = pos_of_ne-zero w.if-reduction-ne0.true in
+      let room = put_room c.loop-reduction.invariant c.requires.few c.loop-reduction-test.true is_one in
+      rw (w.words-is, w.d-is) (put_on c.loop-reduction.invariant (omega arith) room is_one)
+  | else-reduction-ne0 w ↦ rw (w.words-is, w.d-is) (put_past c.loop-reduction.invariant w.if-reduction-ne0.false)
+]

@@ -1,14 +1,16 @@
 -- `verdict_spans::breach_spans` meets its contract. Assumes nothing.
-use Rattle.std.proofs.Common.{arith}
-use Rattle.recording_list.proofs.ListWalk.{can_step, told-due, stored_due}
-use Rattle.verdict_spans.proofs.Taking.{takes_all}
+use mathlib.Core.Path.{sym, ap}
+use native.Mathlib.Omega.{arith}
+use lib.ListN.{length}
+use lib.Seq.{length-take-le}
+use Rattle.verdict_spans.proofs.Putting.{spans_fit}
 use Rattle.verdict_spans.proofs.breach_spans.Goals as goal
 
-pub next_of-found-requires : goal.next_of-found-requires
-next_of-found-requires c = can_step (takes_all c.spans_of-found.ensures) c.loop-i.invariant c.loop-i-test.true
+pub slice_bounds-copy_from_slice-end : goal.slice_bounds-copy_from_slice-end
+slice_bounds-copy_from_slice-end c = omega (arith, spans_fit _ _ c.in_ok-spans.ensures, ap length c.list-found.ensures)
 
-pub returns-clause-answer : goal.returns-clause-answer
-returns-clause-answer c = rw c.answer_of.ensures (told-due (takes_all c.spans_of-found.ensures) c.loop-i.invariant (omega arith))
+pub slice_bounds-copy_from_slice-end-2 : goal.slice_bounds-copy_from_slice-end-2
+slice_bounds-copy_from_slice-end-2 c = sym (length-take-le _ _ (omega (arith, spans_fit _ _ c.in_ok-spans.ensures, ap length c.list-found.ensures)))
 
-pub returns-clause-list_after : goal.returns-clause-list_after
-returns-clause-list_after c = stored_due (takes_all c.spans_of-found.ensures) c.loop-i.invariant (omega arith)
+pub copy_from_slice-requires : goal.copy_from_slice-requires
+copy_from_slice-requires c = length-take-le _ _ (omega (arith, spans_fit _ _ c.in_ok-spans.ensures, ap length c.list-found.ensures))

@@ -21,9 +21,11 @@ word_after-head-requires c = omega (arith, c.requires.2.within, c.requires.2.beg
 pub overflow_sub-total : goal.overflow_sub-total
 overflow_sub-total c = omega (arith, seat_room c.requires.2, c.requires.1)
 
+pub invariant_of-recording : goal.invariant_of-recording
+invariant_of-recording c = let w = c.word_after-head.ensures in record { within = seat_limit c.requires.2 _ w.0 w.1 c.requires.0 }
+
 pub verdict_from-requires : goal.verdict_from-requires
-verdict_from-requires c = let w = c.word_after-head.ensures in
-    (seat_limit c.requires.2 _ w.0 w.1 c.requires.0, seat_total c.requires.2 _ w.0 w.1 c.requires.1)
+verdict_from-requires c = let w = c.word_after-head.ensures in seat_total c.requires.2 _ w.0 w.1 c.requires.1
 
 pub returns : goal.returns
 returns c = let w = c.word_after-head.ensures in

@@ -13,38 +13,37 @@ use Rattle.verdict_steps.proofs.StepLaws.{advance_on, advance_broken, advance_do
 use Rattle.verdict_steps.proofs.advance.Goals as goal
 
 pub loop-here-init : goal.loop-here-init
-loop-here-init c = (c.requires.3, le_refl _, refl)
+loop-here-init c = (c.requires.2, le_refl _, refl)
 
-pub returns-then-not-pair_kept : goal.returns-then-not-pair_kept
-returns-then-not-pair_kept c = let rests = rest_weeks (spans_in c.args.starts.now c.args.ends.now (length c.args.starts.now)) in
+pub returns-then-not-keeps_pair : goal.returns-then-not-keeps_pair
+returns-then-not-keeps_pair c = let rests = rest_weeks (spans_in c.args.rests.now.starts.now c.args.rests.now.ends.now (length c.args.rests.now.starts.now)) in
     sym (advance_broken rests c.loop-here.here c.args.to c.loop-here-test.true (sym
-    c.pair_kept.ensures ∙ c.if-not-pair_kept.true)) ∙ c.loop-here.invariant.2
+    c.keeps_pair.ensures ∙ c.if-not-keeps_pair.true)) ∙ c.loop-here.invariant.2
 
 pub rest_near-rest-requires : goal.rest_near-rest-requires
 rest_near-rest-requires c = let pre = c.requires in (
   pre.0,
-  pre.1,
-  omega (arith, pre.2, c.loop-here-test.true),
-  λ p. omega (arith, pre.4 p, c.loop-here.invariant.1),
-  λ l. omega (arith, pre.5 l, c.loop-here-test.true),
+  omega (arith, pre.1, c.loop-here-test.true),
+  λ p. omega (arith, pre.3 p, c.loop-here.invariant.1),
+  λ l. omega (arith, pre.4 l, c.loop-here-test.true),
 )
 
 pub loop-here-smaller : goal.loop-here-smaller
-loop-here-smaller c = omega (arith, ap (λ (x : State). x.week) c.next_week-here.ensures, c.loop-here-test.true)
+loop-here-smaller c = omega (arith, ap (λ (x : State). x.week) c.in_next_week-here.ensures, c.loop-here-test.true)
 
 pub loop-here-preserved : goal.loop-here-preserved
-loop-here-preserved c = let rests = rest_weeks (spans_in c.args.starts.now c.args.ends.now (length c.args.starts.now)) in
-    let there = c.next_week-here.ensures ∙ ap (λ (b : Bool). next_week b c.loop-here.here) c.rest_near-rest.ensures in (
-      subst Small (sym c.next_week-here.ensures) (next_small c.loop-here.here c.rest_near-rest.result
+loop-here-preserved c = let rests = rest_weeks (spans_in c.args.rests.now.starts.now c.args.rests.now.ends.now (length c.args.rests.now.starts.now)) in
+    let there = c.in_next_week-here.ensures ∙ ap (λ (b : Bool). next_week b c.loop-here.here) c.rest_near-rest.ensures in (
+      subst Small (sym c.in_next_week-here.ensures) (next_small c.loop-here.here c.rest_near-rest.result
           c.loop-here.invariant.0),
-      omega (arith, ap (λ (x : State). x.week) c.next_week-here.ensures, c.loop-here.invariant.1),
+      omega (arith, ap (λ (x : State). x.week) c.in_next_week-here.ensures, c.loop-here.invariant.1),
       ap (λ (x : State). advance rests (c.args.to - x.week) x) there
           ∙ sym (advance_on rests c.loop-here.here
           c.args.to c.loop-here-test.true (sym
-          c.pair_kept.ensures ∙ c.if-not-pair_kept.false))
+          c.keeps_pair.ensures ∙ c.if-not-keeps_pair.false))
           ∙ c.loop-here.invariant.2,
     )
 
 pub returns : goal.returns
-returns c = let rests = rest_weeks (spans_in c.args.starts.now c.args.ends.now (length c.args.starts.now)) in
+returns c = let rests = rest_weeks (spans_in c.args.rests.now.starts.now c.args.rests.now.ends.now (length c.args.rests.now.starts.now)) in
     sym (advance_done rests c.loop-here.here c.args.to c.loop-here-test.false) ∙ c.loop-here.invariant.2

@@ -3,6 +3,6 @@ use mathlib.Core.Path.{sym}
 use Rattle.verdict_steps.proofs.NearRests.{past_rests}
 use Rattle.verdict_steps.proofs.in_rest.Goals as goal
 
-pub returns-then-starts-j : goal.returns-then-starts-j
-returns-then-starts-j c = let args = c.args in
-    sym (past_rests args.starts.now args.ends.now _ _ c.requires.0 c.if-starts-j.true)
+pub returns-then-rests-j : goal.returns-then-rests-j
+returns-then-rests-j c = let rests = c.args.rests.now in
+    sym (past_rests rests.starts.now rests.ends.now _ _ rests.lies.ends_too c.if-rests-j.true)

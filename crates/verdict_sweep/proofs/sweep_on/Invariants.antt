@@ -1,17 +1,9 @@
 -- `verdict_sweep::sweep_on` meets its contract. Assumes nothing.
-use mathlib.Core.Path.{◌≡◌}
-use Prim.Native.Nat.{◌+◌, ◌-◌, ◌≤◌}
-use lib.ListN.{length}
-use Rattle.verdict_search.specs.Search.{course_of, Sound}
-use Rattle.verdict_search.proofs.Leading as led
-use Rattle.verdict_search.specs.Leading.{Any, Front}
+use mathlib.Core.Bool.{false}
+use Rattle.verdict_completion.specs.Courses.{course_of}
+use Rattle.verdict_sweep.specs.Sweep.{Passes}
 use Rattle.verdict_sweep.proofs.sweep_on.Given as goal
 
+-- the rests before that of index i are passed
 abbrev pub invariant-loop-i : goal.invariant-loop-i
-invariant-loop-i l = (l.i ≤ length l.starts + 1) × (length l.outstanding ≡ length l.initial.outstanding) × (length l.nogoods ≡ length l.initial.nogoods)
-    × (length l.front ≡ length l.initial.front) × (length l.other ≡ length l.initial.other) ×
-    (Sound (course_of l.starts l.ends l.nets l.compensations l.s) l.nogoods) × (Front (course_of l.starts l.ends l.nets l.compensations l.s) l.i l.front l.n) ×
-    led.Equal (Any (course_of l.starts l.ends l.nets l.compensations l.s) l.j l.initial.front l.f) (Any (course_of l.starts l.ends l.nets l.compensations l.s) l.i l.front l.n)
-
-abbrev pub decreases-loop-i : goal.decreases-loop-i
-decreases-loop-i l = length l.starts + 1 - l.i
+invariant-loop-i l = Passes (course_of l.course) l.j l.initial.fronts l.i l.fronts l.nogoods false

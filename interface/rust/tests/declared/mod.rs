@@ -19,7 +19,10 @@ pub fn exported(text: &str) -> Vec<Declared> {
 
 /// The records of Rattle or Rust with the layout of C.
 pub fn laid_out(text: &str) -> Vec<Declared> {
-    let text = text.replace("#[derive(Clone, Copy)]\n", "");
+    let text: String = text
+        .split_inclusive('\n')
+        .filter(|line| !line.starts_with("#[derive("))
+        .collect();
     marked("#[repr(C)]", "pub struct ", &without(&COMMENTS, &text))
 }
 

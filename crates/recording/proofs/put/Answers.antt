@@ -1,0 +1,7 @@
+-- `recording::put` meets its contract. Assumes nothing.
+use mathlib.Core.Path.{sym}
+use lib.Seq.{set_out}
+use Rattle.recording.proofs.put.Goals as goal
+
+pub returns-else-at-list : goal.returns-else-at-list
+returns-else-at-list g c = sym (set_out _ _ _ c.if-at-list.false)
