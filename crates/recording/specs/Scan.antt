@@ -1,12 +1,15 @@
 -- Inner: what the functions of this layer answer. Nobody has to believe it: no public contract cites it.
 -- Assumes nothing.
-use Rattle.std.specs.Prelude.{◌≡◌, Bool, false, List, [], ◌∷◌, ℕ, ◌+◌, ◌-◌, ◌≤◌, min, leb, eqb, length, drop, set}
+use Rattle.std.specs.Prelude.{◌≡◌, Bool, false, List, [], ◌∷◌, ℕ, ◌+◌, ◌-◌, ◌≤◌, min, leb, eqb, length, drop, set, Result, Ok, Err}
 use Rattle.recording.specs.Tests.{pick, one}
+use Rattle.recording.specs.Answers.{number_of}
 use Rattle.recording.specs.Words.{word_of, minutes_in, activity_in, minutes_of}
 use Rattle.recording.specs.Rests.{long_rest_minutes}
 use Rattle.recording.specs.Weeks.{is_rest}
 use Rattle.recording.specs.Operations.{total_at_most}
+use Rattle.recording.specs.declared.Measure.{Measure}
 use Rattle.recording.specs.declared.Place.{Place}
+use Rattle.recording.specs.declared.Refusal.{Refusal}
 use Rattle.recording.specs.declared.recorded.Recording.{Recording}
 use Rattle.recording.specs.declared.Span.{Span}
 
@@ -20,6 +23,11 @@ short_rests = 223
 -- the words of a recording: its first word, and those after it
 abbrev pub words_in : Recording → List ℕ
 words_in r = r.head ∷ r.words.now
+
+-- the number of weighing's refusal, and 0 of a measure
+abbrev pub refusal_in : Result Measure Refusal → ℕ
+refusal_in (Ok m) = 0
+refusal_in (Err r) = number_of r
 
 -- ---- the words of the first m minutes; those past it have none
 unfoldable pub cut_at : ℕ → List ℕ → List ℕ

@@ -1,7 +1,7 @@
 -- Public: words and minutes.
 -- Assumes nothing.
-use Rattle.std.specs.Prelude.{◌≡◌, Bool, List, [], ◌∷◌, ◌++◌, ℕ, ◌+◌, ◌*◌, ◌/◌, ◌%◌, eqb, replicate}
-use Rattle.recording.specs.Tests.{one}
+use Rattle.std.specs.Prelude.{◌≡◌, Bool, List, [], ◌∷◌, ◌++◌, ℕ, ◌+◌, ◌*◌, ◌/◌, ◌%◌, ltb, eqb, replicate}
+use Rattle.recording.specs.Tests.{pick, one}
 use Rattle.recording.specs.declared.Activity.{Activity}
 use Rattle.recording.specs.declared.Activity.TheVariants.{Rest, Availability, OtherWork, Driving}
 use Rattle.recording.specs.declared.Run.{Run}
@@ -31,6 +31,10 @@ other_work = 2
 
 abbrev pub driving : ℕ
 driving = 3
+
+-- the code that a number stands for; what is no code stands for other work, which is neither rest nor driving
+abbrev pub as_code : ℕ → ℕ
+as_code a = pick (ltb a activities) a other_work
 
 -- Only the list of minutes counts; each minute is its activity's code.
 unfoldable pub minutes_of : List ℕ → List ℕ

@@ -3,10 +3,10 @@
 
 ghost use Rattle.std.specs.Prelude.{◌≡◌, ◌+◌, ◌-◌, ◌≤◌, leb, length, set};
 ghost use Rattle.recording.specs.Answers.{answer_of, answered, number_of};
-ghost use Rattle.recording.specs.Words.{code_of, IsRunOf, minutes_in, minutes_of};
+ghost use Rattle.recording.specs.Words.{code_of, as_code, IsRunOf, minutes_in, minutes_of};
 ghost use Rattle.recording.specs.Rests.{long_rest_minutes};
 ghost use Rattle.recording.specs.Operations.{total_at_most, fault_of, unless_fault, total_from, measured};
-ghost use Rattle.recording.specs.Scan.{words_in, ends_rest, after_run, place_of, origin, Scanned};
+ghost use Rattle.recording.specs.Scan.{words_in, ends_rest, after_run, place_of, origin, refusal_in, Scanned};
 
 pub use recorded::Recording;
 
@@ -21,6 +21,21 @@ pub enum Activity {
     Driving,
 }
 
+impl Activity {
+    /// The activity of a code. What is no code is other work, which is neither rest nor driving.
+    pub fn from_code(code: u32) -> Activity
+        ensures { code_of result ≡ as_code code }
+    {
+        match code {
+            0 => Activity::Rest,
+            1 => Activity::Availability,
+            2 => Activity::OtherWork,
+            3 => Activity::Driving,
+            _ => Activity::OtherWork,
+        }
+    }
+}
+
 /// So many minutes of one activity, in a recording a word.
 #[derive(Clone, Copy, Debug, PartialEq, Eq)]
 pub struct Run {
@@ -32,14 +47,8 @@ impl From<u32> for Run {
     ghost from_gives = { IsRunOf };
 
     fn from(word: u32) -> Run {
-        let activity = match word % 4 {
-            0 => Activity::Rest,
-            1 => Activity::Availability,
-            2 => Activity::OtherWork,
-            _ => Activity::Driving,
-        };
         Run {
-            activity,
+            activity: Activity::from_code(word % 4),
             minutes: word / 4,
         }
     }
@@ -187,6 +196,18 @@ impl Place {
     }
 }
 
+/// The place after so many minutes of the activity of a code. What is no code is no rest.
+#[tactic(auto, unfolding(crate::specs::Scan::after_run))]
+pub fn after_run(place: Place, activity: u32, minutes: u32) -> Place
+    requires { (place.from ≤ place.now) × (place.count ≤ place.now) × (place.now + minutes ≤ total_at_most) }
+    ensures { result ≡ after_run place activity minutes }
+{
+    place.after(Run {
+        activity: Activity::from_code(activity),
+        minutes,
+    })
+}
+
 /// An item at a place, where the list reaches that far.
 pub fn put<T: Copy>(list: &mut [T], at: usize, item: T)
     ensures { list.new ≡ set list.old at item }
@@ -250,6 +271,13 @@ pub fn weigh(words: &[u32]) -> Result<Measure, Refusal>
         judged: place.from,
         count: place.count,
     })
+}
+
+/// The number of weighing's refusal, and 0 of a measure.
+pub fn refusal_of(weighing: Result<Measure, Refusal>) -> u32
+    ensures { result ≡ refusal_in weighing }
+{
+    weighing.map_or_else(u32::from, |_| 0)
 }
 
 /// Where each long rest starts and ends, written from the front of the lent slices as far as they reach; and the place at the end.
