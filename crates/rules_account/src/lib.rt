@@ -25,7 +25,7 @@ fn part_after(account: Account, part: Run) -> Account
         },
         Activity::Availability | Activity::OtherWork | Activity::Driving => {
             let rest = account.now - account.from;
-            let driving = rules_limits::driving_of(part);
+            let driving = rules_limits::driving_in(part);
             let day = account
                 .day
                 .after_rest(rest, account.now, week.end)
@@ -36,7 +36,7 @@ fn part_after(account: Account, part: Run) -> Account
                 rules_limits::rested_for(rest, account.accumulated),
             );
             let here = rules_limits::broken_at(now, day, week, accumulated);
-            let (broken, first) = rules_limits::breached_at(
+            let (broken, first) = rules_limits::breaches_after(
                 account.broken,
                 account.first,
                 now,

@@ -15,6 +15,7 @@ use Rattle.rules.specs.declared.Breaches.{Breaches}
 use Rattle.rules_limits.specs.declared.Day.{Day}
 use Rattle.rules_limits.specs.declared.Week.{Week}
 use Rattle.rules_limits.specs.declared.Break.{Break}
+use Rattle.rules_limits.specs.declared.NumberedBreak.{NumberedBreak}
 use Rattle.rules_limits.specs.declared.Account.{Account}
 
 -- ---- the day: after a rest of n minutes that ends at a minute of the week that ends at `end`; and a minute more of an activity
@@ -63,6 +64,10 @@ break_of now (Some r) = Some (record { at = now; rule = r })
 abbrev pub first_break : Option Break → ℕ → ℕ → Option Break
 first_break None now b = break_of now (rule_numbered b)
 first_break (Some f) now b = Some f
+
+-- the first breach by its rule's number, which is 0 where nothing is broken
+abbrev pub first_numbered : NumberedBreak → ℕ → ℕ → NumberedBreak
+first_numbered f now b = pick (eqb f.rule 0) (pick (eqb b 0) f (record { at = now; rule = b })) f
 
 -- ---- a minute
 unfoldable pub rest_minute : Account → Account

@@ -7,7 +7,7 @@ ghost use Rattle.recording.specs.Words.{code_of};
 ghost use Rattle.recording.specs.Operations.{total_at_most};
 ghost use Rattle.rules.specs.Numbers.{rule_or_none, place_or_none};
 ghost use Rattle.rules.specs.Fixed.{cleared, rested, either_broken, smallest_rule, first_article};
-ghost use Rattle.rules_limits.specs.Account.{day_after, week_next, broken_at, first_break, opening};
+ghost use Rattle.rules_limits.specs.Account.{day_after, week_next, broken_at, first_break, first_numbered, opening};
 ghost use Rattle.rules_limits.specs.Parts.{driving_of, day_more, week_more, accumulated_more};
 
 use recording::{Activity, Run};
@@ -34,6 +34,13 @@ pub struct Week {
 pub struct Break {
     pub at: u32,
     pub rule: Rule,
+}
+
+/// The same with the rule by its number, which is 0 where nothing is broken.
+#[derive(Clone, Copy, Debug, PartialEq, Eq)]
+pub struct NumberedBreak {
+    pub at: u32,
+    pub rule: u32,
 }
 
 // That its numbers stay within a recording's is said by `Bounded` where it is asked for: a ghost field would stand in each definition that says a minute.
@@ -76,13 +83,23 @@ const ACCUMULATED_AT_MOST: u32 = 270;
 const DAY_LENGTH: u32 = 900;
 
 /// How many minutes of a run are driving.
-pub fn driving_of(run: Run) -> u32
+pub fn driving_in(run: Run) -> u32
     ensures { result ≡ driving_of (code_of run.activity) run.minutes }
 {
     match run.activity {
         Activity::Driving => run.minutes,
         Activity::Rest | Activity::Availability | Activity::OtherWork => 0,
     }
+}
+
+/// How many of so many minutes of the activity of a code are driving. What is no code is no driving.
+pub fn driving_of(activity: u32, minutes: u32) -> u32
+    ensures { result ≡ driving_of activity minutes }
+{
+    driving_in(Run {
+        activity: Activity::from_code(activity),
+        minutes,
+    })
 }
 
 impl Day {
@@ -252,7 +269,7 @@ pub fn first_article(broken: Breaches) -> Option<Article>
 }
 
 /// What is broken, and the first breach, with what is broken at the minute that ends now; mostly nothing is.
-pub fn breached_at(
+pub fn breaches_after(
     broken: Breaches,
     first: Option<Break>,
     minute: u32,
@@ -265,6 +282,25 @@ pub fn breached_at(
         return (broken, first);
     };
     (broken | here, first.or(Some(Break { at: minute, rule })))
+}
+
+/// The same with the first breach by its rule's number.
+pub fn breached_at(
+    broken: Breaches,
+    first: NumberedBreak,
+    minute: u32,
+    here: Breaches,
+) -> (Breaches, NumberedBreak)
+    ensures broken { result.0 ≡ either_broken broken here }
+    ensures first { result.1 ≡ first_numbered first minute (smallest_rule here) }
+{
+    let rule = smallest_rule(here).map_or(0, u32::from);
+    let first = if first.rule == 0 && rule != 0 {
+        NumberedBreak { at: minute, rule }
+    } else {
+        first
+    };
+    (broken | here, first)
 }
 
 impl Account {

@@ -1,9 +1,9 @@
--- `rules_limits::breached_at` meets its contract. Assumes nothing.
+-- `rules_limits::breaches_after` meets its contract. Assumes nothing.
 use mathlib.Core.Path.{sym, ap, ◌∙◌}
 use Rattle.rules.specs.Numbers.{rule_or_none}
 use Rattle.rules.proofs.ArticleOrder.{rule_most}
 use Rattle.rules_limits.proofs.PartRight.{none_more, first_as_it_was, first_found}
-use Rattle.rules_limits.proofs.breached_at.Goals as goal
+use Rattle.rules_limits.proofs.breaches_after.Goals as goal
 
 pub returns-in_default-clause-broken : goal.returns-in_default-clause-broken
 returns-in_default-clause-broken c = sym (none_more _ _ (sym c.smallest_rule.ensures ∙ ap rule_or_none c.in_default.is))
