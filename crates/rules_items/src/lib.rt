@@ -250,7 +250,7 @@ pub fn reduction(kind: Kind) -> u32
 }
 
 /// The smaller of two broken rules.
-pub fn smaller_of(a: Option<Rule>, b: Option<Rule>) -> Option<Rule>
+pub fn smaller_rule(a: Option<Rule>, b: Option<Rule>) -> Option<Rule>
     ensures { rule_or_none result ≡ smaller (rule_or_none a) (rule_or_none b) }
 {
     let Some(x) = a else {
@@ -260,6 +260,13 @@ pub fn smaller_of(a: Option<Rule>, b: Option<Rule>) -> Option<Rule>
         return a;
     };
     if u32::from(x) <= u32::from(y) { a } else { b }
+}
+
+/// The smaller of two broken rules by their numbers, where 0 is none.
+pub fn smaller_of(a: u32, b: u32) -> u32
+    ensures { result ≡ smaller a b }
+{
+    if a == 0 || b != 0 && b < a { b } else { a }
 }
 
 // The smallest of rules 8 to 10 that a rest breaks.
@@ -309,7 +316,7 @@ impl Tally {
         let timely = r.in_time(x.week, x.carrier, end, s);
         let near = r.in_gap(self.last);
         Tally {
-            rule: smaller_of(self.rule, broken_by(timely, short, near)),
+            rule: smaller_rule(self.rule, broken_by(timely, short, near)),
             short,
             last: self.last_after(r),
         }

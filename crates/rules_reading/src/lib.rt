@@ -109,7 +109,7 @@ fn later_test(rests: Rests, reading: &[u8], compensations: &mut [u32], s: u32) -
     let Some(tally) = rest_walk(rests, reading, compensations, &mut counts, s) else {
         return Some(Rule::NetLength);
     };
-    let broken = rules_items::smaller_of(tally.rule, gap_rule(tally.last, s));
+    let broken = rules_items::smaller_rule(tally.rule, gap_rule(tally.last, s));
     if broken.is_some() {
         return broken;
     }

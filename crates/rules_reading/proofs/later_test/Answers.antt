@@ -11,12 +11,12 @@ returns-in_default c = later_seven _ _ _ _ _ _ (sym c.if-not-form_test.false ∙
 
 pub returns-then-is_some : goal.returns-then-is_some
 returns-then-is_some c = later_broken _ _ _ _ _ _ (sym c.if-not-form_test.false ∙ c.form_test.ensures) (rw c.in-Some.is at c.rest_walk.ensures) c.gap_rule.ensures
-    c.smaller_of-broken.ensures (one_broken _ (sym c.is_some.ensures ∙ c.if-is_some.true))
+    c.smaller_rule-broken.ensures (one_broken _ (sym c.is_some.ensures ∙ c.if-is_some.true))
 
 pub returns-then-pairs_test : goal.returns-then-pairs_test
 returns-then-pairs_test c = rw c.if-pairs_test.true at (later_last _ _ _ _ _ _ (sym c.if-not-form_test.false ∙ c.form_test.ensures) (rw c.in-Some.is at c.rest_walk.ensures) c.gap_rule.ensures
-    c.smaller_of-broken.ensures (none_broken _ (sym c.is_some.ensures ∙ c.if-is_some.false)) c.requires.judged c.pairs_test.ensures)
+    c.smaller_rule-broken.ensures (none_broken _ (sym c.is_some.ensures ∙ c.if-is_some.false)) c.requires.judged c.pairs_test.ensures)
 
 pub returns-else-pairs_test : goal.returns-else-pairs_test
 returns-else-pairs_test c = rw c.if-pairs_test.false at (later_last _ _ _ _ _ _ (sym c.if-not-form_test.false ∙ c.form_test.ensures) (rw c.in-Some.is at c.rest_walk.ensures) c.gap_rule.ensures
-    c.smaller_of-broken.ensures (none_broken _ (sym c.is_some.ensures ∙ c.if-is_some.false)) c.requires.judged c.pairs_test.ensures)
+    c.smaller_rule-broken.ensures (none_broken _ (sym c.is_some.ensures ∙ c.if-is_some.false)) c.requires.judged c.pairs_test.ensures)

@@ -6,7 +6,7 @@ use Rattle.rules_items.proofs.Tally.after.Goals as goal
 pub returns : goal.returns
 unfolding tally_by broken_by
 returns c = rw (
-  c.smaller_of.ensures,
+  c.smaller_rule.ensures,
   c.broken_by.ensures,
   c.in_gap-near.ensures,
   c.in_time-timely.ensures,
