@@ -74,7 +74,7 @@ fn pairs_test(rests: Rests, counts: &WeekCounts, s: u32) -> bool
     requires few { Few compensation_at_most counts.now }
     ensures { result ≡ rule11_with (rest_weeks (spans_among rests.entry)) s counts.now.weekly counts.now.regular }
 {
-    for w in 0..s / recording::WEEK_MINUTES {
+    for w in (0..s / recording::WEEK_MINUTES).rev() {
         if !rules_items::pair_kept(rests, counts, s, w) {
             return false;
         }
