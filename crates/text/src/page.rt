@@ -22,15 +22,17 @@ impl<'a> Page<'a> {
         Page { bytes, len: 0 }
     }
 
-    /// Bytes after those so far.
+    /// Bytes after those so far. The place is counted apart, so that no byte that is put waits for the page's length.
     pub fn put(&mut self, text: &[u8])
         requires { self.old.len + length text.now ≤ places }
         ensures { Puts self.old text.now self.new }
     {
+        let mut at = self.len;
         for &byte in text {
-            recording::put(self.bytes, self.len, byte);
-            self.len += 1;
+            recording::put(self.bytes, at, byte);
+            at += 1;
         }
+        self.len = at;
     }
 
     // The digit of n at a place of this value, where n reaches that far.

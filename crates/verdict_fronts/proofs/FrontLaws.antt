@@ -9,9 +9,8 @@ use native.Mathlib.Omega.{arith}
 use lib.ListN.{length, length-append, length-drop, take, drop, replicate, get_or-append, get_or-eq_default}
 use lib.Seq.{get_or-append_right, drop-drop, length-take-le}
 use borrow.Author.Count.{below_more}
-use Rattle.std.proofs.lemmas.List.{get_or-replicate, length-replicate}
+use Rattle.std.proofs.lemmas.List.{get_or-replicate, get_or-take, get_or-drop, length-replicate}
 use Rattle.std.proofs.Common.{min, ◌++◌}
-use Rattle.std.specs.List.{CopiedTo, SameBelow, SameFrom}
 use borrow.Author.Tests.{lt-ltb, le-ltb}
 use Rattle.recording.specs.Tests.{pick}
 use Rattle.recording.proofs.TestLaws.{less_or_not}
@@ -84,16 +83,6 @@ dominated_on {a} {b} {m} {e} this before = below_more (λ (i : ℕ). Dominated b
 pub copied_self : (t : List ℕ) (p q : ℕ) → p ≡ q → Copied t t t p q
 copied_self t p q e = subst (λ (x : ℕ). Copied t t t p x) e (record { there = same_self t p; other = λ x _. refl })
 
-pub copied_within : (t t' : List ℕ) (p q k : ℕ) → k ≡ entry_words → CopiedTo t t' p q k → SameBelow t t' q → SameFrom t t' (q + k) → Copied t t' t p q
-copied_within t t' p q k size moved below above = record {
-  there = record { word = λ d l. moved (q + d) 0 (omega arith) (omega arith) ∙ ap (at t) (let e : p + (q + d - q) ≡ p + d = omega arith in e) };
-  other = λ x h. go x h;
-}
-  where
-    go : (x : ℕ) → (x < q) ⊎ (q + entry_words ≤ x) → at t' x ≡ at t x
-    go x (inl l) = below x 0 l
-    go x (inr l) = above x 0 (omega arith)
-
 pub copied_in : (t new : List ℕ) (q k : ℕ) → k ≡ entry_words → q + entry_words ≤ length t → length new ≡ entry_words → Copied t (take q t ++ (new ++ drop k (drop q t))) new 0 q
 copied_in t new q k same room size = subst (λ (l : List ℕ). Copied t (take q t ++ (new ++ l)) new 0 q)
     (ap (λ (x : ℕ). drop (q + x) t) (size ∙ sym same) ∙ sym (drop-drop k q t)) (record {
@@ -104,6 +93,21 @@ copied_in t new q k same room size = subst (λ (l : List ℕ). Copied t (take q 
     go : (x : ℕ) → (x < q) ⊎ (q + entry_words ≤ x) → at (spliced t new q (let k : q + length new ≤ length t = omega arith in k)) x ≡ at t x
     go x (inl l) = spliced_out t new q (omega arith) x (inl l)
     go x (inr l) = spliced_out t new q (omega arith) x (inr (omega arith))
+
+pub moved_in : (t new : List ℕ) (p q n k : ℕ) → n ≡ entry_words → k ≡ entry_words → p + entry_words ≤ length t → q + entry_words ≤ length t → new ≡ take n (drop p t)
+    → Copied t (take q t ++ (new ++ drop k (drop q t))) t p q
+moved_in t new p q n k same' same from room e = record {
+  there = record { word = λ d l. c.there.word d l ∙ ap (λ (xs : List ℕ). at xs (0 + d)) e ∙ get_or-take n (drop p t) (0 + d) 0 (omega arith) ∙ get_or-drop p t (0 + d) 0
+      ∙ ap (at t) (let z : p + (0 + d) ≡ p + d = omega arith in z) };
+  other = c.other;
+}
+  where
+    long : n ≤ length (drop p t)
+    long = rw length-drop (omega arith)
+    size : length new ≡ entry_words
+    size = ap length e ∙ length-take-le n (drop p t) long ∙ same'
+    c : Copied t (take q t ++ (new ++ drop k (drop q t))) new 0 q
+    c = copied_in t new q k same room size
 
 pub put_length : (t new : List ℕ) (q k : ℕ) → k ≡ entry_words → q + entry_words ≤ length t → length new ≡ entry_words → length (take q t ++ (new ++ drop k (drop q t))) ≡ length t
 put_length t new q k same room size = let l : q ≤ length t = omega arith in simp (length-append, length-drop) (omega (arith, length-take-le q t l))

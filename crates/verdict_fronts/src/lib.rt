@@ -4,7 +4,7 @@
 
 ghost use Rattle.std.specs.Prelude.{◌≡◌, true, ◌+◌, ◌<◌, ◌≤◌, length, MatchOption};
 ghost use Rattle.verdict_nogoods.specs.Table.{reductions_at_most, entry_words, reductions_of};
-ghost use Rattle.verdict_fronts.specs.Front.{entry_at, outstanding_in, Dominates, Dominated, AllDominated, Removed, Placed, Inserted};
+ghost use Rattle.verdict_fronts.specs.Front.{entry_at, outstanding_in, Copied, Dominates, Dominated, AllDominated, Removed, Placed, Inserted};
 
 use verdict_completion::State;
 pub use verdict_nogoods::state_in;
@@ -41,6 +41,16 @@ pub fn all_matched(known: &[u32], g: usize, front: &[u32], n: usize) -> bool
     0 < g
 }
 
+// The entry at p also stands at q. It goes by way of an array, so that its length is known where it is copied.
+fn move_entry(front: &mut [u32], p: usize, q: usize)
+    requires { (p + entry_words ≤ length front.old) × (q + entry_words ≤ length front.old) }
+    ensures { Copied front.old front.new front.old p q }
+{
+    let mut entry = [0; ENTRY_WORDS];
+    entry.copy_from_slice(&front[p..p + ENTRY_WORDS]);
+    front[q..q + ENTRY_WORDS].copy_from_slice(&entry);
+}
+
 // The entries that the new one is at least as good as are removed, the others move up; how many are left.
 fn remove_dominated(front: &mut [u32], n: usize, new: &[u32]) -> usize
     requires { (entry_at n ≤ length front.old) × (entry_words ≤ length new.now) }
@@ -53,7 +63,7 @@ fn remove_dominated(front: &mut [u32], n: usize, new: &[u32]) -> usize
             continue;
         }
         if r < i {
-            front.copy_within(p..p + ENTRY_WORDS, ENTRY_WORDS * r);
+            move_entry(front, p, ENTRY_WORDS * r);
         }
         r += 1;
     }

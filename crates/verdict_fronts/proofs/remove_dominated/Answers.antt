@@ -1,7 +1,7 @@
 -- `verdict_fronts::remove_dominated` meets its contract. Assumes nothing.
 use Rattle.std.proofs.Common.{◌≡◌, ℕ, arith, subst}
-use Rattle.verdict_fronts.specs.Front.{entry_at, Removed}
-use Rattle.verdict_fronts.proofs.FrontLaws.{removed_out, removed_on, removed_stays, copied_within}
+use Rattle.verdict_fronts.specs.Front.{Removed}
+use Rattle.verdict_fronts.proofs.FrontLaws.{removed_out, removed_on, removed_stays}
 use Rattle.verdict_fronts.proofs.remove_dominated.Goals as goal
 use Rattle.verdict_fronts.proofs.remove_dominated.Goals.{then-r-i, else-r-i}
 
@@ -10,9 +10,7 @@ loop-i-preserved-then-dominates c = removed_out c.loop-i.invariant (c.dominates.
 
 pub loop-i-preserved : goal.loop-i-preserved
 loop-i-preserved c = elim c.if-r-i.branch [
-  | then-r-i w ↦ let moved = w.copy_within.ensures.by_index in
-      rw w.front-is (removed_on c.loop-i.invariant
-      (copied_within c.loop-i.front w.copy_within.new.self (entry_at c.loop-i.i) (entry_at c.loop-i.r) _ (omega arith) moved.0 moved.1 moved.2) (λ l. absurd (omega arith)))
+  | then-r-i w ↦ rw w.front-is (removed_on c.loop-i.invariant w.move_entry.ensures (λ l. absurd (omega arith)))
   | else-r-i w ↦ rw w.front-is (removed_stays c.loop-i.invariant w.if-r-i.false)
 ]
 

@@ -7,10 +7,10 @@ use Rattle.text.proofs.page.Page.put.Goals as goal
 pub loop-byte-preserved : goal.loop-byte-preserved
 loop-byte-preserved c =
     let k = c.loop-byte.invariant in
-    record { len = omega arith; bytes = k.bytes ∙ put_on _ _ _ _ c.loop-byte-test.true c.put.ensures; same = k.same }
+    record { at = omega arith; bytes = k.bytes ∙ put_on _ _ _ _ c.loop-byte-test.true c.put.ensures; same = k.same }
 
 pub returns : goal.returns
 returns c =
     let k = c.loop-byte.invariant in
-    let done = put_done c.loop-byte.self.bytes.now c.args.text.now c.loop-byte.self.len c.loop-byte.byte-index (omega arith) in
-    record { put = record { next_is = omega (arith, k.len); text_is = sym (k.bytes ∙ done) }; same = k.same }
+    let done = put_done c.loop-byte.self.bytes.now c.args.text.now c.loop-byte.at c.loop-byte.byte-index (omega arith) in
+    record { put = record { next_is = omega (arith, k.at); text_is = sym (k.bytes ∙ done) }; same = k.same }

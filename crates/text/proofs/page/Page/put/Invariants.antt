@@ -7,7 +7,7 @@ use Rattle.text.proofs.page.Page.put.Given as goal
 
 abbrev pub invariant-loop-byte : goal.invariant-loop-byte
 invariant-loop-byte l = record {
-  len : l.self.len ≡ l.initial.self.len + l.byte-index;
-  bytes : sets l.initial.self.bytes.now l.initial.self.len l.text ≡ sets l.self.bytes.now l.self.len (drop l.byte-index l.text);
+  at : l.at ≡ l.initial.self.len + l.byte-index;
+  bytes : sets l.initial.self.bytes.now l.initial.self.len l.text ≡ sets l.self.bytes.now l.at (drop l.byte-index l.text);
   same : l.self.bytes.ghost_name ≡ l.initial.self.bytes.ghost_name;
 }
