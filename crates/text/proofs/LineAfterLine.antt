@@ -47,10 +47,27 @@ pub stage_done : {left : List Line} → left ≡ [] → (s : Stage) → stage_fr
 unfolding stage_from
 stage_done e s = ap (stage_from s) e
 
+-- nothing mends a wrong line
+pub wrong_stays : (ls : List Line) → stage_from stage.Wrong ls ≡ stage.Wrong
+unfolding stage_from stage_after
+wrong_stays [] = refl
+wrong_stays (l ∷ ls) = ap (λ (s : Stage). stage_from s ls) (after_wrong l) ∙ wrong_stays ls
+  where
+    after_wrong : (l : Line) → stage_after stage.Wrong l ≡ stage.Wrong
+    after_wrong line.Recording = refl
+    after_wrong line.Week = refl
+    after_wrong line.Closing = refl
+    after_wrong (line.Run w) = refl
+    after_wrong line.Other = refl
+
 -- the text is over, or not
 pub over_told : (text : List ℕ) {s : Stage} → stage_from stage.Before (lines_in text) ≡ s → is_over s ≡ is_text text
 unfolding is_text
 over_told text e = sym (ap is_over e)
+
+-- after a wrong line the text is none of the form
+pub wrong_told : (text : List ℕ) {s : Stage} (ls : List Line) → stage_from stage.Before (lines_in text) ≡ stage_from s ls → s ≡ stage.Wrong → false ≡ is_text text
+wrong_told text {s} ls e w = over_told text (e ∙ ap (λ (t : Stage). stage_from t ls) w ∙ wrong_stays ls)
 
 pub not_over : (s : Stage) → (s ≡ stage.Over → ⊥) → is_over s ≡ false
 not_over stage.Before z = refl

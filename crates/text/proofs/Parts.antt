@@ -6,8 +6,8 @@ use mathlib.Core.List.{List, [], ◌∷◌, ◌++◌, append-nil, append_assoc}
 use Prim.Native.Nat.{ℕ, zero, suc, ◌+◌, ◌-◌, ◌*◌, ◌≤◌, ◌<◌, min}
 use native.Mathlib.Omega.{arith}
 use lib.Dec.{eqb}
-use lib.ListN.{length, take, drop, get_or, replicate, length-append, length-drop, length-replicate, replicate-append-replicate}
-use lib.Seq.{take-append-add, drop-append-add, take_at, drop_at, take-nil, drop-nil, drop-drop, sets, drop-length}
+use lib.ListN.{length, take, drop, replicate, length-append, length-drop, length-replicate, replicate-append-replicate}
+use lib.Seq.{take-append-add, drop-append-add, take_at, drop_at, take-nil, drop-nil, sets}
 use borrow.Author.Tests.{eq-eqb, ne_eqb, eqb-true, eqb-false}
 use Rattle.recording.specs.Tests.{pick}
 use Rattle.recording.specs.Words.{activities, code_of, word_of, minutes_in, activity_in, minutes_of}

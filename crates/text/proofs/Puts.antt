@@ -6,7 +6,7 @@ use Prim.Native.Nat.{ℕ, suc, ◌+◌, ◌/◌, ◌%◌, ◌≤◌, ◌<◌}
 use native.Mathlib.Numerals.{add-one}
 use native.Mathlib.Omega.{arith}
 use lib.ListN.{length, drop, get_or, set, length-append}
-use lib.Seq.{drop-cons, drop-length, sets, length-sets}
+use lib.Seq.{drop-cons, drop-length, set_out, sets, length-sets}
 use lib.Dec.{eqb, ltb}
 use borrow.Author.Tests.{lt-ltb, le-ltb}
 use Rattle.recording.specs.Tests.{pick}
@@ -50,6 +50,11 @@ put_on {u} t bytes at i h e = rw (drop-cons bytes i 0, add-one i, add-one at, e)
 
 pub put_done : (t bytes : List ℕ) (at i : ℕ) → i ≡ length bytes → sets t at (drop i bytes) ≡ t
 put_done t bytes at i e = rw (e, drop-length)
+
+-- past the end nothing is put
+pub sets_past : (t : List ℕ) (at : ℕ) (bytes : List ℕ) → length t ≤ at → sets t at bytes ≡ t
+sets_past t at [] h = refl
+sets_past t at (x ∷ xs) h = ap (λ (u : List ℕ). sets u (suc at) xs) (set_out t at x h) ∙ sets_past t (suc at) xs (omega arith)
 
 pub put_same_length : (t u : List ℕ) (at next : ℕ) (xs ys : List ℕ) → sets t at xs ≡ sets u next ys → length u ≡ length t
 put_same_length t u at next xs ys e = sym (length-sets u next ys) ∙ sym (ap length e) ∙ length-sets t at xs

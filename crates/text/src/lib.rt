@@ -22,7 +22,7 @@ mod page;
 
 // ---- reading
 
-// How many run lines a text has, if it is of the form.
+// How many run lines a text has, if it is of the form. What follows a wrong line is not read.
 fn runs_of(text: &[u8]) -> Option<usize>
     ensures { result ≡ then_some (is_text text.now) (length (words_of (lines_in text.now))) }
 {
@@ -30,6 +30,9 @@ fn runs_of(text: &[u8]) -> Option<usize>
     let mut runs = 0;
     for line in Reader::new(text) {
         stage = stage.after(line);
+        if let Stage::Wrong = stage {
+            return None;
+        }
         if let Line::Run(_) = line {
             runs += 1;
         }

@@ -22,11 +22,15 @@ impl<'a> Page<'a> {
         Page { bytes, len: 0 }
     }
 
-    /// Bytes after those so far. The place is counted apart, so that no byte that is put waits for the page's length.
+    /// Bytes after those so far. A full page only counts them.
     pub fn put(&mut self, text: &[u8])
         requires { self.old.len + length text.now ≤ places }
         ensures { Puts self.old text.now self.new }
     {
+        if self.len >= self.bytes.len() {
+            self.len += text.len();
+            return;
+        }
         let mut at = self.len;
         for &byte in text {
             recording::put(self.bytes, at, byte);

@@ -8,7 +8,7 @@ use mathlib.Core.List.{[]}
 use Rattle.recording.specs.Tests.{pick}
 use Rattle.recording.specs.Weeks.{week_minutes}
 use Rattle.recording.specs.Words.{code_of}
-use Rattle.text_lines.specs.Form.{week_line, closing_line}
+use Rattle.text_lines.specs.Form.{week_line}
 use Rattle.text.specs.Page.{Puts}
 use Rattle.text.proofs.Puts.{ended, name_short, puts_none, puts_then, part_text, code_small}
 use Rattle.text.proofs.put_part.Goals as goal

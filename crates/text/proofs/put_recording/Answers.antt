@@ -1,5 +1,5 @@
 -- `text::put_recording` meets its contract. Assumes nothing.
-use mathlib.Core.Path.{refl, ◌∙◌}
+use mathlib.Core.Path.{refl}
 use mathlib.Core.Bool.{not}
 use mathlib.Core.List.{[]}
 use lib.Dec.{eqb}
@@ -10,7 +10,7 @@ use Rattle.text_lines.specs.Form.{closing_line}
 use Rattle.text.specs.Page.{Puts}
 use Rattle.text.proofs.Puts.{ended, puts_none}
 use native.Mathlib.Omega.{arith}
-use Rattle.text.proofs.Parts.{start_writing, from_here, further, at-roomy, part_on, fetch_on, run_done, run_shorter, write_end}
+use Rattle.text.proofs.Parts.{from_here, further, at-roomy, part_on, fetch_on, run_done, run_shorter, write_end}
 use Rattle.text.proofs.put_recording.Goals as goal
 use Rattle.text.proofs.put_recording.Goals.{then-left-ne-WEEK_MINUTES, else-left-ne-WEEK_MINUTES}
 

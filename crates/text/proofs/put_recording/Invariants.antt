@@ -1,5 +1,4 @@
 -- `text::put_recording` meets its contract. Assumes nothing.
-use mathlib.Core.Path.{◌≡◌}
 use Prim.Native.Nat.{◌+◌}
 use lib.ListN.{length}
 use Rattle.recording.specs.Words.{code_of, minutes_of}

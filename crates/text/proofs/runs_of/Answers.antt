@@ -3,7 +3,7 @@ use mathlib.Core.Path.{refl, sym, ap, ◌∙◌}
 use native.Mathlib.Omega.{arith}
 use lib.ListN.{length}
 use Rattle.std.specs.Prelude.{Some}
-use Rattle.text.proofs.LineAfterLine.{stage_on, word_on, no_word_on, none_left, stage_done, over_told, not_over, text_few}
+use Rattle.text.proofs.LineAfterLine.{stage_on, word_on, no_word_on, none_left, stage_done, over_told, wrong_told, not_over, text_few}
 use Rattle.text.proofs.runs_of.Goals as goal
 
 pub overflow_add-runs : goal.overflow_add-runs
@@ -18,8 +18,11 @@ loop-line-preserved-in-Run c = (
 pub loop-line-preserved : goal.loop-line-preserved
 loop-line-preserved c = (
   c.loop-line.invariant.0 ∙ stage_on c.in-Some.ensures.steps _ ∙ rw c.after-stage.ensures refl,
-  omega (arith, c.loop-line.invariant.1, ap length (no_word_on c.in-Some.ensures.steps c.in_default.not-Run)),
+  omega (arith, c.loop-line.invariant.1, ap length (no_word_on c.in-Some.ensures.steps c.in_default-line.not-Run)),
 )
+
+pub returns-in-Wrong : goal.returns-in-Wrong
+returns-in-Wrong c = rw (← wrong_told c.args.text.now _ (c.loop-line.invariant.0 ∙ stage_on c.in-Some.ensures.steps _) (sym c.after-stage.ensures ∙ c.in-Wrong.is)) refl
 
 pub returns-in-Over : goal.returns-in-Over
 returns-in-Over c =

@@ -1,7 +1,7 @@
 -- `text::write_text` meets its contract. Assumes nothing.
 use mathlib.Core.Path.{sym, ap}
 use borrow.Author.Rules.{rules}
-use Rattle.recording.proofs.Listing.{refused_there, measured_there}
+use Rattle.recording.proofs.Listing.{refused_there}
 use Rattle.text.proofs.WritingLaws.{measured_writable, not_measured, few_bytes, all_written}
 use Rattle.text.proofs.write_text.Goals as goal
 

@@ -1,8 +1,11 @@
 -- `text::Page::put` meets its contract. Assumes nothing.
-use mathlib.Core.Path.{sym, ◌∙◌}
+use mathlib.Core.Path.{refl, sym, ◌∙◌}
 use native.Mathlib.Omega.{arith}
-use Rattle.text.proofs.Puts.{put_on, put_done}
+use Rattle.text.proofs.Puts.{put_on, put_done, sets_past}
 use Rattle.text.proofs.page.Page.put.Goals as goal
+
+pub returns-then-self : goal.returns-then-self
+returns-then-self c = record { put = record { next_is = refl; text_is = sym (sets_past _ _ c.args.text.now c.if-self.true) }; same = refl }
 
 pub loop-byte-preserved : goal.loop-byte-preserved
 loop-byte-preserved c =

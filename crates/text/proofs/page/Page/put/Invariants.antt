@@ -1,7 +1,7 @@
 -- `text::Page::put` meets its contract. The invariant: what is left, put from here on, makes what the whole makes. Assumes nothing.
 use mathlib.Core.Path.{◌≡◌}
 use Prim.Native.Nat.{◌+◌}
-use lib.ListN.{length, drop}
+use lib.ListN.{drop}
 use lib.Seq.{sets}
 use Rattle.text.proofs.page.Page.put.Given as goal
 
