@@ -11,11 +11,11 @@ pub use rests::LongRests;
 
 mod rests;
 
-/// Items into a list one by one, from its start.
-pub fn fill<T: Copy, I: Iterator<Item = T> + Drop>(list: &mut [T], items: I)
+/// Items into a list one by one, from its start; how many they are.
+pub fn fill<T: Copy, I: Iterator<Item = T> + Drop>(list: &mut [T], items: I) -> usize
     requires can { I.can_next items }
     requires room { UpTo (I.remaining items) (length list.old) }
-    ensures filled { (xs : List T) × Drains I.next_gives items xs × (list.new ≡ xs ++ drop (length xs) list.old) }
+    ensures filled { (xs : List T) × Drains I.next_gives items xs × (result ≡ length xs) × (list.new ≡ xs ++ drop (length xs) list.old) }
 {
     // Counted by hand: `enumerate` gives pairs, and the contract speaks of the items.
     let mut place = 0;
@@ -23,6 +23,7 @@ pub fn fill<T: Copy, I: Iterator<Item = T> + Drop>(list: &mut [T], items: I)
         list[place] = item;
         place += 1;
     }
+    place
 }
 
 /// The long rests into a lent list, one record each: weighing's refusals, or that the list has too few.
@@ -37,6 +38,6 @@ pub fn list_long_rests(words: &[u32], list: &mut [Span]) -> Result<u32, Refusal>
     if list.len() < measure.count as usize {
         return Err(Refusal::ShortList);
     }
-    fill(list, LongRests::new(words));
-    Ok(measure.count)
+    let count = fill(list, LongRests::new(words));
+    Ok(count as u32)
 }

@@ -192,7 +192,6 @@ pub fn breach_spans(words: &[u32], list: &mut [Weeks]) -> Result<u32, Refusal>
     ensures list_after { list.new ≡ filled (spans_given words.now (length list.old)) list.old }
 {
     let spans = spans_of(words, list.len())?;
-    let found = spans.list();
-    list[..found.len()].copy_from_slice(found);
-    Ok(found.len() as u32)
+    let count = recording_list::fill(list, spans.list().iter().copied());
+    Ok(count as u32)
 }
