@@ -37,8 +37,7 @@ use Rattle.verdict_completion.proofs.RunLaws.{later_kept, kept_later}
 use Rattle.verdict_completion.specs.Courses.{course_with}
 use Rattle.verdict_completion.specs.declared.course.LongRests.{LongRests}
 use Rattle.verdict_completion.proofs.Courses.{lies_with}
-use Rattle.verdict_steps.specs.Steps.{Says}
-use Rattle.verdict_sweep.specs.Sweep.{CanBeRead}
+use Rattle.verdict_sweep.specs.Sweep.{Told, CanBeRead}
 use Rattle.rules_nets.specs.Nets.{nets_of, counts_by}
 use Rattle.rules_fixed.proofs.NetLaws.{all_numbered, nets_most, reading_by_numbers}
 use Rattle.verdict_completion.specs.First.{KeptBy, Least}
@@ -64,9 +63,10 @@ module _ (rests : LongRests) where
   all : k + 0 ≡ k
   all = omega arith
 
-  pub some_reading : {r : Bool} → Says (CanBeRead (course_with rests (replicate k 0)) (replicate k 0)) r → SaysWhether (course_in rests) r
+  pub some_reading : {S : Type 0} {r : Bool} {o : List ℕ} → o ≡ replicate k 0 → Told (CanBeRead (course_with rests o) (replicate k 0)) r S → SaysWhether (course_in rests) r
   unfolding entries compensation_of
-  some_reading a =
+  some_reading {S} {r} e told =
+      let a = subst (λ (l : List ℕ). Told (CanBeRead (course_with rests l) (replicate k 0)) r S) e told in
       let zeros = none_zeros k in
       let size : length (replicate {A = ℕ} k 0) ≡ k = length-replicate k 0 in
       record {

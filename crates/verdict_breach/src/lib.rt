@@ -1,7 +1,7 @@
 // The breach of a recording without a lawful reading: its minute, searched day by day over the long rests, and its article.
 #![tactic(auto)]
 
-ghost use Rattle.std.specs.Prelude.{◌≡◌, ℕ, ◌+◌, ◌≤◌, ◌<◌, length};
+ghost use Rattle.std.specs.Prelude.{◌≡◌, ℕ, ◌+◌, ◌^◌, ◌≤◌, ◌<◌, length};
 ghost use Rattle.recording.specs.Words.{minutes_of, code_of};
 ghost use Rattle.recording.specs.Scan.{words_in};
 ghost use Rattle.recording.specs.Operations.{total_at_most};
@@ -16,7 +16,7 @@ ghost use Rattle.verdict_breach.specs.Verdicts.{IsLastDay, DayTop, Sooner, NextD
 use recording::{Activity, Recording, Run};
 use rules::{Article, Rule};
 use rules_limits::Break;
-use verdict_completion::LongRests;
+use verdict_completion::{Course, LongRests};
 use verdict_sweep::{Ending, Fronts};
 
 /// A breach: the length of the shortest stretch without a lawful reading, and its article.
@@ -54,11 +54,33 @@ pub fn rests_of(
     }
 }
 
-// Whether long rests have a reading that keeps rules 6 to 11. The nogoods and the fronts are room for the search, of any length, here and in what follows.
+// Whether no more than so many long rests have a reading that keeps rules 6 to 11. The nogoods and the fronts are room for the search, of any length, here and
+// in what follows.
+fn some_reading_in<const RESTS: usize>(
+    rests: &LongRests,
+    nogoods: &mut [u32],
+    fronts: &mut Fronts,
+) -> Ending
+    requires few { length rests.now.starts.now ≤ RESTS }
+    requires room { RESTS ≤ 2 ^ 20 }
+    ensures { SaysWhether (course_in rests.now) result.yes }
+{
+    let none = [0u32; RESTS];
+    let course = Course {
+        rests: *rests,
+        compensations: &none[..rests.starts.len()],
+    };
+    verdict_sweep::possible(&course, nogoods, fronts)
+}
+
+// Whether long rests have a reading that keeps rules 6 to 11.
 fn some_reading(rests: &LongRests, nogoods: &mut [u32], fronts: &mut Fronts) -> Ending
     ensures { SaysWhether (course_in rests.now) result.yes }
 {
-    verdict_sweep::possible(rests, nogoods, fronts)
+    if rests.starts.len() <= recording::SHORT_RESTS {
+        return some_reading_in::<{ recording::SHORT_RESTS }>(rests, nogoods, fronts);
+    }
+    some_reading_in::<{ recording::LONG_RESTS }>(rests, nogoods, fronts)
 }
 
 /// Whether the long rests of a stretch have a lawful reading, by the smallest fixed rule that it breaks.

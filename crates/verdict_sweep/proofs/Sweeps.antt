@@ -15,10 +15,8 @@ use Rattle.verdict_nogoods.specs.Table.{reductions_of}
 use Rattle.verdict_fronts.specs.Front.{state_in, outstanding_in}
 use Rattle.verdict_search.specs.Search.{Later, Sound, InSlots}
 use Rattle.verdict_search.specs.Leading.{Can, Any, Well, Front, Led}
-use Rattle.verdict_sweep.specs.Sweep.{Passed, Told, CanBeRead}
-use Rattle.verdict_completion.specs.declared.course.LongRests.{LongRests}
-use Rattle.verdict_completion.specs.Courses.{course_with}
-use Rattle.verdict_steps.specs.Steps.{Says}
+use Rattle.verdict_sweep.specs.declared.Fronts.{Fronts}
+use Rattle.verdict_sweep.specs.Sweep.{SameOrder, swapped, SameFronts, Passed, Told, CanBeRead}
 use Rattle.verdict_search.proofs.Leading.{Equal, equal_then}
 use Rattle.verdict_search.proofs.Fronts.{outstanding_length, outstanding_none}
 use Rattle.verdict_search.proofs.Chain.{all_reductions}
@@ -50,6 +48,35 @@ module _ (c : Course) where
         equal_then (all_reductions (Reads c (Later c j) j here) (length_at c j) (at c.compensations j) o' j)
         (subst (λ (z : List ℕ). Equal (Tries c (Later c j) j here z) (Can c j f p)) (sym (q ∙ ap (outstanding_in f p) long))
         (subst (λ (x : State). Equal (Tries c (Later c j) j x (outstanding_in f p (count c))) (Can c j f p)) (sym e) (record { to = λ h. h; from = λ h. h })))
+
+-- ---- the two fronts that are lent
+pub order_self : {a : Fronts} → SameOrder a a
+order_self = record { front = refl; other = refl; front_room = refl; other_room = refl }
+
+pub order_on : {a b d : Fronts} → SameOrder a b → SameOrder b d → SameOrder a d
+order_on f g = record {
+  front = g.front ∙ f.front;
+  other = g.other ∙ f.other;
+  front_room = g.front_room ∙ f.front_room;
+  other_room = g.other_room ∙ f.other_room;
+}
+
+pub order_swapped : {a b : Fronts} → SameOrder a b → SameOrder (swapped a) (swapped b)
+order_swapped f = record { front = f.other; other = f.front; front_room = f.other_room; other_room = f.front_room }
+
+pub fronts_self : {a : Fronts} → SameFronts a a
+fronts_self = inl order_self
+
+pub fronts_on : {a b d : Fronts} → SameFronts a b → SameFronts b d → SameFronts a d
+fronts_on (inl f) (inl g) = inl (order_on f g)
+fronts_on (inl f) (inr g) = inr (order_on (order_swapped f) g)
+fronts_on (inr f) (inl g) = inr (order_on f g)
+fronts_on (inr f) (inr g) = inl (order_on (order_swapped f) g)
+
+-- whatever their number of states
+pub fronts_counted : {a b : Fronts} (n : ℕ) → SameFronts a b → SameFronts a (record { front = b.front; other = b.other; states = n })
+fronts_counted n (inl f) = inl (record { front = f.front; other = f.other; front_room = f.front_room; other_room = f.other_room })
+fronts_counted n (inr f) = inr (record { front = f.front; other = f.other; front_room = f.front_room; other_room = f.other_room })
 
 -- ---- whole fronts
 pub passed_yes : {P A S W : Type 0} {r : Bool} → r ≡ true → P → S → W → Passed P A r S W
@@ -85,20 +112,15 @@ passed_then e f g = record {
 
 -- ---- the whole
 -- the state was put into the first front, and the sweep told of that
-pub whole : {P A S S' W : Type 0} {r b : Bool} → r ≡ false → Passed P A r S W → Told A b S' → Says P b
-whole e f g = record { yes = λ y. f.from e (g.yes y); no = λ n p. g.no n (f.leads e p) }
+pub whole : {P A S S' W : Type 0} {r b : Bool} → r ≡ false → Passed P A r S W → Told A b S' → Told P b S'
+whole e f g = record { yes = λ y. f.from e (g.yes y); no = λ n p. g.no n (f.leads e p); sound = g.sound }
 
--- from the first rest on, without a compensation and where nothing is outstanding
-pub from_start : (rests : LongRests) {r : Bool} {l o : List ℕ} {st : State} (b : Bool) → st ≡ start_state b → b ≡ rest_week (course_with rests l) 0
-    → l ≡ replicate (length rests.starts.now) 0 → o ≡ replicate (length rests.starts.now) 0
-    → Says (Completable (course_with rests l) (length rests.starts.now - 0) 0 st o) r
-    → Says (CanBeRead (course_with rests (replicate (length rests.starts.now) 0)) (replicate (length rests.starts.now) 0)) r
-from_start rests {r} {l} {o} {st} b e f g h s =
-    let k = length rests.starts.now in
-    let n : k - 0 ≡ k = omega arith in
-    let none = replicate k 0 in
-    let start = start_state (rest_week (course_with rests none) 0) in
-    subst (λ (m : ℕ). Says (Completable (course_with rests none) m 0 start none) r) n
-    (subst (λ (x : State). Says (Completable (course_with rests none) (k - 0) 0 x none) r) (e ∙ ap start_state f)
-    (subst (λ (x : List ℕ). Says (Completable (course_with rests x) (k - 0) 0 st none) r) g
-    (subst (λ (x : List ℕ). Says (Completable (course_with rests l) (k - 0) 0 st x) r) h s)))
+-- from the first rest on, where nothing is outstanding
+pub from_start : (c : Course) {r : Bool} {S : Type 0} {o : List ℕ} {st : State} (b : Bool) → st ≡ start_state b → b ≡ rest_week c 0 → o ≡ replicate (count c) 0
+    → Told (Completable c (count c - 0) 0 st o) r S → Told (CanBeRead c (replicate (count c) 0)) r S
+from_start c {r} {S} {o} {st} b e f g t =
+    let n : count c - 0 ≡ count c = omega arith in
+    let start = start_state (rest_week c 0) in
+    subst (λ (m : ℕ). Told (Completable c m 0 start (replicate (count c) 0)) r S) n
+    (subst (λ (x : State). Told (Completable c (count c - 0) 0 x (replicate (count c) 0)) r S) (e ∙ ap start_state f)
+    (subst (λ (x : List ℕ). Told (Completable c (count c - 0) 0 st x) r S) g t))

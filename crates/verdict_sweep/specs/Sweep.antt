@@ -1,12 +1,27 @@
 -- Inner: what the sweep from front to front answers. Nobody has to believe it: proofs/ shows that its answers are those of the question.
 -- Assumes nothing.
-use Rattle.std.specs.Prelude.{◌≡◌, Bool, true, false, List, [], ℕ, Option, is_none, unwrap_or}
+use Rattle.std.specs.Prelude.{◌≡◌, ◌⊎◌, Bool, true, false, List, [], ℕ, length, Option, is_none, unwrap_or}
 use Rattle.verdict_completion.specs.States.{start_state}
 use Rattle.verdict_completion.specs.Completable.{Course, count, rest_week, Completable}
 use Rattle.verdict_search.specs.declared.Search.{Search}
 use Rattle.verdict_search.specs.Search.{Sound}
 use Rattle.verdict_search.specs.Leading.{Any, Front, Led}
 use Rattle.verdict_sweep.specs.declared.Fronts.{Fronts}
+
+-- the two slices that are lent stay lent in this order, and keep their lengths
+pub record SameOrder (fronts fronts' : Fronts) : Type 0 where
+  pub front : fronts'.front.ghost_name ≡ fronts.front.ghost_name
+  pub other : fronts'.other.ghost_name ≡ fronts.other.ghost_name
+  pub front_room : length fronts'.front.now ≡ length fronts.front.now
+  pub other_room : length fronts'.other.now ≡ length fronts.other.now
+
+-- the two fronts in changed roles
+abbrev pub swapped : Fronts → Fronts
+swapped fronts = record { front = fronts.other; other = fronts.front; states = fronts.states }
+
+-- the same two slices are lent, in one order or the other, and keep their lengths
+abbrev pub SameFronts : Fronts → Fronts → Type 0
+SameFronts fronts fronts' = SameOrder fronts fronts' ⊎ SameOrder (swapped fronts) fronts'
 
 -- the question P was put to a front that was empty: r is yes where P was found to hold; otherwise A holds exactly where P does
 pub record Passed (P A : Type 0) (r : Bool) (S W : Type 0) : Type 0 where

@@ -2,16 +2,15 @@
 // the search puts what follows into the next front.
 #![tactic(auto)]
 
-ghost use Rattle.std.specs.Prelude.{◌≡◌, ◌+◌, ◌-◌, ◌*◌, ◌^◌, ◌<◌, ◌≤◌, length, replicate, max};
+ghost use Rattle.std.specs.Prelude.{◌≡◌, true, false, ◌+◌, ◌-◌, ◌*◌, ◌^◌, ◌<◌, ◌≤◌, length, replicate, max};
 ghost use Rattle.verdict_completion.specs.Completable.{count, Completable};
-ghost use Rattle.verdict_completion.specs.Courses.{course_with, course_of};
-ghost use Rattle.verdict_steps.specs.Steps.{Says};
+ghost use Rattle.verdict_completion.specs.Courses.{course_of};
 ghost use Rattle.verdict_fronts.specs.Front.{entry_at};
 ghost use Rattle.verdict_search.specs.Search.{Sound, Free, Before};
 ghost use Rattle.verdict_search.specs.Leading.{Can, Any, Well, Front, SameLent};
-ghost use Rattle.verdict_sweep.specs.Sweep.{LeadsTo, Passes, Visits, OpensTo, Opens, Told, CanBeRead};
+ghost use Rattle.verdict_sweep.specs.Sweep.{SameFronts, LeadsTo, Passes, Visits, OpensTo, Opens, Told, CanBeRead};
 
-use verdict_completion::{Course, LongRests, State};
+use verdict_completion::{Course, State};
 use verdict_search::Search;
 
 // Two fronts that change roles: the first has `states` states, the other is to be the next one.
@@ -95,7 +94,7 @@ fn next_front(
     Some(search.states)
 }
 
-// From the front before the rest of index j to the next one.
+// From the front before the rest of index j to the next one. The front that is swept stays as it is.
 pub fn sweep_rest(
     course: &Course,
     slots: &mut [u32],
@@ -107,7 +106,10 @@ pub fn sweep_rest(
     requires sound { Sound (course_of course.now) nogoods.old }
     requires within { j < count (course_of course.now) }
     requires front { Front (course_of course.now) j fronts.old.front.now fronts.old.states }
-    ensures { Passes (course_of course.now) j fronts.old (j + 1) fronts.new nogoods.new result }
+    ensures passes { Passes (course_of course.now) j fronts.old (j + 1) fronts.new nogoods.new result }
+    ensures lent { SameFronts fronts.old fronts.new }
+    ensures on_yes { result ≡ true → fronts.new.front.now ≡ fronts.old.front.now }
+    ensures on_no { result ≡ false → fronts.new.other.now ≡ fronts.old.front.now }
 {
     let states = fronts.states;
     let front = &mut *fronts.front;
@@ -134,7 +136,8 @@ pub fn sweep_to(
     requires sound { Sound (course_of course.now) nogoods.old }
     requires within { (j ≤ to) × (to ≤ count (course_of course.now)) }
     requires front { Front (course_of course.now) j fronts.old.front.now fronts.old.states }
-    ensures { Passes (course_of course.now) j fronts.old to fronts.new nogoods.new result }
+    ensures passes { Passes (course_of course.now) j fronts.old to fronts.new nogoods.new result }
+    ensures lent { SameFronts fronts.old fronts.new }
 {
     for i in j..to {
         if sweep_rest(course, slots, nogoods, fronts, i) {
@@ -155,9 +158,10 @@ pub fn sweep_on(
 ) -> Ending
     requires slots { length slots.old ≡ count (course_of course.now) }
     requires sound { Sound (course_of course.now) nogoods.old }
-    requires within { j ≤ count (course_of course.now) }
+    requires within { j ≤ count (course_of course.now) + 1 }
     requires front { Front (course_of course.now) j fronts.old.front.now fronts.old.states }
-    ensures { let c = course_of course.now in Told (Any c j fronts.old.front.now fronts.old.states) result.yes (Sound c nogoods.new) }
+    ensures told { let c = course_of course.now in Told (Any c j fronts.old.front.now fronts.old.states) result.yes (Sound c nogoods.new) }
+    ensures lent { SameFronts fronts.old fronts.new }
 {
     let end = course.rests.starts.len();
     for i in j..end {
@@ -224,6 +228,7 @@ pub fn begin(
     requires before { Before (course_of course.now) j st }
     ensures opens { let c = course_of course.now in Opens c (Completable c (count c - j) j st slots.old) j fronts.new nogoods.new result }
     ensures same { slots.new ≡ slots.old }
+    ensures lent { SameFronts fronts.old fronts.new }
 {
     let front = &mut *fronts.front;
     let Some(n) = first_front(course, slots, nogoods, front, j, st) else {
@@ -236,36 +241,34 @@ pub fn begin(
 
 // Whether no more than so many long rests can be read, with nogoods that are emptied first.
 fn possible_in<const RESTS: usize>(
-    rests: &LongRests,
+    course: &Course,
     nogoods: &mut [u32],
     fronts: &mut Fronts,
 ) -> Ending
-    requires few { length rests.now.starts.now ≤ RESTS }
+    requires few { count (course_of course.now) ≤ RESTS }
     requires room { RESTS ≤ 2 ^ 20 }
-    ensures { let k = length rests.now.starts.now in Says (CanBeRead (course_with rests.now (replicate k 0)) (replicate k 0)) result.yes }
+    ensures told { let c = course_of course.now in Told (CanBeRead c (replicate (count c) 0)) result.yes (Sound c nogoods.new) }
+    ensures lent { SameFronts fronts.old fronts.new }
 {
+    let rests = &course.rests;
     let k = rests.starts.len();
-    let none = [0u32; RESTS];
     let mut room = [0u32; RESTS];
     let slots = &mut room[..k];
-    let course = Course {
-        rests: *rests,
-        compensations: &none[..k],
-    };
     verdict_nogoods::clear(nogoods, k);
     let rest = rules_items::rest_week(rests.starts, rests.ends, k, 0);
-    if begin(&course, slots, nogoods, fronts, 0, State::start(rest)) {
+    if begin(course, slots, nogoods, fronts, 0, State::start(rest)) {
         return Ending { yes: true, at: 0 };
     }
-    sweep_on(&course, slots, nogoods, fronts, 0)
+    sweep_on(course, slots, nogoods, fronts, 0)
 }
 
-// Whether long rests can be read, without a compensation and where nothing is outstanding before the first. The room of the fronts is any, none too.
-pub fn possible(rests: &LongRests, nogoods: &mut [u32], fronts: &mut Fronts) -> Ending
-    ensures { let k = length rests.now.starts.now in Says (CanBeRead (course_with rests.now (replicate k 0)) (replicate k 0)) result.yes }
+// Whether the long rests can be read at all, where nothing is outstanding before the first. The room of the fronts is any, none too.
+pub fn possible(course: &Course, nogoods: &mut [u32], fronts: &mut Fronts) -> Ending
+    ensures told { let c = course_of course.now in Told (CanBeRead c (replicate (count c) 0)) result.yes (Sound c nogoods.new) }
+    ensures lent { SameFronts fronts.old fronts.new }
 {
-    if rests.starts.len() <= recording::SHORT_RESTS {
-        return possible_in::<{ recording::SHORT_RESTS }>(rests, nogoods, fronts);
+    if course.rests.starts.len() <= recording::SHORT_RESTS {
+        return possible_in::<{ recording::SHORT_RESTS }>(course, nogoods, fronts);
     }
-    possible_in::<{ recording::LONG_RESTS }>(rests, nogoods, fronts)
+    possible_in::<{ recording::LONG_RESTS }>(course, nogoods, fronts)
 }

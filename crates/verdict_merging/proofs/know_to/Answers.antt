@@ -13,8 +13,8 @@ returns-else-sweep_to c = let k = course_of c.args.course.now in
     let e = c.fill.ensures.after (λ y q. q) ∙ ap (λ (n : ℕ). replicate n 0) c.requires.slots in
     record {
       trusts = λ r _.
-          c.sweep_to.ensures.leads c.if-sweep_to.false
+          c.sweep_to.ensures.passes.leads c.if-sweep_to.false
           (c.in-Some.ensures.leads refl (subst (λ (o : List ℕ). Tries k (Later k c.args.j) c.args.j c.args.here o) (sym e) r));
-      sound = c.sweep_to.ensures.sound;
-      well = c.sweep_to.ensures.well;
+      sound = c.sweep_to.ensures.passes.sound;
+      well = c.sweep_to.ensures.passes.well;
     }
