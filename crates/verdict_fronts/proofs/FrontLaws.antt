@@ -67,13 +67,17 @@ paired_back stored present present' e h = record { to = h.to; within = λ d l. s
 
 pub dominates_back : {a b t : List ℕ} {r p q : ℕ} → Same b q t p → Dominates a r b q → Dominates a r t p
 dominates_back {a} {b} {t} {r} {p} {q} s h = record {
-  better = subst (Better (state_in a r 0)) (same_state s 0) h.better;
-  reductions = paired_back _ _ _ (same_reductions s) h.reductions;
+  few = omega (arith, h.few, s.word 6 (omega arith));
+  as_good = record {
+    few = h.as_good.few;
+    better = subst (Better (state_in a r 0)) (same_state s 0) h.as_good.better;
+    reductions = paired_back _ _ _ (same_reductions s) h.as_good.reductions;
+  };
 }
 
 -- the entry e of n
-pub one_dominated : {t b : List ℕ} {n q : ℕ} → OneDominates t n (state_in b q 0) (reductions_at b q) → Dominated t n b q
-one_dominated h = record { entry = h.0; below = h.1; dominates = h.2 }
+pub one_dominated : {t b : List ℕ} {n q : ℕ} → reductions_of b q ≤ reductions_at_most → OneDominates t n (state_in b q 0) (reductions_at b q) → Dominated t n b q
+one_dominated few h = record { entry = h.0; below = h.1; dominates = record { few = few; as_good = h.2 } }
 
 -- ---- fronts compared: the first e entries
 pub dominated_on : {a b : List ℕ} {m e : ℕ} → Dominated b m a (entry_at e) → ((i : ℕ) → i < e → Dominated b m a (entry_at i)) → (i : ℕ) → i < e + 1 → Dominated b m a (entry_at i)

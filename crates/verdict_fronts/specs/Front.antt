@@ -6,7 +6,7 @@ use Rattle.recording.specs.Tests.{pick}
 use Rattle.verdict_completion.specs.declared.State.{State}
 use Rattle.verdict_completion.specs.Completable.{at}
 use Rattle.verdict_nogoods.specs.Table as table
-use Rattle.verdict_nogoods.specs.Table.{entry_words, reductions_of, reductions_at, reduction_in, Holds}
+use Rattle.verdict_nogoods.specs.Table.{reductions_at_most, entry_words, reductions_of, reductions_at, reduction_in, Holds}
 pub use Rattle.verdict_nogoods.specs.Table.{state_in}
 
 -- where the entry e begins
@@ -27,9 +27,10 @@ abbrev pub outstanding_in : List ℕ → ℕ → ℕ → List ℕ
 outstanding_in t p k = words_by (slot_in t p) 0 k
 
 -- ---- entries compared
--- the entry at p of a is at least as good as the entry at q of b, in whatever week
-abbrev pub Dominates : List ℕ → ℕ → List ℕ → ℕ → Type 0
-Dominates a p b q = table.Dominates a p (state_in b q 0) (reductions_at b q)
+-- the entry at p of a is at least as good as the entry at q of b, in whatever week; neither says that it has more reductions than it has words for
+pub record Dominates (a : List ℕ) (p : ℕ) (b : List ℕ) (q : ℕ) : Type 0 where
+  pub few : reductions_of b q ≤ reductions_at_most
+  pub as_good : table.Dominates a p (state_in b q 0) (reductions_at b q)
 
 -- one of the first n entries of t is at least as good as the entry at q of b
 pub record Dominated (t : List ℕ) (n : ℕ) (b : List ℕ) (q : ℕ) : Type 0 where

@@ -10,13 +10,15 @@ use verdict_completion::State;
 pub use verdict_nogoods::state_in;
 use verdict_nogoods::{ENTRY_WORDS, REDUCTIONS_AT, REDUCTIONS_AT_MOST, reductions_at};
 
-// The entry at p of a is at least as good as the entry at q of b. One with more reductions is not; that is seen first.
+// The entry at p of a is at least as good as the entry at q of b. One with more reductions is not; that is seen first. Nor is any where
+// one of the two says more than it has words for.
 fn dominates(a: &[u32], p: usize, b: &[u32], q: usize) -> bool
     requires { (p + entry_words ≤ length a.now) × (q + entry_words ≤ length b.now) }
     ensures { result ≡ true → Dominates a.now p b.now q }
 {
     a[p + REDUCTIONS_AT] <= b[q + REDUCTIONS_AT]
         && verdict_nogoods::is_better(a, p, b, q)
+        && b[q + REDUCTIONS_AT] as usize <= REDUCTIONS_AT_MOST
         && verdict_nogoods::all_lie_within(reductions_at(a, p), reductions_at(b, q))
 }
 
@@ -25,7 +27,8 @@ fn dominated(front: &[u32], n: usize, other: &[u32], q: usize) -> bool
     requires { (entry_at n ≤ length front.now) × (q + entry_words ≤ length other.now) }
     ensures { result ≡ true → Dominated front.now n other.now q }
 {
-    verdict_nogoods::one_is_as_good(front, n, other, q, reductions_at(other, q))
+    other[q + REDUCTIONS_AT] as usize <= REDUCTIONS_AT_MOST
+        && verdict_nogoods::one_is_as_good(front, n, other, q, reductions_at(other, q))
 }
 
 /// Whether something is known, and for each of the first g known entries one of the first n of a front is at least as good.

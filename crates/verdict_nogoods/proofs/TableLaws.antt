@@ -365,7 +365,11 @@ paired_of_all stored slots m h = record {
     first i l = get_or-take m slots i 0 (omega (arith, slot_low (take m slots) i l, length-take m slots))
 
 pub known_of_all : {t : List ℕ} (slots : List ℕ) {j : ℕ} (m : ℕ) {st : State} → Known t j st (take m slots) → Known t j st slots
-known_of_all slots m h = record { entry = h.entry; used = h.used; dominates = record { better = h.dominates.better; reductions = paired_of_all _ slots m h.dominates.reductions } }
+known_of_all slots m h = record {
+  entry = h.entry;
+  used = h.used;
+  dominates = record { few = h.dominates.few; better = h.dominates.better; reductions = paired_of_all _ slots m h.dominates.reductions };
+}
 
 -- ---- an entry after the first k words
 pub words_after : (t : List ℕ) (k : ℕ) → take (length t - k) (drop k t) ≡ drop k t
@@ -379,6 +383,7 @@ module _ (t : List ℕ) (k p : ℕ) where
   dominates_after {st} {outstanding} h =
       let e : k + (p + state_words) ≡ k + p + state_words = omega arith in
       record {
+        few = omega (arith, h.few, word_after 6);
         better = record {
           week = h.better.week;
           ended = omega (arith, h.better.ended, get_or-drop k t p 0);

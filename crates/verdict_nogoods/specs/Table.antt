@@ -65,8 +65,9 @@ pub record Paired (stored present : List ℕ) : Type 0 where
   pub within : (d : ℕ) → d < length stored → Within (at stored d) (at present (to d))
   pub rises : (d e : ℕ) → d < e → e < length stored → to d < to e
 
--- the entry at p is at least as good as the state with what is outstanding
+-- the entry at p is at least as good as the state with what is outstanding, and says no more reductions than it has words for
 pub record Dominates (t : List ℕ) (p : ℕ) (st : State) (outstanding : List ℕ) : Type 0 where
+  pub few : reductions_of t p ≤ reductions_at_most
   pub better : Better (state_in t p st.week) st
   pub reductions : Paired (reductions_at t p) outstanding
 

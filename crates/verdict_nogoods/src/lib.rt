@@ -118,6 +118,7 @@ pub fn is_better(a: &[u32], p: usize, b: &[u32], q: usize) -> bool
 }
 
 // The entry at p of a is at least as good as the state of the entry at q of b with what is outstanding. One with more reductions is not; that is seen first.
+// Nor is one that says more than it has words for.
 #[inline]
 fn is_as_good(a: &[u32], p: usize, b: &[u32], q: usize, outstanding: &[u32]) -> bool
     requires entry { p + entry_words ≤ length a.now }
@@ -126,6 +127,7 @@ fn is_as_good(a: &[u32], p: usize, b: &[u32], q: usize, outstanding: &[u32]) -> 
 {
     a[p + REDUCTIONS_AT] as usize <= outstanding.len()
         && is_better(a, p, b, q)
+        && a[p + REDUCTIONS_AT] as usize <= REDUCTIONS_AT_MOST
         && all_lie_within(reductions_at(a, p), outstanding)
 }
 

@@ -93,12 +93,12 @@ module _ (c : Course) (lies : Lies c) (j : ℕ) where
     better : Better (state_in a p (week_of (at c.starts j))) (state_in b q (week_of (at c.starts j)))
     better = record {
       week = refl;
-      ended = h.better.ended;
-      short = h.better.short;
-      weekly_before = h.better.weekly_before;
-      regular_before = h.better.regular_before;
-      weekly = h.better.weekly;
-      regular = h.better.regular;
+      ended = h.as_good.better.ended;
+      short = h.as_good.better.short;
+      weekly_before = h.as_good.better.weekly_before;
+      regular_before = h.as_good.better.regular_before;
+      weekly = h.as_good.better.weekly;
+      regular = h.as_good.better.regular;
     }
 
     -- where a slot has a reduction, its entry has one of that index, and the entry that it is compared with one within which it lies
@@ -107,30 +107,30 @@ module _ (c : Course) (lies : Lies c) (j : ℕ) where
         let m = is_outstanding-below a p (count c) d low_a l in
         reductions_in_use a p d (omega (arith, x.few, m)) (omega (arith, l, outstanding_is a p (count c) d low_a m))
 
-    to_use : (d : ℕ) → d < length (reductions_at a p) → h.reductions.to d < min (reductions_of b q) reductions_at_most
-    to_use d l = omega (arith, slot_low (reductions_at b q) (h.reductions.to d) (h.reductions.within d l).is_outstanding, reductions_low b q)
+    to_use : (d : ℕ) → d < length (reductions_at a p) → h.as_good.reductions.to d < min (reductions_of b q) reductions_at_most
+    to_use d l = omega (arith, slot_low (reductions_at b q) (h.as_good.reductions.to d) (h.as_good.reductions.within d l).is_outstanding, reductions_low b q)
 
     matched : Matched (count c) j (outstanding_in a p (count c)) (outstanding_in b q (count c))
     matched = record {
       long = outstanding_length b q (count c);
-      to = h.reductions.to;
+      to = h.as_good.reductions.to;
       below = λ d l. omega (arith, is_outstanding-below a p (count c) d low_a l, x.below);
       to_below = λ d l. omega (arith, to_use d (in_use d l), y.below);
       within = λ d l. within d (in_use d l);
       apart = λ d e l m. apart d e (in_use d l) (in_use e m) (less_or_not d e) (less_or_not e d);
     }
       where
-        within : (d : ℕ) → d < length (reductions_at a p) → Within (at (outstanding_in a p (count c)) d) (at (outstanding_in b q (count c)) (h.reductions.to d))
+        within : (d : ℕ) → d < length (reductions_at a p) → Within (at (outstanding_in a p (count c)) d) (at (outstanding_in b q (count c)) (h.as_good.reductions.to d))
         within d l =
             let n : d < min (reductions_of a p) reductions_at_most = omega (arith, l, reductions_low a p) in
             let m = to_use d l in
-            subst (λ (v : ℕ). Within v (at (outstanding_in b q (count c)) (h.reductions.to d))) (reductions_each a p d n ∙ sym (outstanding_is a p (count c) d low_a (omega arith)))
+            subst (λ (v : ℕ). Within v (at (outstanding_in b q (count c)) (h.as_good.reductions.to d))) (reductions_each a p d n ∙ sym (outstanding_is a p (count c) d low_a (omega arith)))
             (subst (λ (v : ℕ). Within (at (reductions_at a p) d) v)
-            (reductions_each b q (h.reductions.to d) m ∙ sym (outstanding_is b q (count c) (h.reductions.to d) low_b (omega (arith, m)))) (h.reductions.within d l))
+            (reductions_each b q (h.as_good.reductions.to d) m ∙ sym (outstanding_is b q (count c) (h.as_good.reductions.to d) low_b (omega (arith, m)))) (h.as_good.reductions.within d l))
 
-        apart : (d e : ℕ) → d < length (reductions_at a p) → e < length (reductions_at a p) → (d < e) ⊎ (e ≤ d) → (e < d) ⊎ (d ≤ e) → h.reductions.to d ≡ h.reductions.to e → d ≡ e
-        apart d e l m (inl f) g q = absurd (omega (arith, h.reductions.rises d e f m))
-        apart d e l m (inr f) (inl g) q = absurd (omega (arith, h.reductions.rises e d g l))
+        apart : (d e : ℕ) → d < length (reductions_at a p) → e < length (reductions_at a p) → (d < e) ⊎ (e ≤ d) → (e < d) ⊎ (d ≤ e) → h.as_good.reductions.to d ≡ h.as_good.reductions.to e → d ≡ e
+        apart d e l m (inl f) g q = absurd (omega (arith, h.as_good.reductions.rises d e f m))
+        apart d e l m (inr f) (inl g) q = absurd (omega (arith, h.as_good.reductions.rises e d g l))
         apart d e l m (inr f) (inr g) q = omega arith
 
     -- an entry that is at least as good can do what the other can

@@ -43,6 +43,7 @@ dominates_back t t' p st o s size h =
       length-drop {A = ℕ} (p + 7) t',
     ) in
     record {
+      few = omega (arith, h.few, n);
       better = subst (λ (x : State). Better x st) (state_same t t' p st.week s) h.better;
       reductions = record {
         to = h.reductions.to;

@@ -13,6 +13,7 @@ returns c = λ e.
       entry = one.0;
       used = record { within = omega (arith, one.1, c.min-used.ensures); stored = omega (arith, one.1, c.min-used.ensures) };
       dominates = record {
+        few = there.few;
         better = record {
           week = refl;
           ended = better.ended;

@@ -1,7 +1,6 @@
 -- `verdict_nogoods::put_reductions` meets its contract. Assumes nothing.
 use Rattle.std.proofs.Common.{arith}
 use native.Mathlib.Nat.{pos_of_ne-zero}
-use Rattle.verdict_nogoods.specs.Table.{PutAll}
 use Rattle.verdict_nogoods.proofs.TableLaws.{put_start, put_past, put_on, put_room}
 use Rattle.verdict_nogoods.proofs.put_reductions.Goals as goal
 use Rattle.verdict_nogoods.proofs.put_reductions.Goals.{then-reduction-ne0, else-reduction-ne0}
