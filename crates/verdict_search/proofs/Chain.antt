@@ -260,6 +260,14 @@ module _ (c : Course) (lies : Lies c) where
         go (inl d) = regular_by c lies (Later c j) (later_mono c lies j k.within) j here compensation o k fits d
         go (inr w) = w
 
+    -- one that is too short for a weekly rest is daily
+    pub as_short : length_at c j < least_net (Weekly Regular) + compensation → Equal (ReadDaily c (Later c j) j here compensation o) (Reads c (Later c j) j here compensation o)
+    as_short l = record { to = inl; from = go }
+      where
+        go : Reads c (Later c j) j here compensation o → ReadDaily c (Later c j) j here compensation o
+        go (inl d) = d
+        go (inr w) = absurd (omega (arith, w.net))
+
     module _ {b : Bool} {next : State} (e : b ≡ shortens c j compensation) (f : next ≡ after_daily b here) where
       next_daily : next ≡ after_daily (shortens c j compensation) here
       next_daily = f ∙ ap (λ (x : Bool). after_daily x here) e
@@ -300,6 +308,9 @@ module _ (c : Course) (lies : Lies c) where
 
 -- ---- the weeks of a rest
 module _ (c : Course) (K : State → List ℕ → Type 0) (j : ℕ) (here : State) (compensation : ℕ) (o : List ℕ) where
+  pub no_week : (v : ℕ) → CountedIn c K j here compensation o v v → ⊥
+  no_week v h = omega (arith, h.low, h.high)
+
   pub one_week : (v w : ℕ) → v ≤ w → Equal (CountedIn c K j here compensation o v w ⊎ Counted c K j here w compensation o) (CountedIn c K j here compensation o v (w + 1))
   one_week v w l = record { to = go; from = λ h. back h (less_or_not h.week w) }
     where
