@@ -10,6 +10,7 @@ ghost use Rattle.rules.specs.Verdict.{breach_minute, verdict};
 ghost use Rattle.rules_limits.specs.Account.{account_from, opening};
 ghost use Rattle.rules.specs.Operations.{breached, finding_of};
 ghost use Rattle.verdict_completion.specs.Completable.{at};
+ghost use Rattle.verdict_sweep.specs.Sweep.{SameFronts};
 ghost use Rattle.verdict_breach.specs.Verdicts.{Roomy, InFront, course_in, SaysWhether, ByRule, HasReading, Bound, AreAllRests, day_start, IsDayReadable};
 ghost use Rattle.verdict_breach.specs.Verdicts.{IsLastDay, DayTop, Sooner, NextDemand, IsFirstWithout, active_in, NextActive};
 
@@ -63,7 +64,8 @@ fn some_reading_in<const RESTS: usize>(
 ) -> Ending
     requires few { length rests.now.starts.now ≤ RESTS }
     requires room { RESTS ≤ 2 ^ 20 }
-    ensures { SaysWhether (course_in rests.now) result.yes }
+    ensures says { SaysWhether (course_in rests.now) result.yes }
+    ensures lent { SameFronts fronts.old fronts.new }
 {
     let none = [0u32; RESTS];
     let course = Course {
@@ -75,7 +77,8 @@ fn some_reading_in<const RESTS: usize>(
 
 // Whether long rests have a reading that keeps rules 6 to 11.
 fn some_reading(rests: &LongRests, nogoods: &mut [u32], fronts: &mut Fronts) -> Ending
-    ensures { SaysWhether (course_in rests.now) result.yes }
+    ensures says { SaysWhether (course_in rests.now) result.yes }
+    ensures lent { SameFronts fronts.old fronts.new }
 {
     if rests.starts.len() <= recording::SHORT_RESTS {
         return some_reading_in::<{ recording::SHORT_RESTS }>(rests, nogoods, fronts);
@@ -90,7 +93,8 @@ pub fn lawful_by(
     nogoods: &mut [u32],
     fronts: &mut Fronts,
 ) -> Ending
-    ensures { ByRule (course_in rests.now) rule result.yes }
+    ensures says { ByRule (course_in rests.now) rule result.yes }
+    ensures lent { SameFronts fronts.old fronts.new }
 {
     match rule {
         Some(_) => Ending {
@@ -121,7 +125,8 @@ fn day_readable(
     fronts: &mut Fronts,
 ) -> Ending
     requires { (bound ≤ total_at_most) × (n ≤ length rests.now.starts.now) }
-    ensures { IsDayReadable rests.now bound n result.yes }
+    ensures says { IsDayReadable rests.now bound n result.yes }
+    ensures lent { SameFronts fronts.old fronts.new }
 {
     let from = day_start(rests.ends, n);
     if bound <= from {
@@ -173,7 +178,8 @@ fn last_day(
     fronts: &mut Fronts,
 ) -> usize
     requires { (bound ≤ total_at_most) × (0 < bound) }
-    ensures { IsLastDay rests.now bound result }
+    ensures last { IsLastDay rests.now bound result }
+    ensures lent { SameFronts fronts.old fronts.new }
 {
     let mut low = 0;
     let mut high = rests.starts.len() + 1;
@@ -232,7 +238,8 @@ fn next_demand(ends: &[u32], s: u32) -> u32
 // Of the judged ends past that of long rests and up to another, the first that leaves them without a reading, or the one past them.
 fn first_without(rests: &LongRests, top: u32, nogoods: &mut [u32], fronts: &mut Fronts) -> u32
     requires { (rests.now.judged ≤ top) × (top ≤ total_at_most) }
-    ensures { IsFirstWithout rests.now top result }
+    ensures first { IsFirstWithout rests.now top result }
+    ensures lent { SameFronts fronts.old fronts.new }
 {
     let mut judged = next_demand(rests.ends, rests.judged);
     // A walk in steps of its own length: no chain says it more plainly.
@@ -298,7 +305,8 @@ fn least_without(
     fronts: &mut Fronts,
 ) -> u32
     requires { (AreAllRests (minutes_of (words_in recording)) rests.now) × (Bound (minutes_of (words_in recording)) bound) }
-    ensures { result ≡ breach_minute (minutes_of (words_in recording.entry)) }
+    ensures least { result ≡ breach_minute (minutes_of (words_in recording.entry)) }
+    ensures lent { SameFronts fronts.old fronts.new }
 {
     let n = last_day(rests, bound, guess, nogoods, fronts);
     let from = day_start(rests.ends, n);
@@ -325,7 +333,8 @@ pub fn breach_of(
 ) -> Breach
     requires { (AreAllRests (minutes_of (words_in recording)) rests.now) × (total ≡ length (minutes_of (words_in recording)))
         × (first ≡ (account_from opening (minutes_of (words_in recording))).first) × (HasReading (minutes_of (words_in recording)) → ⊥) }
-    ensures { breached result.minute (number_of_article result.article) ≡ finding_of (verdict (minutes_of (words_in recording.entry))) }
+    ensures breach { breached result.minute (number_of_article result.article) ≡ finding_of (verdict (minutes_of (words_in recording.entry))) }
+    ensures lent { SameFronts fronts.old fronts.new }
 {
     let Some(broken) = first else {
         let minute = least_without(recording, rests, total, guess, nogoods, fronts);

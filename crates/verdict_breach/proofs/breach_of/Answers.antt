@@ -12,17 +12,24 @@ least_without-minute-requires c =
     (c.requires.0, least_in_whole (minutes_of (words_in c.args.recording)) c.requires.3 c.requires.1 (sym c.requires.2 ∙ c.in_default.is))
 
 pub returns-in_default : goal.returns-in_default
-returns-in_default c = breach_whole (minutes_of (words_in c.args.recording)) c.requires.3 (sym c.requires.2 ∙ c.in_default.is) c.least_without-minute.ensures
+returns-in_default c = record {
+  breach = breach_whole (minutes_of (words_in c.args.recording)) c.requires.3 (sym c.requires.2 ∙ c.in_default.is) c.least_without-minute.ensures.least;
+  lent = c.least_without-minute.ensures.lent;
+}
 
 pub least_without-minute-requires-2 : goal.least_without-minute-requires-2
 least_without-minute-requires-2 c =
     (c.requires.0, least_in_fixed (minutes_of (words_in c.args.recording)) c.requires.3 (sym c.requires.2 ∙ c.in-Some.is))
 
 pub returns-then-minute-broken : goal.returns-then-minute-broken
-returns-then-minute-broken c =
-    breach_under (minutes_of (words_in c.args.recording)) c.requires.3 (sym c.requires.2 ∙ c.in-Some.is) c.least_without-minute-2.ensures c.if-minute-broken.true
+returns-then-minute-broken c = let least = c.least_without-minute-2.ensures in record {
+  breach = breach_under (minutes_of (words_in c.args.recording)) c.requires.3 (sym c.requires.2 ∙ c.in-Some.is) least.least c.if-minute-broken.true;
+  lent = least.lent;
+}
 
 pub returns : goal.returns
-returns c =
-    ap (λ a. breached c.least_without-minute-2.result (number_of_article a)) c.from.ensures
-    ∙ breach_here (minutes_of (words_in c.args.recording)) c.requires.3 (sym c.requires.2 ∙ c.in-Some.is) c.least_without-minute-2.ensures c.if-minute-broken.false
+returns c = let least = c.least_without-minute-2.ensures in record {
+  breach = ap (λ a. breached c.least_without-minute-2.result (number_of_article a)) c.from.ensures
+      ∙ breach_here (minutes_of (words_in c.args.recording)) c.requires.3 (sym c.requires.2 ∙ c.in-Some.is) least.least c.if-minute-broken.false;
+  lent = least.lent;
+}
