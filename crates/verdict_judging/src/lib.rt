@@ -1,13 +1,14 @@
 // The verdict on a recording from its long rests.
 #![tactic(auto)]
 
-ghost use Rattle.std.specs.Prelude.{◌≡◌, ◌≤◌, length};
+ghost use Rattle.std.specs.Prelude.{◌≡◌, ◌^◌, ◌≤◌, length};
 ghost use Rattle.recording.specs.Words.{minutes_of};
 ghost use Rattle.recording.specs.Scan.{words_in};
 ghost use Rattle.recording.specs.Answers.{answered};
-ghost use Rattle.recording.specs.Rests.{long_rests, long_rests_at_most};
+ghost use Rattle.recording.specs.Rests.{long_rests};
 ghost use Rattle.rules.specs.Verdict.{verdict};
 ghost use Rattle.rules.specs.Operations.{finding_of};
+ghost use Rattle.verdict_sweep.specs.Sweep.{SameFronts};
 ghost use Rattle.verdict_judging.specs.Judgements.{finding_by};
 
 use recording::{Recording, Refusal};
@@ -31,8 +32,9 @@ pub fn verdict_among<const RESTS: usize>(
     fronts: &mut Fronts,
 ) -> Result<Verdict, Refusal>
     requires { (total ≡ length (minutes_of (words_in recording))) × (length (long_rests (minutes_of (words_in recording))) ≤ RESTS)
-        × (RESTS ≤ long_rests_at_most) }
-    ensures { finding_by result ≡ answered (finding_of (verdict (minutes_of (words_in recording.entry)))) }
+        × (RESTS ≤ 2 ^ 20) }
+    ensures answer { finding_by result ≡ answered (finding_of (verdict (minutes_of (words_in recording.entry)))) }
+    ensures lent { SameFronts fronts.old fronts.new }
 {
     let mut starts = [0u32; RESTS];
     let mut ends = [0u32; RESTS];

@@ -3,6 +3,7 @@ use mathlib.Core.Path.{sym, ap, ◌∙◌}
 use Rattle.recording.specs.Answers.{answered}
 use Rattle.recording.specs.Words.{minutes_of}
 use Rattle.recording.specs.Scan.{words_in}
+use Rattle.verdict_sweep.proofs.Sweeps.{fronts_on}
 use Rattle.verdict_breach.proofs.Lawfulness.{whole_rests, whole_lawful}
 use Rattle.verdict_breach.proofs.Slices.{roomy}
 use Rattle.verdict_judging.proofs.Answers.{none_is, lawful_found}
@@ -17,8 +18,10 @@ invariant_of-rests g c =
     record { lies = r.0; few = r.1; low = r.2 }
 
 pub returns-then-asked : goal.returns-then-asked
-returns-then-asked g c =
-    lawful_found _ (sym c.if-asked.true ∙ whole_lawful c.rests_of-found.ensures.whole c.args.recording.within c.lawful_by-asked.ensures)
+returns-then-asked g c = let asked = c.lawful_by-asked.ensures in record {
+  answer = lawful_found _ (sym c.if-asked.true ∙ whole_lawful c.rests_of-found.ensures.whole c.args.recording.within asked.says);
+  lent = asked.lent;
+}
 
 pub breach_of-breach-requires : goal.breach_of-breach-requires
 breach_of-breach-requires g c =
@@ -26,8 +29,11 @@ breach_of-breach-requires g c =
       whole.rests,
       c.requires.0,
       whole.first,
-      none_is (minutes_of (words_in c.args.recording)) (sym c.if-asked.false ∙ whole_lawful whole c.args.recording.within c.lawful_by-asked.ensures),
+      none_is (minutes_of (words_in c.args.recording)) (sym c.if-asked.false ∙ whole_lawful whole c.args.recording.within c.lawful_by-asked.ensures.says),
     )
 
 pub returns : goal.returns
-returns g c = ap answered c.breach_of-breach.ensures
+returns g c = record {
+  answer = ap answered c.breach_of-breach.ensures.breach;
+  lent = fronts_on c.lawful_by-asked.ensures.lent c.breach_of-breach.ensures.lent;
+}
