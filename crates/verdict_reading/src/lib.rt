@@ -1,12 +1,13 @@
 // The first lawful reading of a recording.
 #![tactic(auto)]
 
-ghost use Rattle.std.specs.Prelude.{◌≡◌, ◌≤◌, length};
+ghost use Rattle.std.specs.Prelude.{◌≡◌, ◌^◌, ◌≤◌, length};
 ghost use Rattle.recording.specs.Answers.{answered, counted, filled, answer_of};
 ghost use Rattle.recording.specs.Words.{minutes_of};
 ghost use Rattle.recording.specs.Operations.{measured};
-ghost use Rattle.recording.specs.Rests.{long_rests, long_rests_at_most};
+ghost use Rattle.recording.specs.Rests.{long_rests};
 ghost use Rattle.rules.specs.Operations.{first_reading_given};
+ghost use Rattle.verdict_sweep.specs.Sweep.{SameFronts};
 
 use recording::{Measure, Recording, Refusal};
 use verdict_completion::LongRests;
@@ -23,9 +24,10 @@ pub fn reading_among<const RESTS: usize>(
     known: &mut [u32],
     beside: &mut [u32],
 ) -> Result<u32, Refusal>
-    requires { (measured words.now ≡ answered measure) × (length (long_rests (minutes_of words.now)) ≤ RESTS) × (RESTS ≤ long_rests_at_most) }
+    requires { (measured words.now ≡ answered measure) × (length (long_rests (minutes_of words.now)) ≤ RESTS) × (RESTS ≤ 2 ^ 20) }
     ensures answer { answer_of result ≡ counted (first_reading_given words.now (length reading.old)) }
     ensures reading_after { reading.new ≡ filled (first_reading_given words.now (length reading.old)) reading.old }
+    ensures lent { SameFronts fronts.old fronts.new }
 {
     let size = rules_entries::ENTRY_BYTES * (measure.count as usize);
     if reading.len() < size {
