@@ -8,6 +8,7 @@ ghost use Rattle.recording.specs.Answers.{answered, counted, filled, answer_of};
 ghost use Rattle.recording.specs.Operations.{measured};
 ghost use Rattle.rules.specs.Verdict.{verdict};
 ghost use Rattle.rules.specs.Operations.{finding_of, verdict_given, first_reading_given};
+ghost use Rattle.verdict_sweep.specs.Sweep.{SameFronts};
 ghost use Rattle.verdict_judging.specs.Judgements.{finding_by};
 
 use recording::{LONG_RESTS, Measure, Recording, Refusal, SHORT_RESTS};
@@ -54,7 +55,8 @@ pub fn verdict_from(
     fronts: &mut Fronts,
 ) -> Result<Verdict, Refusal>
     requires { total ≡ length (minutes_of (words_in recording)) }
-    ensures { finding_by result ≡ answered (finding_of (verdict (minutes_of (words_in recording.entry)))) }
+    ensures answer { finding_by result ≡ answered (finding_of (verdict (minutes_of (words_in recording.entry)))) }
+    ensures lent { SameFronts fronts.old fronts.new }
 {
     if total <= recording::SHORT_TOTAL {
         return verdict_judging::verdict_among::<SHORT_RESTS>(recording, total, nogoods, fronts);
@@ -70,7 +72,8 @@ fn verdict_within(
     fronts: &mut Fronts,
 ) -> Result<Verdict, Refusal>
     requires { measured words.now ≡ answered measure }
-    ensures { finding_by result ≡ verdict_given words.now }
+    ensures answer { finding_by result ≡ verdict_given words.now }
+    ensures lent { SameFronts fronts.old fronts.new }
 {
     let recording = Recording { head: 0, words };
     verdict_from(recording, measure.total, nogoods, fronts)
@@ -131,7 +134,8 @@ pub fn verdict_lent(
     nogoods: &mut [u32],
     fronts: &mut Fronts,
 ) -> Result<Verdict, Refusal>
-    ensures { finding_by result ≡ verdict_given words.now }
+    ensures answer { finding_by result ≡ verdict_given words.now }
+    ensures lent { SameFronts fronts.old fronts.new }
 {
     let weighing = recording::weigh(words);
     let Ok(measure) = weighing else {
@@ -156,6 +160,7 @@ fn reading_within(
     requires { measured words.now ≡ answered measure }
     ensures answer { answer_of result ≡ counted (first_reading_given words.now (length reading.old)) }
     ensures reading_after { reading.new ≡ filled (first_reading_given words.now (length reading.old)) reading.old }
+    ensures lent { SameFronts fronts.old fronts.new }
 {
     if measure.total <= recording::SHORT_TOTAL {
         return verdict_reading::reading_among::<SHORT_RESTS>(
@@ -241,6 +246,7 @@ pub fn first_reading_lent(
 ) -> Result<u32, Refusal>
     ensures answer { answer_of result ≡ counted (first_reading_given words.now (length reading.old)) }
     ensures reading_after { reading.new ≡ filled (first_reading_given words.now (length reading.old)) reading.old }
+    ensures lent { SameFronts fronts.old fronts.new }
 {
     let weighing = recording::weigh(words);
     let Ok(measure) = weighing else {

@@ -14,5 +14,7 @@ pub verdict_from-requires : goal.verdict_from-requires
 verdict_from-requires c = total_is c.args.words.now c.requires ∙ sym (ap length (from_words c.args.words.now))
 
 pub returns : goal.returns
-returns c =
-    verdict_found c.args.words.now c.requires (c.verdict_from.ensures ∙ ap (λ ms. answered (finding_of (verdict ms))) (from_words c.args.words.now))
+returns c = record {
+  answer = verdict_found c.args.words.now c.requires (c.verdict_from.ensures.answer ∙ ap (λ ms. answered (finding_of (verdict ms))) (from_words c.args.words.now));
+  lent = c.verdict_from.ensures.lent;
+}
