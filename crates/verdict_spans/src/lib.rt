@@ -10,6 +10,7 @@ ghost use Rattle.recording.specs.Operations.{total_at_most};
 ghost use Rattle.rules.specs.Verdict.{verdict};
 ghost use Rattle.rules.specs.Operations.{finding_of};
 ghost use Rattle.rules.specs.Spans.{weeks_begun, breach_spans, spans_given};
+ghost use Rattle.verdict_sweep.specs.Sweep.{SameFronts};
 ghost use Rattle.verdict_judging.specs.Judgements.{finding_by};
 ghost use Rattle.verdict_spans.specs.Mondays.{Sound, last_by, Seated, Reaches};
 ghost use Rattle.verdict_spans.specs.Listing.{spans_in, spans_by};
@@ -77,7 +78,8 @@ fn verdict_at(
     fronts: &mut Fronts,
 ) -> Result<Verdict, Refusal>
     requires { (length (minutes_of words.now) ≤ total_at_most) × (total ≡ length (minutes_of words.now)) × Seated words.now minute seat }
-    ensures { finding_by result ≡ answered (finding_of (verdict (drop minute (minutes_of words.now)))) }
+    ensures answer { finding_by result ≡ answered (finding_of (verdict (drop minute (minutes_of words.now)))) }
+    ensures lent { SameFronts fronts.old fronts.new }
 {
     let index = seat.index;
     let head = word_after(words[index], minute - seat.start);
@@ -104,7 +106,8 @@ fn last_week(weeks: u32, first: u32, found: Result<Verdict, Refusal>) -> u32
 // takes the same.
 fn spans_within(words: &[u32], total: u32, nogoods: &mut [u32], fronts: &mut Fronts) -> Spans
     requires { (length (minutes_of words.now) ≤ total_at_most) × (total ≡ length (minutes_of words.now)) }
-    ensures { spans_in result ≡ breach_spans (minutes_of words.now) }
+    ensures spans { spans_in result ≡ breach_spans (minutes_of words.now) }
+    ensures lent { SameFronts fronts.old fronts.new }
 {
     let weeks = weeks_begun(total);
     let mut spans = [Weeks { first: 0, last: 0 }; WEEKS];

@@ -28,5 +28,7 @@ pub verdict_from-requires : goal.verdict_from-requires
 verdict_from-requires c = let w = c.word_after-head.ensures in seat_total c.requires.2 _ w.0 w.1 c.requires.1
 
 pub returns : goal.returns
-returns c = let w = c.word_after-head.ensures in
-    c.verdict_from.ensures ∙ ap (λ (l : List ℕ). answered (finding_of (verdict l))) (sym (from_seat c.requires.2 _ w.0 w.1))
+returns c = let w = c.word_after-head.ensures in record {
+  answer = c.verdict_from.ensures.answer ∙ ap (λ (l : List ℕ). answered (finding_of (verdict l))) (sym (from_seat c.requires.2 _ w.0 w.1));
+  lent = c.verdict_from.ensures.lent;
+}
