@@ -13,7 +13,7 @@ ghost use Rattle.verdict_completion.specs.Courses.{course_of};
 ghost use Rattle.verdict_completion.specs.Better.{AtRest};
 ghost use Rattle.verdict_steps.specs.Steps.{Says};
 ghost use Rattle.verdict_search.specs.Search.{Before};
-ghost use Rattle.verdict_merging.specs.Merging.{nothing, Ready, ToldIf};
+ghost use Rattle.verdict_merging.specs.Merging.{nothing, Ready, SameRoom, StaysEmpty, ToldIf};
 ghost use Rattle.verdict_choosing.specs.Choices.{CanBeRead, CanBeDaily, CanBeWeekly, FirstChoice, FirstOf, CanHold, Carries, CanHave};
 
 use rules::Kind;
@@ -41,7 +41,9 @@ pub fn can_be_daily(course: &Course, room: &mut Room, j: usize, here: State) -> 
     requires ready { Ready (course_of course.now) room.old }
     requires rest { AtRest (course_of course.now) j here }
     requires net { let c = course_of course.now in least_net Daily + at c.compensations j ≤ length_at c j }
-    ensures { let c = course_of course.now in ToldIf (CanBeRead c j here (nothing c)) (CanBeDaily c j here (nothing c)) result (Ready c room.new) }
+    ensures told { let c = course_of course.now in ToldIf (CanBeRead c j here (nothing c)) (CanBeDaily c j here (nothing c)) result (Ready c room.new) }
+    ensures lent { SameRoom room.old room.new }
+    ensures empty { StaysEmpty (course_of course.now) room.old room.new }
 {
     let rests = course.rests;
     let short = verdict_steps::is_short(
@@ -104,6 +106,8 @@ fn can_have(
     requires later { 0 < x → j + 1 < x }
     ensures told { let c = course_of course.now in ToldIf (CanBeRead c j here (nothing c)) (CanHave c j w next (nothing c) x) result (Ready c room.new) }
     ensures holds { result ≡ true → CanHold (course_of course.now) j x }
+    ensures lent { SameRoom room.old room.new }
+    ensures empty { StaysEmpty (course_of course.now) room.old room.new }
 {
     if !carries(course, j, w, x) {
         return false;
@@ -139,6 +143,8 @@ fn first_carrier(
     requires week { week_start w < at course.now.rests.ends.now j }
     ensures first { let c = course_of course.now in FirstOf (CanBeRead c j here (nothing c)) (CanHave c j w next (nothing c)) (CanHold c j) result }
     ensures ready { Ready (course_of course.now) room.new }
+    ensures lent { SameRoom room.old room.new }
+    ensures empty { StaysEmpty (course_of course.now) room.old room.new }
 {
     if can_have(course, room, spare, j, here, w, next, 0) {
         return Some(0);
@@ -168,6 +174,8 @@ fn carrier_in(
     requires week { week_start w < at course.now.rests.ends.now j }
     ensures first { let c = course_of course.now in FirstOf (CanBeRead c j here (nothing c)) (CanBeWeekly c j here (nothing c) w) (CanHold c j) result }
     ensures ready { Ready (course_of course.now) room.new }
+    ensures lent { SameRoom room.old room.new }
+    ensures empty { StaysEmpty (course_of course.now) room.old room.new }
 {
     let rests = course.rests;
     let Some(there) = verdict_steps::advance(&rests, j + 1, here, w) else {
@@ -193,6 +201,8 @@ pub fn first_weekly(
     requires net { let c = course_of course.now in least_net (Weekly Regular) + at c.compensations j ≤ length_at c j }
     ensures first { let c = course_of course.now in FirstChoice c j here (nothing c) result }
     ensures ready { Ready (course_of course.now) room.new }
+    ensures lent { SameRoom room.old room.new }
+    ensures empty { StaysEmpty (course_of course.now) room.old room.new }
 {
     let first = course.rests.starts[j] / recording::WEEK_MINUTES;
     let last = (course.rests.ends[j] - 1) / recording::WEEK_MINUTES;

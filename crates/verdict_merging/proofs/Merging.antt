@@ -1,5 +1,5 @@
 -- Laws of a question that ends by merging: two courses with the same compensations from a rest on, and fronts side by side. Assumes nothing.
-use mathlib.Core.Path.{◌≡◌, refl, sym, ap, subst}
+use mathlib.Core.Path.{◌≡◌, refl, sym, ap, subst, ◌∙◌}
 use mathlib.Core.Logic.{◌⊎◌, inl, inr}
 use mathlib.Core.Bool.{Bool, true, false, false≢true, true≢false}
 use mathlib.Core.List.{List}
@@ -7,9 +7,10 @@ use Prim.Native.Nat.{ℕ, zero, suc, ◌+◌, ◌-◌, ◌≤◌, ◌<◌}
 use native.Mathlib.Nat.{eq-zero-or-pos}
 use native.Mathlib.Omega.{arith}
 use lib.Dec.{leb}
-use lib.ListN.{set}
+use lib.ListN.{set, length-replicate}
 use lib.Seq.{get_or-set_other}
 use Rattle.std.specs.Prelude.{Option, None, Some}
+use Rattle.std.proofs.lemmas.List.{ext_get_or, get_or-replicate}
 use Rattle.recording.specs.Weeks.{week_of}
 use Rattle.rules.specs.Reading.{regular_minutes}
 use Rattle.rules_items.specs.Items.{added_to}
@@ -19,12 +20,14 @@ use Rattle.verdict_completion.specs.Completable.{Course, at, count, rest_week, l
 use Rattle.verdict_completion.specs.Better.{AtRest}
 use Rattle.verdict_nogoods.specs.Table.{Empty}
 use Rattle.verdict_fronts.specs.Front.{entry_at, state_in, outstanding_in, AllDominated}
-use Rattle.verdict_search.specs.Search.{with_compensations, Later, Sound}
+use Rattle.verdict_search.specs.Search.{with_compensations, Later, Sound, Free}
 use Rattle.verdict_search.specs.Leading.{Any, Front}
 use Rattle.verdict_search.proofs.Fronts.{can_by}
 use Rattle.verdict_search.proofs.Memory.{empty_sound}
 use Rattle.verdict_sweep.specs.Sweep.{Passed}
-use Rattle.verdict_merging.specs.Merging.{Beside, Trial, Renewed}
+use Rattle.verdict_sweep.proofs.Sweeps.{fronts_self, fronts_on}
+use Rattle.verdict_merging.specs.declared.Room.{Room}
+use Rattle.verdict_merging.specs.Merging.{nothing, SameRoom, StaysEmpty, Beside, Trial, Renewed}
 
 -- ---- two courses with the same compensations from the rest of index x on
 compensates_map : (F G : ℕ → List ℕ → Type 0) (minutes : ℕ) → ((compensation : ℕ) (o : List ℕ) → F compensation o → G compensation o)
@@ -109,6 +112,29 @@ sound_renewed {c} {d} {k} {x} {n} {n'} lies e same sound r = go (eq-zero-or-pos 
     go : (x ≡ 0) ⊎ (0 < x) → Sound d n'
     go (inl z) = subst (λ (a : Course). Sound a n') (sym (same z)) (subst (Sound c) (sym (r.kept z)) sound)
     go (inr l) = empty_sound d lies (subst (λ (m : ℕ). Empty n' m) e (r.empty (λ z. omega arith)))
+
+-- ---- what is lent
+pub room_self : {a : Room} → SameRoom a a
+room_self = record { slots = refl; nogoods = refl; many = refl; table = refl; asked = fronts_self; known = fronts_self }
+
+pub room_on : {a b d : Room} → SameRoom a b → SameRoom b d → SameRoom a d
+room_on f g = record {
+  slots = g.slots ∙ f.slots;
+  nogoods = g.nogoods ∙ f.nogoods;
+  many = g.many ∙ f.many;
+  table = g.table ∙ f.table;
+  asked = fronts_on f.asked g.asked;
+  known = fronts_on f.known g.known;
+}
+
+-- where nothing is outstanding, the slots are as they were
+free_nothing : (c : Course) {o : List ℕ} → Free c o → o ≡ nothing c
+free_nothing c {o} h =
+    ext_get_or 0 o (nothing c) (h.one_each ∙ sym (length-replicate _ _))
+    (λ i l. h.unused i (omega arith) ∙ sym (get_or-replicate (count c) i 0 0 (omega (arith, l, h.one_each))))
+
+pub slots_same : (c : Course) (a b : Room) → Free c a.slots.now → StaysEmpty c a b → b.slots.now ≡ a.slots.now
+slots_same c a b h f = let e = free_nothing c h in f e ∙ sym e
 
 -- ---- a compensation tried
 pub added_to-none : (p : List ℕ) (x d : ℕ) → x ≡ 0 → added_to p x d ≡ p

@@ -7,6 +7,7 @@ use Rattle.verdict_fronts.specs.Front.{AllDominated}
 use Rattle.verdict_search.specs.Search.{with_compensations, Sound}
 use Rattle.verdict_search.specs.Leading.{Any, Front}
 use Rattle.verdict_sweep.specs.declared.Fronts.{Fronts}
+use Rattle.verdict_sweep.specs.Sweep.{SameFronts}
 use Rattle.verdict_merging.specs.declared.Room.{Room}
 
 -- ---- what a question is lent
@@ -32,6 +33,19 @@ module _ (c : Course) where
   -- one of the known states is good; where there is none, nothing is known
   abbrev pub Trusted : ℕ → Room → Type 0
   Trusted j room = 0 < room.known.states → Any c j room.known.front.now room.known.states
+
+-- the same slots, nogoods and fronts stay lent, and keep their lengths
+pub record SameRoom (room room' : Room) : Type 0 where
+  pub slots : room'.slots.ghost_name ≡ room.slots.ghost_name
+  pub nogoods : room'.nogoods.ghost_name ≡ room.nogoods.ghost_name
+  pub many : length room'.slots.now ≡ length room.slots.now
+  pub table : length room'.nogoods.now ≡ length room.nogoods.now
+  pub asked : SameFronts room.asked room'.asked
+  pub known : SameFronts room.known room'.known
+
+-- where nothing was outstanding, nothing is
+abbrev pub StaysEmpty : Course → Room → Room → Type 0
+StaysEmpty c room room' = room.slots.now ≡ nothing c → room'.slots.now ≡ nothing c
 
 -- each known state is matched by one of the question's, and there is one
 abbrev pub Matched : Room → Bool → Type 0

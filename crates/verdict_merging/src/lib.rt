@@ -8,8 +8,8 @@ ghost use Rattle.verdict_completion.specs.Courses.{course_of};
 ghost use Rattle.verdict_completion.specs.Better.{AtRest};
 ghost use Rattle.verdict_fronts.specs.Front.{entry_at};
 ghost use Rattle.verdict_search.specs.Search.{Later, Sound, Free, Before};
-ghost use Rattle.verdict_sweep.specs.Sweep.{OpensTo};
-ghost use Rattle.verdict_merging.specs.Merging.{nothing, Ready, Abreast, AnyAsked, Trusted, ToldIf, Besides, Reaches, Knows, Trial, Renewed, Matched};
+ghost use Rattle.verdict_sweep.specs.Sweep.{SameFronts, OpensTo};
+ghost use Rattle.verdict_merging.specs.Merging.{nothing, Ready, SameRoom, Abreast, AnyAsked, Trusted, ToldIf, Besides, Reaches, Knows, Trial, Renewed, Matched};
 
 use verdict_completion::{Course, State};
 use verdict_search::Search;
@@ -51,7 +51,8 @@ fn beside_rest(course: &Course, room: &mut Room, j: usize) -> bool
     requires ready { Ready (course_of course.now) room.old }
     requires within { j < count (course_of course.now) }
     requires abreast { Abreast (course_of course.now) j room.old }
-    ensures { Besides (course_of course.now) j room.old (j + 1) room.new result }
+    ensures besides { Besides (course_of course.now) j room.old (j + 1) room.new result }
+    ensures lent { SameRoom room.old room.new }
 {
     let slots = &mut *room.slots;
     let nogoods = &mut *room.nogoods;
@@ -82,7 +83,8 @@ fn merge_on(course: &Course, room: &mut Room, j: usize) -> bool
     requires ready { Ready (course_of course.now) room.old }
     requires within { j ≤ count (course_of course.now) }
     requires abreast { Abreast (course_of course.now) j room.old }
-    ensures { let c = course_of course.now in ToldIf (Trusted c j room.old) (AnyAsked c j room.old) result (Ready c room.new) }
+    ensures told { let c = course_of course.now in ToldIf (Trusted c j room.old) (AnyAsked c j room.old) result (Ready c room.new) }
+    ensures lent { SameRoom room.old room.new }
 {
     if all_matched(room) {
         return true;
@@ -118,7 +120,8 @@ fn ask_to(
     requires before { Before (course_of course.now) j st }
     requires on { j ≤ to }
     requires within { to ≤ count (course_of course.now) }
-    ensures { let c = course_of course.now in Reaches c (Completable c (count c - j) j st (nothing c)) to fronts.new nogoods.new result }
+    ensures reaches { let c = course_of course.now in Reaches c (Completable c (count c - j) j st (nothing c)) to fronts.new nogoods.new result }
+    ensures lent { SameFronts fronts.old fronts.new }
 {
     slots.fill(0);
     verdict_sweep::begin(course, slots, nogoods, fronts, j, st)
@@ -168,7 +171,8 @@ fn know_to(
     requires rest { AtRest (course_of course.now) j here }
     requires on { j ≤ to }
     requires within { to ≤ count (course_of course.now) }
-    ensures { let c = course_of course.now in Knows c (Tries c (Later c j) j here (nothing c)) to fronts.new nogoods.new }
+    ensures knows { let c = course_of course.now in Knows c (Tries c (Later c j) j here (nothing c)) to fronts.new nogoods.new }
+    ensures lent { SameFronts fronts.old fronts.new }
 {
     slots.fill(0);
     let front = &mut *fronts.front;
@@ -182,10 +186,8 @@ fn know_to(
     }
 }
 
-// Whether the rests from that of index j + 1 on can be read from the state `next` in a trial of the course, in which the rest of number x has another
-// compensation (0 is none), where nothing is outstanding. A yes may rest on that the rests from that of index j on can be read from the state `here` at that
-// rest in the course itself: past the rest of number x, where each state that this can lead to is matched by one that `next` leads to, the answer is yes.
-pub fn completes_beside<'a>(
+// The question of `completes_beside`. What stands in the slots is given up.
+fn asks_beside<'a>(
     course: &Course<'a>,
     trial: &Course<'a>,
     room: &mut Room,
@@ -199,8 +201,9 @@ pub fn completes_beside<'a>(
     requires rest { AtRest (course_of course.now) j here }
     requires next { Before (course_of trial.now) (j + 1) next }
     requires number { x ≤ count (course_of course.now) }
-    ensures { let c = course_of course.now in let d = course_of trial.now in
+    ensures told { let c = course_of course.now in let d = course_of trial.now in
         ToldIf (Tries c (Later c j) j here (nothing c)) (Later d j next (nothing d)) result (Ready c room.new) }
+    ensures lent { SameRoom room.old room.new }
 {
     let k = course.rests.starts.len();
     let to = verdict_sweep::past_carrier(j + 1, x);
@@ -223,4 +226,32 @@ pub fn completes_beside<'a>(
     let nogoods = &mut *room.nogoods;
     renew(nogoods, k, x);
     merges
+}
+
+// Whether the rests from that of index j + 1 on can be read from the state `next` in a trial of the course, in which the rest of number x has another
+// compensation (0 is none), where nothing is outstanding. A yes may rest on that the rests from that of index j on can be read from the state `here` at that
+// rest in the course itself: past the rest of number x, where each state that this can lead to is matched by one that `next` leads to, the answer is yes.
+// Afterwards nothing is outstanding in the slots.
+pub fn completes_beside<'a>(
+    course: &Course<'a>,
+    trial: &Course<'a>,
+    room: &mut Room,
+    j: usize,
+    here: State,
+    next: State,
+    x: usize,
+) -> bool
+    requires ready { Ready (course_of course.now) room.old }
+    requires trial { Trial (course_of course.now) (course_of trial.now) x }
+    requires rest { AtRest (course_of course.now) j here }
+    requires next { Before (course_of trial.now) (j + 1) next }
+    requires number { x ≤ count (course_of course.now) }
+    ensures told { let c = course_of course.now in let d = course_of trial.now in
+        ToldIf (Tries c (Later c j) j here (nothing c)) (Later d j next (nothing d)) result (Ready c room.new) }
+    ensures lent { SameRoom room.old room.new }
+    ensures empty { room.new.slots.now ≡ nothing (course_of course.now) }
+{
+    let good = asks_beside(course, trial, room, j, here, next, x);
+    room.slots.fill(0);
+    good
 }

@@ -8,7 +8,7 @@ use Rattle.verdict_completion.specs.Courses.{course_of}
 use Rattle.verdict_completion.proofs.Courses.{lies_with}
 use Rattle.verdict_search.proofs.Slots.{brought, before_weekly}
 use Rattle.verdict_merging.specs.Merging.{nothing}
-use Rattle.verdict_choosing.proofs.Placing.{not_counted, counted_state, from_with, to_with, first_with}
+use Rattle.verdict_choosing.proofs.Placing.{counted_state, from_with, to_with, first_with}
 use Rattle.verdict_choosing.proofs.carrier_in.Goals as goal
 
 pub after_weekly-next-requires : goal.after_weekly-next-requires
@@ -41,4 +41,6 @@ returns c = let r = c.args.course.now in
           (to_with k c.args.j c.args.w c.args.here there next (nothing k) counted e)
           c.first_carrier.ensures.first;
       ready = c.first_carrier.ensures.ready;
+      lent = c.first_carrier.ensures.lent;
+      empty = c.first_carrier.ensures.empty;
     }

@@ -31,8 +31,8 @@ put_daily-requires-then-can_be_daily-clause-rest c =
 pub returns-then-can_be_daily : goal.returns-then-can_be_daily
 returns-then-can_be_daily c =
     stepped_as_daily c.args.rests.now c.args.compensations.now c.requires.limited c.args.j c.args.st c.requires.before c.requires.within c.advance.ensures c.in-Some.is
-    c.can_be_daily.new.room c.args.reading.now c.put_daily-then-can_be_daily.new.reading c.put_daily-then-can_be_daily.result c.can_be_daily.ensures.ready
-    (c.can_be_daily.ensures.yes c.if-can_be_daily.true) c.put_daily-then-can_be_daily.ensures
+    c.can_be_daily.new.room c.args.reading.now c.put_daily-then-can_be_daily.new.reading c.put_daily-then-can_be_daily.result c.can_be_daily.ensures.told.ready
+    (c.can_be_daily.ensures.told.yes c.if-can_be_daily.true) c.put_daily-then-can_be_daily.ensures
 
 pub first_weekly-requires-clause-rest : goal.first_weekly-requires-clause-rest
 first_weekly-requires-clause-rest c =
@@ -41,7 +41,7 @@ first_weekly-requires-clause-rest c =
 pub returns-in_default-first_weekly : goal.returns-in_default-first_weekly
 returns-in_default-first_weekly c =
     stepped_nowhere c.args.rests.now c.args.compensations.now c.requires.limited c.args.j c.args.st c.requires.before c.requires.within c.advance.ensures c.in-Some.is
-    c.first_weekly.new.room c.args.reading.now c.first_weekly.ensures.ready (c.can_be_daily.ensures.no c.if-can_be_daily.false) c.in_default-first_weekly.ensures.first
+    c.first_weekly.new.room c.args.reading.now c.first_weekly.ensures.ready (c.can_be_daily.ensures.told.no c.if-can_be_daily.false) c.in_default-first_weekly.ensures.first
 
 pub put_weekly-next-requires-clause-rest : goal.put_weekly-next-requires-clause-rest
 put_weekly-next-requires-clause-rest c =
@@ -59,4 +59,4 @@ returns c = let rests = c.args.rests.now in
           sound_renewed {c = course_with rests c.args.compensations.now} {d = course_with rests p} (lies_with rests p) refl
           (λ z. ap (course_with rests) (c.put_weekly-next.ensures.kept z)) ready.sound c.renew.ensures;
     })
-    (c.can_be_daily.ensures.no c.if-can_be_daily.false) c.in-Some-first_weekly.ensures.first c.put_weekly-next.ensures
+    (c.can_be_daily.ensures.told.no c.if-can_be_daily.false) c.in-Some-first_weekly.ensures.first c.put_weekly-next.ensures

@@ -7,8 +7,8 @@ use Rattle.verdict_completion.specs.Completable.{count, Completable}
 use Rattle.verdict_completion.specs.Courses.{course_of}
 use Rattle.verdict_merging.proofs.ask_to.Goals as goal
 
-pub returns-else-begin : goal.returns-else-begin
-returns-else-begin c = let k = course_of c.args.course.now in
+pub returns-else-begin-clause-reaches : goal.returns-else-begin-clause-reaches
+returns-else-begin-clause-reaches c = let k = course_of c.args.course.now in
     let e = c.fill.ensures.after (λ y q. q) ∙ ap (λ (n : ℕ). replicate n 0) c.requires.slots in
     let begun = c.begin.ensures.opens in
     let on = c.sweep_to.ensures.passes in

@@ -8,8 +8,8 @@ use Rattle.verdict_completion.specs.Courses.{course_of}
 use Rattle.verdict_search.specs.Search.{Later}
 use Rattle.verdict_merging.proofs.know_to.Goals as goal
 
-pub returns-else-sweep_to : goal.returns-else-sweep_to
-returns-else-sweep_to c = let k = course_of c.args.course.now in
+pub returns-else-sweep_to-clause-knows : goal.returns-else-sweep_to-clause-knows
+returns-else-sweep_to-clause-knows c = let k = course_of c.args.course.now in
     let e = c.fill.ensures.after (λ y q. q) ∙ ap (λ (n : ℕ). replicate n 0) c.requires.slots in
     record {
       trusts = λ r _.
