@@ -101,15 +101,19 @@ copied_in t new q k same room size = subst (λ (l : List ℕ). Copied t (take q 
 pub moved_in : (t new : List ℕ) (p q n k : ℕ) → n ≡ entry_words → k ≡ entry_words → p + entry_words ≤ length t → q + entry_words ≤ length t → new ≡ take n (drop p t)
     → Copied t (take q t ++ (new ++ drop k (drop q t))) t p q
 moved_in t new p q n k same' same from room e = record {
-  there = record { word = λ d l. c.there.word d l ∙ ap (λ (xs : List ℕ). at xs (0 + d)) e ∙ get_or-take n (drop p t) (0 + d) 0 (omega arith) ∙ get_or-drop p t (0 + d) 0
-      ∙ ap (at t) (let z : p + (0 + d) ≡ p + d = omega arith in z) };
+  there = record {
+    word = λ d l. c.there.word d l ∙ ap (λ (xs : List ℕ). at xs (0 + d)) e ∙ get_or-take n (drop p t) (0 + d) 0 (omega arith) ∙ get_or-drop p t (0 + d) 0
+        ∙ ap (at t) (let z : p + (0 + d) ≡ p + d = omega arith in z);
+  };
   other = c.other;
 }
   where
     long : n ≤ length (drop p t)
     long = rw length-drop (omega arith)
+
     size : length new ≡ entry_words
     size = ap length e ∙ length-take-le n (drop p t) long ∙ same'
+
     c : Copied t (take q t ++ (new ++ drop k (drop q t))) new 0 q
     c = copied_in t new q k same room size
 
