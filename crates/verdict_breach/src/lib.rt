@@ -55,8 +55,8 @@ pub fn rests_of(
     }
 }
 
-// Whether no more than so many long rests have a reading that keeps rules 6 to 11. The nogoods and the fronts are room for the search, of any length, here and
-// in what follows.
+// Whether long rests, no more than so many, have a reading that keeps rules 6 to 11. The nogoods and the fronts are room for the search, of any length,
+// here and in what follows.
 fn some_reading_in<const RESTS: usize>(
     rests: &LongRests,
     nogoods: &mut [u32],

@@ -10,8 +10,8 @@ use verdict_completion::State;
 pub use verdict_nogoods::state_in;
 use verdict_nogoods::{ENTRY_WORDS, REDUCTIONS_AT, REDUCTIONS_AT_MOST, reductions_at};
 
-// The entry at p of a is at least as good as the entry at q of b. One with more reductions is not; that is seen first. Nor is any where
-// one of the two says more than it has words for.
+// The entry at p of a is at least as good as the entry at q of b. One with more reductions is not; that is seen first. None is where b's says
+// that it has more reductions than words for them.
 fn dominates(a: &[u32], p: usize, b: &[u32], q: usize) -> bool
     requires { (p + entry_words ≤ length a.now) × (q + entry_words ≤ length b.now) }
     ensures { result ≡ true → Dominates a.now p b.now q }
@@ -22,7 +22,8 @@ fn dominates(a: &[u32], p: usize, b: &[u32], q: usize) -> bool
         && verdict_nogoods::all_lie_within(reductions_at(a, p), reductions_at(b, q))
 }
 
-// One of the first n entries of a front is at least as good as the entry at q of another slice.
+// One of the first n entries of a front is at least as good as the entry at q of another slice. None is where that says that it has more
+// reductions than words for them.
 fn dominated(front: &[u32], n: usize, other: &[u32], q: usize) -> bool
     requires { (entry_at n ≤ length front.now) × (q + entry_words ≤ length other.now) }
     ensures { result ≡ true → Dominated front.now n other.now q }
@@ -44,7 +45,7 @@ pub fn all_matched(known: &[u32], g: usize, front: &[u32], n: usize) -> bool
     0 < g
 }
 
-// The entry at p also stands at q. It goes by way of an array, so that its length is known where it is copied.
+// The entry at p also stands at q. It goes by way of an array: `copy_within` would call memmove, which a caller without a C library may not have.
 fn move_entry(front: &mut [u32], p: usize, q: usize)
     requires { (p + entry_words ≤ length front.old) × (q + entry_words ≤ length front.old) }
     ensures { Copied front.old front.new front.old p q }

@@ -126,10 +126,10 @@ given_on {c} {j} {i} {search} g = record {
 }
 
 pub lent_self : {a : Search} → SameLent a a
-lent_self = record { slots = refl; nogoods = refl; next = refl; many = refl; room = refl }
+lent_self = record { slots = refl; nogoods = refl; next = refl; many = refl; table = refl; room = refl }
 
 pub lent_on : {a b d : Search} → SameLent a b → SameLent b d → SameLent a d
-lent_on f g = record { slots = g.slots ∙ f.slots; nogoods = g.nogoods ∙ f.nogoods; next = g.next ∙ f.next; many = g.many ∙ f.many; room = g.room ∙ f.room }
+lent_on f g = record { slots = g.slots ∙ f.slots; nogoods = g.nogoods ∙ f.nogoods; next = g.next ∙ f.next; many = g.many ∙ f.many; table = g.table ∙ f.table; room = g.room ∙ f.room }
 
 pub kept_on : {a b d : Search} → Kept a b → Kept b d → Kept a d
 kept_on f g = record { lent = lent_on f.lent g.lent; used = g.used ∙ f.used }

@@ -49,6 +49,7 @@ pub record SameLent (search search' : Search) : Type 0 where
   pub nogoods : search'.nogoods.ghost_name ≡ search.nogoods.ghost_name
   pub next : search'.next.ghost_name ≡ search.next.ghost_name
   pub many : length search'.slots.now ≡ length search.slots.now
+  pub table : length search'.nogoods.now ≡ length search.nogoods.now
   pub room : length search'.next.now ≡ length search.next.now
 
 -- and as many slots are in use
