@@ -85,6 +85,14 @@ fn carries(course: &Course, j: usize, w: u32, x: usize) -> bool
     rules_items::DAILY_NET + (course.compensations[i] + less) <= rests.ends[i] - rests.starts[i]
 }
 
+// Numbers into a list of as many, one by one, so that the library needs no memmove.
+fn put_all(list: &mut [u32], numbers: &[u32])
+    requires { length list.old ≡ length numbers.now }
+    ensures after { list.new ≡ numbers.now }
+{
+    recording_list::fill(list, numbers.iter().copied());
+}
+
 // Whether the rest of index j, weekly and counted in week w, can have the carrier x; the state after it is next. `spare` is room for the compensations that
 // the rests have then.
 fn can_have(
@@ -117,7 +125,7 @@ fn can_have(
     }
     let rests = course.rests;
     let less = lacking(rests.ends[j] - rests.starts[j], course.compensations[j]);
-    spare.copy_from_slice(course.compensations);
+    put_all(spare, course.compensations);
     spare[x - 1] += less;
     let trial = Course {
         rests: course.rests,

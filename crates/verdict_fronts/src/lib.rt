@@ -45,7 +45,7 @@ pub fn all_matched(known: &[u32], g: usize, front: &[u32], n: usize) -> bool
     0 < g
 }
 
-// The entry at p also stands at q. It goes by way of an array: `copy_within` would call memmove, which a caller without a C library may not have.
+// The entry at p also stands at q. It goes by way of an array, so that its length is known where it is copied.
 fn move_entry(front: &mut [u32], p: usize, q: usize)
     requires { (p + entry_words ≤ length front.old) × (q + entry_words ≤ length front.old) }
     ensures { Copied front.old front.new front.old p q }
@@ -118,8 +118,6 @@ pub fn outstanding_in(front: &[u32], p: usize, outstanding: &mut [u32])
     requires { (p + entry_words ≤ length front.now) × (reductions_of front.now p ≤ reductions_at_most) × (reductions_of front.now p ≤ length outstanding.old) }
     ensures { outstanding.new ≡ outstanding_in front.now p (length outstanding.old) }
 {
-    let reductions = reductions_at(front, p);
-    let (used, free) = outstanding.split_at_mut(reductions.len());
-    used.copy_from_slice(reductions);
-    free.fill(0);
+    outstanding.fill(0);
+    recording_list::fill(outstanding, reductions_at(front, p).iter().copied());
 }

@@ -31,7 +31,7 @@ completes_beside-requires-2 c = let r = c.args.course.now in
     let x = c.args.x in
     let less = c.lacking-less.result in
     let p = carried_on k c.args.j x c.if-x-eq0.false c.lacking-less.ensures
-    (ap (λ (l : List ℕ). set l (x - 1) (at l (x - 1) + less)) c.copy_from_slice.ensures.after) in record {
+    (ap (λ (l : List ℕ). set l (x - 1) (at l (x - 1) + less)) c.put_all.ensures.after) in record {
       ready = c.requires.ready;
       trial = trial_carrying k c.args.j x c.if-x-eq0.false (ap (with_compensations k) p);
       rest = c.requires.rest;
@@ -46,7 +46,7 @@ returns c = let r = c.args.course.now in
     let less = c.lacking-less.result in
     let y = c.carries.ensures.yes c.if-not-carries.false in
     let p = carried_on k c.args.j x c.if-x-eq0.false c.lacking-less.ensures
-    (ap (λ (l : List ℕ). set l (x - 1) (at l (x - 1) + less)) c.copy_from_slice.ensures.after) in record {
+    (ap (λ (l : List ℕ). set l (x - 1) (at l (x - 1) + less)) c.put_all.ensures.after) in record {
       told = if_carry (with_carrier k c.args.j c.args.w c.args.next (nothing k) x (ap (with_compensations k) p) y.carried) c.completes_beside-2.ensures.told;
       holds = λ _. y.holds;
       lent = c.completes_beside-2.ensures.lent;
